@@ -1,0 +1,127 @@
+-- The outcome of each call, and the buffers after it ("Log and new formula", "Walk-back", "Who can be turned back").
+use mathlib.Core.Bool.{not, cond}
+use mathlib.Core.List.{List, _++_}
+use Prim.Native.Nat.{ℕ, _+_, _*_, max}
+use lib.Dec.{ltb}
+use lib.IntN.{pos, negℤ}
+use lib.ListN.{length, drop, replicate}
+use Rattle.definition.specs.Lists.{for-from}
+use Rattle.definition.specs.Checked.{Checked, fault, value, _>>=_, refuse-if}
+use Rattle.definition.specs.Literals.{Clause, Formula, holds, literals-of}
+use Rattle.definition.specs.Text.{Bytes, bytes, literal-text}
+use Rattle.definition.specs.Reading.{Limits, input-limits, read-back-limits, Input, read-formula}
+use Rattle.definition.specs.Standing.{Line, replay, highest-in}
+use Rattle.definition.specs.Assignments.{Assignment, satisfies, carried-back}
+use Rattle.definition.specs.Reencoding.{Settings, input, chosen, log, result, highest-used}
+use Rattle.definition.specs.Log.{log-text, formula-text}
+use Rattle.definition.specs.LogReading.{read-log, numbers-in}
+use Rattle.definition.specs.Answer.{read-answer}
+
+-- ---- reencoding
+
+-- the result: choices, H, M, log lines and both byte lengths
+pub record Tally : Type 0 where
+  pub choices : ℕ
+  pub highest : ℕ
+  pub clauses : ℕ
+  pub lines : ℕ
+  pub log-bytes : ℕ
+  pub formula-bytes : ℕ
+
+-- the result and both texts
+pub record Reencoded : Type 0 where
+  pub tally : Tally
+  pub log : Bytes
+  pub formula : Bytes
+
+unfoldable pub reencoded : Settings → Input → Reencoded
+reencoded s i =
+    let lines = log s i in
+    let text = log-text lines in
+    let standing = result s i in
+    let formula = formula-text (highest-used s i) standing in
+    record {
+      tally =
+          record {
+            choices = length (chosen s i);
+            highest = highest-used s i;
+            clauses = length standing;
+            lines = length lines;
+            log-bytes = length text;
+            formula-bytes = length formula;
+          };
+      log = text;
+      formula = formula;
+    }
+
+-- 11: fewer 32-bit entries than 20L + 2C + 6V + 8,192
+unfoldable pub workspace-need : Input → ℕ
+workspace-need i = 20 * literals-of (i .formula) + 2 * length (i .formula) + 6 * i .variables + 8_192
+
+-- 1 to 9, 11, 12, 13; the three numbers are the entries of workspace and the bytes of the two buffers
+unfoldable pub reencode : Settings → ℕ → ℕ → ℕ → Bytes → Checked Reencoded
+reencode s workspace log-room formula-room t =
+    read-formula input-limits t >>= λ i.
+    refuse-if (ltb workspace (workspace-need i)) 11
+    (let r = reencoded s i in
+    refuse-if (ltb log-room (length (r .log))) 12
+    (refuse-if (ltb formula-room (length (r .formula))) 13
+    (value r)))
+
+-- ---- the new formula read back: 1 to 9, then 11
+unfoldable pub read-back : ℕ → Bytes → Checked Input
+read-back workspace t =
+    read-formula read-back-limits t >>= λ i.
+    refuse-if (ltb workspace (workspace-need i)) 11 (value i)
+
+-- ---- walk-back
+
+-- a variable not named is false
+unfoldable pub assigned : Clause → Assignment
+assigned named v = holds (pos v) named
+
+-- `v`, the literals of 1..V in order, `0`; single blanks, LF after
+unfoldable pub answer-text : ℕ → Assignment → Bytes
+answer-text v a =
+    bytes "v" ++ for-from 1 v (λ i. bytes " " ++ literal-text (cond (a i) (pos i) (negℤ (pos i)))) ++ bytes " 0\n"
+
+-- N, the numbers after the formula's header, zeros counted
+unfoldable pub numbers-of : Formula → ℕ
+numbers-of f = literals-of f + length f
+
+-- 11 for a call that reads a log: fewer than 4(N + G) + 4X + 64
+unfoldable pub log-workspace-need : Input → List Line → ℕ → ℕ
+log-workspace-need i ss x = 4 * (numbers-of (i .formula) + numbers-in ss) + 4 * x + 64
+
+-- X is the greater of V and the highest variable in the kept lines
+unfoldable pub highest-allowed : Input → List Line → ℕ
+highest-allowed i ss = max (i .variables) (highest-in ss)
+
+-- the answer is tested against the clauses standing, then carried back: 44, 33, 14
+unfoldable pub carry-answer : ℕ → Input → List Line → Formula → Assignment → Checked Bytes
+carry-answer room i ss standing a =
+    refuse-if (not (satisfies a standing)) 44
+    (let back = carried-back a ss in
+    refuse-if (not (satisfies back (i .formula))) 33
+    (let text = answer-text (i .variables) back in
+    refuse-if (ltb room (length text)) 14 (value text)))
+
+-- 1 to 9, then 31 or 34, 41 to 43, 11, 32, 44, 33, 14
+unfoldable pub walk-back : ℕ → ℕ → ℕ → Bytes → Bytes → Bytes → Checked Bytes
+walk-back workspace room kept formula log answer =
+    read-formula input-limits formula >>= λ i.
+    read-log kept log >>= λ ss.
+    read-answer (highest-allowed i ss) answer >>= λ named.
+    refuse-if (ltb workspace (log-workspace-need i ss (highest-allowed i ss))) 11
+    (replay (i .formula) ss >>= λ standing.
+    carry-answer room i ss standing (assigned named))
+
+-- ---- a buffer after a call: all zero at a fault, else what is written and then what lay past it
+unfoldable pub buffer-after : {A E : Type 0} → E → Checked A → (A → List E) → List E → List E
+buffer-after nought (fault n) written before = replicate (length before) nought
+buffer-after nought (value a) written before = written a ++ drop (length (written a)) before
+
+-- all of this file, for a proof that computes: `unfolding computing` opens every name of the next line
+unfoldable pub computing : Unit {0}
+unfolding reencoded workspace-need reencode read-back assigned answer-text numbers-of log-workspace-need highest-allowed carry-answer walk-back buffer-after
+computing = tt

@@ -1,0 +1,90 @@
+-- "Counter form".
+use mathlib.Core.Bool.{Bool, not, _&&_}
+use mathlib.Core.List.{List, [], _∷_, _++_, map}
+use Prim.Native.Nat.{ℕ, _+_, _-_}
+use lib.Dec.{leb}
+use lib.IntN.{ℤ, pos, negℤ}
+use lib.ListN.{length, getD, replicate}
+use Rattle.definition.specs.Lists.{those, count, for-each, for-from}
+use Rattle.definition.specs.Literals.{Clause, Formula, same-set}
+use Rattle.definition.specs.Standing.{Line, addition, deletion, stands}
+use Rattle.definition.specs.Events.{Choice, Event, choice-taken}
+use Rattle.definition.specs.Clearing.{unique}
+
+-- the ULCs of 5 to 64 literals are the choices
+unfoldable pub choice-size : Clause → Bool
+choice-size c = leb 5 (length c) && leb (length c) 64
+
+unfoldable pub choices : Formula → List Clause
+choices f = those (λ c. choice-size c && unique f c) f
+
+-- new variables are the next numbers above all used: where n is the highest used, those above
+unfoldable pub below-new : ℕ → ℕ
+below-new n = n
+
+-- the highest variable used after a choice, s(k-1)
+unfoldable pub last-new : Choice → ℕ
+last-new c = c .below + (length (c .literals) - 1)
+
+-- the pairs -li -lj, i < j, by i then j
+unfoldable pub pairs : Clause → List Clause
+pairs [] = []
+pairs (a ∷ l) = map (λ b. negℤ a ∷ negℤ b ∷ []) l ++ pairs l
+
+-- 1. each missing pair
+unfoldable pub missing-pairs : Formula → Clause → List Clause
+missing-pairs f l = those (λ p. not (stands p f)) (pairs l)
+
+module _ (c : Choice) where
+  -- k
+  unfoldable pub size : ℕ
+  size = length (c .literals)
+
+  -- li, from i = 1
+  unfoldable pub lit : ℕ → ℤ
+  lit i = getD (c .literals) (i - 1) (pos 0)
+
+  -- si, from i = 1
+  unfoldable pub new : ℕ → ℤ
+  new i = pos (c .below + i)
+
+  -- 2. -s1 l1; s1 -l1; then for i = 2..k-1: -si s(i-1) li; si -s(i-1); si -li
+  unfoldable pub stage-2 : List Clause
+  stage-2 =
+      (negℤ (new 1) ∷ lit 1 ∷ [])
+      ∷ (new 1 ∷ negℤ (lit 1) ∷ [])
+      ∷ for-from 2 (size - 2) (λ i.
+      (negℤ (new i) ∷ new (i - 1) ∷ lit i ∷ [])
+      ∷ (new i ∷ negℤ (new (i - 1)) ∷ [])
+      ∷ (new i ∷ negℤ (lit i) ∷ [])
+      ∷ [])
+
+  -- 3. -s(i-1) -li for i = 2..k; then s(k-1) lk
+  unfoldable pub stage-3 : List Clause
+  stage-3 =
+      for-from 2 (size - 1) (λ i. (negℤ (new (i - 1)) ∷ negℤ (lit i) ∷ []) ∷ [])
+      ++ ((new (size - 1) ∷ lit size ∷ []) ∷ [])
+
+  -- the choice's counter clauses
+  unfoldable pub counter : List Clause
+  counter = stage-2 ++ stage-3
+
+-- every standing copy of each pair, by i then j
+unfoldable pub copies : Formula → Clause → List Clause
+copies f l = for-each (pairs l) (λ p. replicate (count (same-set p) f) p)
+
+-- the choice, taken where f stands
+unfoldable pub take-choice : Formula → Choice → Event
+take-choice f c =
+    let missing = missing-pairs f (c .literals) in
+    choice-taken c missing (copies (f ++ missing ++ counter c) (c .literals))
+
+-- the four stages; 4. delete l1..lk, then the copies of pairs
+unfoldable pub choice-lines : Choice → List Clause → List Clause → List Line
+choice-lines c missing copies =
+    map addition missing ++ map addition (stage-2 c) ++ map addition (stage-3 c) ++ map deletion (c .literals ∷ copies)
+
+-- all of this file, for a proof that computes: `unfolding computing` opens every name of the next line
+unfoldable pub computing : Unit {0}
+unfolding choice-size choices below-new last-new pairs missing-pairs size lit new stage-2 stage-3 counter copies take-choice choice-lines
+computing = tt

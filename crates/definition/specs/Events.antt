@@ -1,0 +1,29 @@
+-- What happens in a run, one event after another. Each event writes some log lines (`lines-of` in Reencoding).
+use mathlib.Core.List.{List}
+use Prim.Native.Nat.{ℕ}
+use lib.IntN.{ℤ}
+use Rattle.definition.specs.Literals.{Clause}
+
+-- "Clearing clashes": variable v stands in one ULC, A, and -v in another, B
+pub record Clash : Type 0 where
+  pub v : ℤ
+  pub one : Clause
+  pub other : Clause
+
+-- "Counter form": a standing clause that is taken as l1..lk; its new variables s1..s(k-1) are the numbers after `below`
+pub record Choice : Type 0 where
+  pub clause : Clause
+  pub literals : Clause
+  pub below : ℕ
+
+pub data Event : Type 0 where
+  -- a clash is cleared
+  clash-cleared : Clash → Event
+  -- a ULC is deleted for its pure literal
+  pure-deleted : ℤ → Clause → Event
+  -- a choice is taken: the pairs that are missing, and the copies of pairs that stand then
+  choice-taken : Choice → List Clause → List Clause → Event
+  -- "Order form": a clause with negated choice literals is replaced
+  clause-replaced : Clause → Clause → Event
+  -- "Order form": the clauses with a choice's literals are deleted
+  literals-deleted : Choice → Event

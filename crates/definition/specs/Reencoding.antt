@@ -1,0 +1,99 @@
+-- The events of a whole run, its log and what stands at its end; "a clause goes into a choice".
+use mathlib.Core.Path.{_≡_}
+use mathlib.Core.Bool.{false}
+use mathlib.Core.List.{List, [], _∷_, _++_}
+use Prim.Native.Nat.{ℕ, max}
+use Rattle.definition.specs.Lists.{for-each}
+use Rattle.definition.specs.Literals.{Clause, Formula, opposed}
+use Rattle.definition.specs.Reading.{Input}
+use Rattle.definition.specs.Standing.{Line, after, highest-in}
+use Rattle.definition.specs.Events.{Clash, Choice, Event, clash-cleared, pure-deleted, choice-taken, clause-replaced, literals-deleted}
+use Rattle.definition.specs.Clearing.{clash-lines, pure-lines, resolvent, clear-clashes, clear-pure}
+use Rattle.definition.specs.Counter.{choices, below-new, last-new, take-choice, choice-lines}
+use Rattle.definition.specs.Order.{replacement-lines, order-events, literal-deletions}
+use Rattle.definition.specs.Alignment.{Wish, arranged}
+
+-- the log lines of an event
+unfoldable pub lines-of : Event → List Line
+lines-of (clash-cleared c) = clash-lines c
+lines-of (pure-deleted l c) = pure-lines l c
+lines-of (choice-taken c missing copies) = choice-lines c missing copies
+lines-of (clause-replaced old result) = replacement-lines old result
+lines-of (literals-deleted c) = literal-deletions c
+
+unfoldable pub lines : List Event → List Line
+lines es = for-each es lines-of
+
+-- the form that the caller names
+pub data Form : Type 0 where
+  counter-form : Form
+  order-form : Form
+
+-- what the caller asks for
+pub record Settings : Type 0 where
+  pub form : Form
+  pub wish : Wish
+
+-- one choice; the order form follows directly after its stage 4
+unfoldable pub choice-events : Form → Formula → Choice → List Event
+choice-events counter-form f c = take-choice f c ∷ []
+choice-events order-form f c = let e = take-choice f c in e ∷ order-events c (after f (lines-of e))
+
+-- the choices in list order, where f stands and n is the highest variable used
+unfoldable pub choices-events : Form → (Clause → Clause) → ℕ → Formula → List Clause → List Event
+choices-events form order n f [] = []
+choices-events form order n f (c ∷ cs) =
+    let k : Choice = record { clause = c; literals = order c; below = below-new n } in
+    let es = choice-events form f k in
+    es ++ choices-events form order (last-new k) (after f (lines es)) cs
+
+-- what stands when no clash is left
+unfoldable pub unclashed : Formula → Formula
+unclashed f = after f (lines (clear-clashes f))
+
+-- what stands when the pure clauses are deleted too
+unfoldable pub cleared : Formula → Formula
+cleared f = after (unclashed f) (lines (clear-pure (unclashed f)))
+
+module _ (s : Settings) (i : Input) where
+  -- the input: the clauses read, followed by those that a wish joins to it; no wish joins any
+  unfoldable pub input : Formula
+  input = i .formula
+
+  -- the choices then standing, and none is added later
+  unfoldable pub chosen : List Clause
+  chosen = choices (cleared input)
+
+  unfoldable pub events : List Event
+  events =
+      clear-clashes input
+      ++ clear-pure (unclashed input)
+      ++ choices-events (s .form) (arranged (s .wish) (cleared input) chosen) (i .variables) (cleared input) chosen
+
+  unfoldable pub log : List Line
+  log = lines events
+
+  -- what stands with all lines kept
+  unfoldable pub result : Formula
+  result = after input log
+
+  -- H, the highest variable used (at least V)
+  unfoldable pub highest-used : ℕ
+  highest-used = max (i .variables) (highest-in log)
+
+-- "Standing and carried back": the clause goes into the choice, in the course of the events
+pub data Goes-into (k : Choice) : List Event → Clause → Type 0 where
+  -- if it is taken as that choice,
+  taken : {missing copies : List Clause} {es : List Event} → Goes-into k (choice-taken k missing copies ∷ es) (k .clause)
+  -- if it is A or B of a clash whose resolvent is added and goes into that choice,
+  as-one : {c : Clash} {es : List Event} → opposed (resolvent c) ≡ false → Goes-into k es (resolvent c) → Goes-into k (clash-cleared c ∷ es) (c .one)
+  as-other : {c : Clash} {es : List Event} → opposed (resolvent c) ≡ false → Goes-into k es (resolvent c) → Goes-into k (clash-cleared c ∷ es) (c .other)
+  -- or if the order form replaces it by a clause that goes into that choice
+  as-old : {old result : Clause} {es : List Event} → opposed result ≡ false → Goes-into k es result → Goes-into k (clause-replaced old result ∷ es) old
+  -- in a later event
+  later : {e : Event} {es : List Event} {c : Clause} → Goes-into k es c → Goes-into k (e ∷ es) c
+
+-- all of this file, for a proof that computes: `unfolding computing` opens every name of the next line
+unfoldable pub computing : Unit {0}
+unfolding lines-of lines choice-events choices-events unclashed cleared input chosen events log result highest-used
+computing = tt

@@ -1,0 +1,127 @@
+-- "Sessions": the starred ones, rows of one list checked by one theorem.
+use mathlib.Core.Bool.{Bool, false, _&&_}
+use mathlib.Core.List.{List, [], _∷_, map}
+use Prim.Native.Nat.{ℕ}
+use Prim.Native.String.{String}
+use lib.Dec.{T, eqb}
+use Rattle.definition.specs.Lists
+use Rattle.definition.specs.Lists.{all, for-each}
+use Rattle.definition.specs.Checked
+use Rattle.definition.specs.Checked.{Checked, fault, value}
+use Rattle.definition.specs.Literals
+use Rattle.definition.specs.Text
+use Rattle.definition.specs.Text.{bytes, same-bytes}
+use Rattle.definition.specs.Reading
+use Rattle.definition.specs.Reading.{input-limits, read-formula}
+use Rattle.definition.specs.Standing
+use Rattle.definition.specs.Assignments
+use Rattle.definition.specs.Clearing
+use Rattle.definition.specs.Counter
+use Rattle.definition.specs.Counter.{choices}
+use Rattle.definition.specs.Order
+use Rattle.definition.specs.Alignment
+use Rattle.definition.specs.Alignment.{no-wish, arranged, alignment}
+use Rattle.definition.specs.Reencoding
+use Rattle.definition.specs.Reencoding.{Settings}
+use Rattle.definition.specs.Log
+use Rattle.definition.specs.Log.{clause-text, formula-text}
+use Rattle.definition.specs.LogReading
+use Rattle.definition.specs.Answer
+use Rattle.definition.specs.Calls
+use Rattle.definition.specs.Calls.{Reencoded, reencode, read-back, walk-back}
+
+unfoldable pub counter : Settings
+counter = record { form = Reencoding.counter-form; wish = no-wish }
+
+unfoldable pub order : Settings
+order = record { form = Reencoding.order-form; wish = no-wish }
+
+-- a row: a call and what it must give
+pub data Session : Type 0 where
+  -- the log and the new formula
+  texts : Settings → String → String → String → Session
+  -- H, M and the number of log lines
+  counts : Settings → String → ℕ → ℕ → ℕ → Session
+  -- the new formula
+  formula : Settings → String → String → Session
+  -- the reencoding, answered so, with that many lines kept, is walked back to this line
+  walks : Settings → String → String → ℕ → String → Session
+  -- the new formula, read back and written again, is the same text
+  reads-back : Settings → String → Session
+  -- the choices of a formula without clashes and pure literals, aligned
+  aligns : String → String → Session
+  -- the number that a text is refused with
+  refused : String → ℕ → Session
+
+unfoldable pub run : Settings → String → Checked Reencoded
+run s t = reencode s 100_000 100_000 100_000 (bytes t)
+
+-- a value that passes the test
+unfoldable pub good : {A : Type 0} → Checked A → (A → Bool) → Bool
+good (fault n) test = false
+good (value a) test = test a
+
+unfoldable pub is-fault : {A : Type 0} → Checked A → ℕ → Bool
+is-fault (fault m) n = eqb m n
+is-fault (value a) n = false
+
+unfoldable pub passes : Session → Bool
+passes (texts s t log out) =
+    good (run s t) (λ r. same-bytes (r .log) (bytes log) && same-bytes (r .formula) (bytes out))
+passes (counts s t h m l) =
+    good (run s t) (λ r. eqb (r .tally .highest) h && eqb (r .tally .clauses) m && eqb (r .tally .lines) l)
+passes (formula s t out) = good (run s t) (λ r. same-bytes (r .formula) (bytes out))
+passes (walks s t answer kept line) =
+    good (run s t) (λ r.
+    good (walk-back 100_000 1_000 kept (bytes t) (r .log) (bytes answer)) (λ u. same-bytes u (bytes line)))
+passes (reads-back s t) =
+    good (run s t) (λ r.
+    good (read-back 100_000 (r .formula)) (λ i. same-bytes (formula-text (i .variables) (i .formula)) (r .formula)))
+passes (aligns t out) =
+    good (read-formula input-limits (bytes t)) (λ i.
+    let cs = choices (i .formula) in
+    same-bytes (for-each (map (arranged alignment (i .formula) cs) cs) clause-text) (bytes out))
+passes (refused t n) = is-fault (run counter t) n
+
+e-text : String
+e-text = "p cnf 3 2\n1 2 0\n-1 3 0\n"
+
+f-text : String
+f-text = "p cnf 6 7\n1 2 3 4 5 0\n-1 -2 0\n-1 6 0\n-2 6 0\n-3 6 0\n-4 -6 0\n-5 -6 0\n"
+
+g-formula : String
+g-formula = "p cnf 10 8\n8 -7 0\n9 -8 0\n10 -9 0\n-7 6 0\n7 -8 6 0\n8 -9 6 0\n9 -10 -6 0\n10 -6 0\n"
+
+pub sessions : List Session
+unfolding counter order e-text f-text g-formula
+sessions =
+    -- A to E
+    texts counter "p cnf 0 0\n" "" "p cnf 0 0\n"
+    ∷ texts counter "p cnf 0 1\n0\n" "" "p cnf 0 1\n0\n"
+    ∷ texts counter "p cnf 1 2\n1 0\n-1 0\n" "0\nd 1 0\nd -1 0\n" "p cnf 1 1\n0\n"
+    ∷ texts counter "p cnf 2 2\n1 2 0\n-1 -2 0\n" "d 1 2 0\nd -1 -2 0\n" "p cnf 2 0\n"
+    ∷ texts counter e-text "2 3 0\nd 1 2 0\nd -1 3 0\nd 2 3 0\n" "p cnf 3 0\n"
+    ∷ walks counter e-text "s SATISFIABLE\nv 0\n" 4 "v -1 2 -3 0\n"
+    -- F, G, H
+    ∷ counts counter f-text 10 21 36
+    ∷ counts order f-text 10 8 59
+    ∷ formula order f-text g-formula
+    ∷ walks order f-text "s SATISFIABLE\nv 1 2 3 4 5 -6 -7 -8 -9 10 0\n" 59 "v -1 -2 -3 4 -5 -6 0\n"
+    ∷ reads-back counter f-text
+    ∷ reads-back order f-text
+    -- alignment: 1..5 and 6..10, linked 1-8 and 2-6
+    ∷ aligns "p cnf 11 4\n1 2 3 4 5 0\n6 7 8 9 10 0\n-1 -8 0\n-6 -2 0\n" "1 2 3 4 5 0\n8 6 7 9 10 0\n"
+    -- 1-8-2: not alignable
+    ∷ aligns "p cnf 11 4\n1 2 3 4 5 0\n6 7 8 9 10 0\n-1 -8 0\n-8 -2 0\n" "1 2 3 4 5 0\n6 7 8 9 10 0\n"
+    -- refusals
+    ∷ refused "p cnf 1 1\n1 1 0\n" 5
+    ∷ refused "p cnf 1 1\n1 -1 0\n" 6
+    ∷ refused "p cnf 1 1\n2 0\n" 4
+    ∷ refused "p cnf 1 1\n-0\n" 3
+    ∷ refused "p cnf 1 1\n1" 7
+    ∷ refused "p cnf 1 1\n1 0 1 0\n" 8
+    ∷ []
+
+pub sessions-hold : T (all passes sessions)
+unfolding sessions passes run good is-fault Lists.computing Checked.computing Literals.computing Text.computing Reading.computing Standing.computing Assignments.computing Clearing.computing Counter.computing Order.computing Alignment.computing Reencoding.computing Log.computing LogReading.computing Answer.computing Calls.computing
+sessions-hold = tt

@@ -5,7 +5,7 @@ use mathlib.Core.Option.{Option, some, none}
 use Prim.Native.Nat.{ℕ, zero, suc, _+_}
 
 -- 1 for true, 0 for false
-unfoldable pub bit : Bool → ℕ
+abbrev pub bit : Bool → ℕ
 bit true = 1
 bit false = 0
 
@@ -64,5 +64,5 @@ module _ {A B : Type 0} where
 
 -- all of this file, for a proof that computes: `unfolding computing` opens every name of the next line
 unfoldable pub computing : Unit {0}
-unfolding bit all any those first count sum-of only-if or-else first-from for-from for-each
+unfolding all any those first count sum-of only-if or-else first-from for-from for-each
 computing = tt

@@ -1,0 +1,187 @@
+-- Membership: what `any`, `all`, `holds`, `same-set` and `those` say of members. Assumes nothing.
+use mathlib.Core.Path.{_≡_, refl, sym, _∙_, ap, subst}
+use mathlib.Core.Logic.{_≢_, _⊎_, inl, inr, ⊎-elim}
+use mathlib.Core.Bool.{Bool, true, false, cond, not, _&&_, _||_}
+use mathlib.Core.List.{List, [], _∷_, _++_, List·Memᴰ, List·Memᴰ·head as here, List·Memᴰ·tail as there, Memᴰ·cast}
+use Prim.Native.Nat.{ℕ, zero, suc, _≤_, _<_}
+use native.Mathlib.Omega.{arith}
+use lib.Dec.{T, eqb, eqb→eq, eqb-refl}
+use lib.IntN.{ℤ, pos, negsuc, negℤ, negℤ-negℤ, natAbs}
+use Rattle.definition.specs.Lists.{any, all, those}
+use Rattle.definition.specs.Literals.{Clause, Formula, same, holds, same-set, opposes, opposed}
+use Rattle.laws.proofs.Tests.{to-true, of-true, differ, to-false, and-l, and-r, and-i, or-cases, or-l, or-r, by-test}
+
+-- ---- lists
+module _ {A : Type 0} where
+  pub any-mem : (p : A → Bool) (xs : List A) → T (any p xs) → (x : A) × List·Memᴰ x xs × T (p x)
+  unfolding any
+  any-mem p [] t = absurd t
+  any-mem p (x ∷ xs) t =
+      ⊎-elim (λ u. (x, here refl, u)) (λ u. let r = any-mem p xs u in (r .0, there (r .1), r .2)) (or-cases (p x) (any p xs) t)
+
+  pub mem-any : (p : A → Bool) (xs : List A) (x : A) → List·Memᴰ x xs → T (p x) → T (any p xs)
+  unfolding any
+  mem-any p (y ∷ xs) x (here e) t = or-l (p y) (any p xs) (subst (λ (z : A). T (p z)) e t)
+  mem-any p (y ∷ xs) x (there i) t = or-r (p y) (any p xs) (mem-any p xs x i t)
+
+  pub all-at : (p : A → Bool) (xs : List A) → T (all p xs) → (x : A) → List·Memᴰ x xs → T (p x)
+  unfolding all
+  all-at p (y ∷ xs) t x (here e) = subst (λ (z : A). T (p z)) (sym e) (and-l (p y) (all p xs) t)
+  all-at p (y ∷ xs) t x (there i) = all-at p xs (and-r (p y) (all p xs) t) x i
+
+  pub all-of : (p : A → Bool) (xs : List A) → ((x : A) → List·Memᴰ x xs → T (p x)) → T (all p xs)
+  unfolding all
+  all-of p [] h = tt
+  all-of p (x ∷ xs) h = and-i (p x) (all p xs) (h x (here refl)) (all-of p xs (λ y i. h y (there i)))
+
+  pub those-mem : (p : A → Bool) (xs : List A) (x : A) → List·Memᴰ x (those p xs) → List·Memᴰ x xs × T (p x)
+  unfolding those
+  those-mem p (y ∷ xs) x i = go (p y) refl i (those-mem p xs x)
+    where
+      go : (b : Bool) → p y ≡ b → List·Memᴰ x (cond b (y ∷ those p xs) (those p xs)) → (List·Memᴰ x (those p xs) → List·Memᴰ x xs × T (p x)) → List·Memᴰ x (y ∷ xs) × T (p x)
+      go true e (here q) ih = (here q, of-true (ap p q ∙ e))
+      go true e (there j) ih = let r = ih j in (there (r .0), r .1)
+      go false e j ih = let r = ih j in (there (r .0), r .1)
+
+  pub mem-those : (p : A → Bool) (xs : List A) (x : A) → List·Memᴰ x xs → T (p x) → List·Memᴰ x (those p xs)
+  unfolding those
+  mem-those p (y ∷ xs) x i t = go (p y) refl i (λ j. mem-those p xs x j t)
+    where
+      go : (b : Bool) → p y ≡ b → List·Memᴰ x (y ∷ xs) → (List·Memᴰ x xs → List·Memᴰ x (those p xs)) → List·Memᴰ x (cond b (y ∷ those p xs) (those p xs))
+      go true e (here q) ih = here q
+      go true e (there j) ih = there (ih j)
+      go false e (here q) ih = differ t (ap p q ∙ e)
+      go false e (there j) ih = ih j
+
+-- ---- literals
+pub same-eq : (l m : ℤ) → T (same l m) → l ≡ m
+unfolding same
+same-eq (pos a) (pos b) t = ap pos (eqb→eq a b t)
+same-eq (pos a) (negsuc b) t = absurd t
+same-eq (negsuc a) (pos b) t = absurd t
+same-eq (negsuc a) (negsuc b) t = ap negsuc (eqb→eq a b t)
+
+pub same-refl : (l : ℤ) → T (same l l)
+unfolding same
+same-refl (pos a) = eqb-refl a
+same-refl (negsuc a) = eqb-refl a
+
+pub eq-same : {l m : ℤ} → l ≡ m → T (same l m)
+eq-same {l} {m} e = rw e (same-refl m)
+
+pub unlike : (y k : ℤ) → same y k ≡ false → y ≢ k
+unlike y k e q = differ (eq-same q) e
+
+pub unlike-false : (y k : ℤ) → y ≢ k → same y k ≡ false
+unlike-false y k n = to-false (λ t. n (same-eq y k t))
+
+-- a literal is not its negation; 0 is no literal
+pub own : (l : ℤ) → l ≢ pos 0 → l ≢ negℤ l
+own (pos zero) z e = z refl
+own (pos (suc n)) z e = let k : _≡_ {A = ℕ} 0 1 = cc in absurd (no k)
+  where
+    no : _≡_ {A = ℕ} 0 1 → ⊥
+    no k = omega arith
+own (negsuc n) z e = let k : _≡_ {A = ℕ} 0 1 = cc in absurd (no k)
+  where
+    no : _≡_ {A = ℕ} 0 1 → ⊥
+    no k = omega arith
+
+-- literals of a lower and a higher variable
+pub far : (l x : ℤ) → natAbs l < natAbs x → l ≢ x
+far l x h e = no (ap natAbs e)
+  where
+    no : natAbs l ≡ natAbs x → ⊥
+    no q = omega arith
+
+pub turn : (l m : ℤ) → l ≡ negℤ m → negℤ l ≡ m
+turn l m e = ap negℤ e ∙ negℤ-negℤ m
+
+pub natAbs-neg : (l : ℤ) → natAbs (negℤ l) ≡ natAbs l
+natAbs-neg (pos zero) = refl
+natAbs-neg (pos (suc n)) = refl
+natAbs-neg (negsuc n) = refl
+
+pub same-variable : (x y : ℤ) → natAbs x ≡ natAbs y → (x ≡ y) ⊎ (x ≡ negℤ y)
+same-variable (pos m) (pos n) e = inl (ap pos e)
+same-variable (pos m) (negsuc n) e = inr (ap pos e)
+same-variable (negsuc m) (pos n) e = inr (ap (λ (k : ℕ). negℤ (pos k)) e)
+same-variable (negsuc m) (negsuc n) e = let k : m ≡ n = omega arith in inl (ap negsuc k)
+
+-- ---- clauses
+pub holds-mem : (l : ℤ) (c : Clause) → T (holds l c) → List·Memᴰ l c
+unfolding holds
+holds-mem l c t = let r = any-mem (same l) c t in Memᴰ·cast (same-eq l (r .0) (r .2)) (r .1)
+
+pub mem-holds : (l : ℤ) (c : Clause) → List·Memᴰ l c → T (holds l c)
+unfolding holds
+mem-holds l c i = mem-any (same l) c l i (same-refl l)
+
+pub holds-false : (l : ℤ) (c : Clause) → (List·Memᴰ l c → ⊥) → holds l c ≡ false
+holds-false l c n = to-false (λ t. n (holds-mem l c t))
+
+-- every literal of c is in d
+abbrev pub Within : Clause → Clause → Type 0
+Within c d = (l : ℤ) → List·Memᴰ l c → List·Memᴰ l d
+
+-- two clauses with the same set of literals
+abbrev pub Same : Clause → Clause → Type 0
+Same c d = Within c d × Within d c
+
+pub same-set-same : (c d : Clause) → T (same-set c d) → Same c d
+unfolding same-set
+same-set-same c d t = (
+  λ l i. holds-mem l d (all-at (λ l. holds l d) c (and-l (all (λ l. holds l d) c) _ t) l i),
+  λ l i. holds-mem l c (all-at (λ l. holds l c) d (and-r (all (λ l. holds l d) c) _ t) l i),
+)
+
+pub same-same-set : (c d : Clause) → Same c d → T (same-set c d)
+unfolding same-set
+same-same-set c d s =
+    and-i (all (λ l. holds l d) c) (all (λ l. holds l c) d)
+    (all-of (λ l. holds l d) c (λ l i. mem-holds l d (s .0 l i)))
+    (all-of (λ l. holds l c) d (λ l i. mem-holds l c (s .1 l i)))
+
+pub same-clause : (c : Clause) → Same c c
+same-clause c = (λ l i. i, λ l i. i)
+
+pub same-turned : {c d : Clause} → Same c d → Same d c
+same-turned s = (s .1, s .0)
+
+pub same-joined : {c d e : Clause} → Same c d → Same d e → Same c e
+same-joined s t = (λ l i. t .0 l (s .0 l i), λ l i. s .1 l (t .1 l i))
+
+-- a literal of c whose negation is in d
+pub opposes-mem : (c d : Clause) → T (opposes c d) → (x : ℤ) × List·Memᴰ x c × List·Memᴰ (negℤ x) d
+unfolding opposes
+opposes-mem c d t = let r = any-mem (λ l. holds (negℤ l) d) c t in (r .0, r .1, holds-mem (negℤ (r .0)) d (r .2))
+
+pub mem-opposes : (c d : Clause) (x : ℤ) → List·Memᴰ x c → List·Memᴰ (negℤ x) d → T (opposes c d)
+unfolding opposes
+mem-opposes c d x i j = mem-any (λ l. holds (negℤ l) d) c x i (mem-holds (negℤ x) d j)
+
+-- ---- a proper clause: no literal is 0, repeated or opposed
+abbrev pub Proper : Clause → Type 0
+Proper [] = Unit {0}
+Proper (l ∷ c) = (l ≢ pos 0) × (List·Memᴰ l c → ⊥) × (List·Memᴰ (negℤ l) c → ⊥) × Proper c
+
+pub proper-literal : (c : Clause) → Proper c → (l : ℤ) → List·Memᴰ l c → l ≢ pos 0
+proper-literal (m ∷ c) a l (here e) = λ z. a .0 (sym e ∙ z)
+proper-literal (m ∷ c) a l (there d) = proper-literal c (a .3) l d
+
+pub proper-unopposed : (c : Clause) → Proper c → (x : ℤ) → List·Memᴰ x c → List·Memᴰ (negℤ x) c → ⊥
+proper-unopposed (l ∷ c) a x (here e) (here q) = own l (a .0) (sym q ∙ ap negℤ e)
+proper-unopposed (l ∷ c) a x (here e) (there j) = a .2 (Memᴰ·cast (ap negℤ (sym e)) j)
+proper-unopposed (l ∷ c) a x (there i) (here q) = a .2 (Memᴰ·cast (turn l x (sym q)) i)
+proper-unopposed (l ∷ c) a x (there i) (there j) = proper-unopposed c (a .3) x i j
+
+-- every clause of the formula is proper
+abbrev pub Proper-all : Formula → Type 0
+Proper-all f = (d : Clause) → List·Memᴰ d f → Proper d
+
+-- a literal of 1 to h; a formula of such literals
+abbrev pub Fit : ℕ → ℤ → Type 0
+Fit h x = (x ≢ pos 0) × (natAbs x ≤ h)
+
+abbrev pub Fits : ℕ → Formula → Type 0
+Fits h f = (d : Clause) → List·Memᴰ d f → (x : ℤ) → List·Memᴰ x d → Fit h x

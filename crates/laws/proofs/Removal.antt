@@ -1,0 +1,94 @@
+-- Taking out the first clause with the same set of literals. Assumes nothing.
+use mathlib.Core.Path.{_≡_, refl, sym, _∙_, ap, subst}
+use mathlib.Core.Logic.{_⊎_, inl, inr, ⊎-elim}
+use mathlib.Core.Bool.{Bool, true, false, cond, _||_}
+use mathlib.Core.List.{List, [], _∷_, _++_, List·Memᴰ, List·Memᴰ·head as here, List·Memᴰ·tail as there, Memᴰ·cast}
+use Prim.Native.Nat.{ℕ, suc, _+_, _≤_}
+use native.Mathlib.Omega.{arith}
+use lib.Dec.{T}
+use lib.IntN.{ℤ}
+use lib.ListN.{length}
+use Rattle.definition.specs.Lists.{any}
+use Rattle.definition.specs.Literals.{Clause, Formula, same-set}
+use Rattle.definition.specs.Standing.{stands, take-out}
+use Rattle.definition.specs.Assignments.{Assignment, trues}
+use Rattle.laws.proofs.Tests.{to-true, of-true, differ, to-false, or-cases, or-l, or-r}
+use Rattle.laws.proofs.Members.{Same, same-set-same, same-same-set, same-joined, same-turned}
+use Rattle.laws.proofs.Trues.{hit-in, Sat}
+
+-- the first clause with the literals of c is taken out of F, which leaves G
+pub data Removed (c : Clause) : Formula → Formula → Type 0 where
+  found : {d : Clause} {F : Formula} → same-set c d ≡ true → Removed c (d ∷ F) F
+  later : {d : Clause} {F G : Formula} → same-set c d ≡ false → Removed c F G → Removed c (d ∷ F) (d ∷ G)
+
+pub removed-take-out : {c : Clause} {F G : Formula} → Removed c F G → take-out c F ≡ G
+unfolding take-out
+removed-take-out (found e) = rw e
+removed-take-out (later e r) = rw (e, removed-take-out r)
+
+pub removed-stands : {c : Clause} {F G : Formula} → Removed c F G → T (stands c F)
+unfolding stands any
+removed-stands (found e) = rw e tt
+removed-stands (later e r) = rw e (removed-stands r)
+
+pub stands-removed : (c : Clause) (F : Formula) → T (stands c F) → Removed c F (take-out c F)
+unfolding stands any take-out
+stands-removed c [] t = absurd t
+stands-removed c (d ∷ F) t = go (same-set c d) refl t (stands-removed c F)
+  where
+    go : (b : Bool) → same-set c d ≡ b → T (b || any (same-set c) F) → (T (any (same-set c) F) → Removed c F (take-out c F)) → Removed c (d ∷ F) (cond b F (d ∷ take-out c F))
+    go true e u ih = found e
+    go false e u ih = later e (ih u)
+
+-- a clause with the same literals stands: it is found
+pub stands-same : (c d : Clause) (F : Formula) → List·Memᴰ d F → Same c d → T (stands c F)
+unfolding stands any
+stands-same c d (k ∷ F) (here e) s = or-l (same-set c k) (any (same-set c) F) (same-same-set c k (subst (λ (z : Clause). Same c z) e s))
+stands-same c d (k ∷ F) (there i) s = or-r (same-set c k) (any (same-set c) F) (stands-same c d F i s)
+
+pub takes : (c d : Clause) (F : Formula) → List·Memᴰ d F → Same c d → Removed c F (take-out c F)
+takes c d F i s = stands-removed c F (stands-same c d F i s)
+
+-- what stands behind is left
+pub removed-++ : {c : Clause} {F G : Formula} (X : Formula) → Removed c F G → Removed c (F ++ X) (G ++ X)
+removed-++ X (found e) = found e
+removed-++ X (later e r) = later e (removed-++ X r)
+
+pub removed-length : {c : Clause} {F G : Formula} → Removed c F G → length F ≡ suc (length G)
+removed-length (found e) = refl
+removed-length (later e r) = ap suc (removed-length r)
+
+-- a clause that stands before a deletion stands after it, or has the deleted one's literals
+pub split : {c : Clause} {F G : Formula} → Removed c F G → {d : Clause} → List·Memᴰ d F → Same c d ⊎ List·Memᴰ d G
+split {c} (found {d = k} e) {d} (here i) = inl (subst (λ (z : Clause). Same c z) (sym i) (same-set-same c k (of-true e)))
+split (found e) (there m) = inr m
+split (later e r) (here i) = inr (here i)
+split {c} (later {d = k} {F = F} {G = G} e r) {d} (there m) = go (split r m)
+  where
+    go : Same c d ⊎ List·Memᴰ d G → Same c d ⊎ List·Memᴰ d (k ∷ G)
+    go (inl s) = inl s
+    go (inr n) = inr (there n)
+
+pub mem-removed : {c d : Clause} {F G : Formula} → Removed c F G → List·Memᴰ d G → List·Memᴰ d F
+mem-removed (found e) i = there i
+mem-removed (later e r) (here j) = here j
+mem-removed (later e r) (there j) = there (mem-removed r j)
+
+-- the clause that is taken out
+pub removed-clause : {c : Clause} {F G : Formula} → Removed c F G → (d : Clause) × List·Memᴰ d F × Same c d
+removed-clause {c} (found {d = d} e) = (d, here refl, same-set-same c d (of-true e))
+removed-clause (later e r) = let q = removed-clause r in (q .0, there (q .1), q .2)
+
+-- ---- satisfying before and after
+pub sat-less : (σ : Assignment) {c : Clause} {F G : Formula} → Removed c F G → Sat σ F → Sat σ G
+sat-less σ (found t) s = s .1
+sat-less σ (later e r) s = (s .0, sat-less σ r (s .1))
+
+pub sat-more : (σ : Assignment) {c : Clause} {F G : Formula} → Removed c F G → 1 ≤ trues σ c → Sat σ G → Sat σ F
+sat-more σ {c} (found {d = d} t) h s = (hit-in σ c d (same-set-same c d (of-true t) .0) h, s)
+sat-more σ (later e r) h s = (s .0, sat-more σ r h (s .1))
+
+-- a clause found in the formula is true where the formula is
+pub sat-of : (σ : Assignment) {c : Clause} {F G : Formula} → Removed c F G → Sat σ F → 1 ≤ trues σ c
+sat-of σ {c} (found {d = d} t) s = hit-in σ d c (same-set-same c d (of-true t) .1) (s .0)
+sat-of σ (later e r) s = sat-of σ r (s .1)

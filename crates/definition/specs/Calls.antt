@@ -9,10 +9,10 @@ use Rattle.definition.specs.Lists.{for-from}
 use Rattle.definition.specs.Checked.{Checked, fault, value, _>>=_, refuse-if}
 use Rattle.definition.specs.Literals.{Clause, Formula, holds, literals-of}
 use Rattle.definition.specs.Text.{Bytes, bytes, literal-text}
-use Rattle.definition.specs.Reading.{Limits, input-limits, read-back-limits, Input, read-formula}
+use Rattle.definition.specs.Reading.{input-limits, read-back-limits, Input, read-formula}
 use Rattle.definition.specs.Standing.{Line, replay, highest-in}
 use Rattle.definition.specs.Assignments.{Assignment, satisfies, carried-back}
-use Rattle.definition.specs.Reencoding.{Settings, input, chosen, log, result, highest-used}
+use Rattle.definition.specs.Reencoding.{Settings, chosen, log, result, highest-used}
 use Rattle.definition.specs.Log.{log-text, formula-text}
 use Rattle.definition.specs.LogReading.{read-log, numbers-in}
 use Rattle.definition.specs.Answer.{read-answer}

@@ -1,6 +1,6 @@
 -- "Text and literals": a literal is a whole number, negative for a negated variable; a clause is a list of literals; a formula a list of clauses.
 -- ℤ is the value of an i32 in a contract.
-use mathlib.Core.Bool.{Bool, true, false, not, _&&_, _||_}
+use mathlib.Core.Bool.{Bool, false, not, _&&_, _||_}
 use mathlib.Core.List.{List, [], _∷_}
 use Prim.Native.Nat.{ℕ, max}
 use lib.Dec.{eqb}

@@ -1,15 +1,15 @@
 -- Membership: what `any`, `all`, `holds`, `same-set` and `those` say of members. Assumes nothing.
 use mathlib.Core.Path.{_≡_, refl, sym, _∙_, ap, subst}
 use mathlib.Core.Logic.{_≢_, _⊎_, inl, inr, ⊎-elim}
-use mathlib.Core.Bool.{Bool, true, false, cond, not, _&&_, _||_}
-use mathlib.Core.List.{List, [], _∷_, _++_, List·Memᴰ, List·Memᴰ·head as here, List·Memᴰ·tail as there, Memᴰ·cast}
+use mathlib.Core.Bool.{Bool, true, false, cond}
+use mathlib.Core.List.{List, [], _∷_, List·Memᴰ, List·Memᴰ·head as here, List·Memᴰ·tail as there, Memᴰ·cast}
 use Prim.Native.Nat.{ℕ, zero, suc, _≤_, _<_}
 use native.Mathlib.Omega.{arith}
-use lib.Dec.{T, eqb, eqb→eq, eqb-refl}
+use lib.Dec.{T, eqb→eq, eqb-refl}
 use lib.IntN.{ℤ, pos, negsuc, negℤ, negℤ-negℤ, natAbs}
 use Rattle.definition.specs.Lists.{any, all, those}
-use Rattle.definition.specs.Literals.{Clause, Formula, same, holds, same-set, opposes, opposed}
-use Rattle.laws.proofs.Tests.{to-true, of-true, differ, to-false, and-l, and-r, and-i, or-cases, or-l, or-r, by-test}
+use Rattle.definition.specs.Literals.{Clause, Formula, same, holds, same-set, opposes}
+use Rattle.laws.proofs.Tests.{of-true, differ, to-false, and-l, and-r, and-i, or-cases, or-l, or-r}
 
 -- ---- lists
 module _ {A : Type 0} where

@@ -1,19 +1,17 @@
 -- Taking out the first clause with the same set of literals. Assumes nothing.
-use mathlib.Core.Path.{_≡_, refl, sym, _∙_, ap, subst}
-use mathlib.Core.Logic.{_⊎_, inl, inr, ⊎-elim}
+use mathlib.Core.Path.{_≡_, refl, sym, ap, subst}
+use mathlib.Core.Logic.{_⊎_, inl, inr}
 use mathlib.Core.Bool.{Bool, true, false, cond, _||_}
-use mathlib.Core.List.{List, [], _∷_, _++_, List·Memᴰ, List·Memᴰ·head as here, List·Memᴰ·tail as there, Memᴰ·cast}
-use Prim.Native.Nat.{ℕ, suc, _+_, _≤_}
-use native.Mathlib.Omega.{arith}
+use mathlib.Core.List.{[], _∷_, _++_, List·Memᴰ, List·Memᴰ·head as here, List·Memᴰ·tail as there}
+use Prim.Native.Nat.{suc, _≤_}
 use lib.Dec.{T}
-use lib.IntN.{ℤ}
 use lib.ListN.{length}
 use Rattle.definition.specs.Lists.{any}
 use Rattle.definition.specs.Literals.{Clause, Formula, same-set}
 use Rattle.definition.specs.Standing.{stands, take-out}
 use Rattle.definition.specs.Assignments.{Assignment, trues}
-use Rattle.laws.proofs.Tests.{to-true, of-true, differ, to-false, or-cases, or-l, or-r}
-use Rattle.laws.proofs.Members.{Same, same-set-same, same-same-set, same-joined, same-turned}
+use Rattle.laws.proofs.Tests.{of-true, or-l, or-r}
+use Rattle.laws.proofs.Members.{Same, same-set-same, same-same-set}
 use Rattle.laws.proofs.Trues.{hit-in, Sat}
 
 -- the first clause with the literals of c is taken out of F, which leaves G

@@ -4,7 +4,7 @@ use mathlib.Core.Bool.{true}
 use mathlib.Core.List.{List, [], _∷_, _++_}
 use Prim.Native.Nat.{ℕ, zero, suc}
 use lib.ListN.{take}
-use Rattle.definition.specs.Checked.{Checked, value, _>>=_, refuse-if, through}
+use Rattle.definition.specs.Checked.{value, _>>=_, refuse-if, through}
 use Rattle.definition.specs.Literals.{Clause, Formula}
 use Rattle.definition.specs.Standing.{Line, addition, deletion, stands, changed, after, replay-line, replay}
 use Rattle.laws.proofs.Tests.{to-true}

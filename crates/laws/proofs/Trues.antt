@@ -1,8 +1,8 @@
 -- The number of true literals, satisfying a formula, making a literal true. Assumes nothing.
-use mathlib.Core.Path.{_≡_, refl, sym, ap, subst}
+use mathlib.Core.Path.{_≡_, refl, ap}
 use mathlib.Core.Logic.{_≢_}
 use mathlib.Core.Bool.{Bool, true, false, not, cond, _||_}
-use mathlib.Core.List.{List, [], _∷_, _++_, List·Memᴰ, List·Memᴰ·head as here, List·Memᴰ·tail as there}
+use mathlib.Core.List.{[], _∷_, _++_, List·Memᴰ, List·Memᴰ·head as here, List·Memᴰ·tail as there}
 use Prim.Native.Nat.{ℕ, zero, suc, _+_, _≤_}
 use native.Mathlib.Omega.{arith}
 use lib.Dec.{T, eqb}
@@ -11,7 +11,7 @@ use borrow.Author.Tests.{eq-eqb, ne-eqb}
 use Rattle.definition.specs.Lists.{bit, any, all, count}
 use Rattle.definition.specs.Literals.{Clause, Formula}
 use Rattle.definition.specs.Assignments.{Assignment, true-in, has-true, satisfies, trues, sign, make-true}
-use Rattle.laws.proofs.Tests.{to-true, of-true, differ, to-false, and-l, and-r, and-i, or-cases, or-l, or-r, bit≤1, bit-not}
+use Rattle.laws.proofs.Tests.{and-l, and-r, and-i, bit≤1, bit-not}
 
 pub trues-nil : (σ : Assignment) → trues σ [] ≡ 0
 unfolding trues count

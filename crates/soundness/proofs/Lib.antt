@@ -1,0 +1,4 @@
+pub mod Sound
+pub mod Rules
+pub mod Times
+pub mod Without

@@ -1,0 +1,111 @@
+-- A clause without one of its literals; literals in another order; a variable that stands nowhere.
+use mathlib.Core.Path.{_≡_, refl, sym, ap}
+use mathlib.Core.Logic.{_≢_, _⊎_, inl, inr, ⊎-elim}
+use mathlib.Core.Bool.{Bool, true, false, cond, not}
+use mathlib.Core.List.{List, [], _∷_, _++_, List·Memᴰ, List·Memᴰ·head as here, List·Memᴰ·tail as there, Memᴰ·cast, List·Memᴰ·append-cases}
+use Prim.Native.Nat.{ℕ, _≤_, _<_}
+use native.Mathlib.Omega.{arith}
+use lib.IntN.{ℤ, negℤ, natAbs}
+use Rattle.definition.specs.Lists.{bit, count, those}
+use Rattle.definition.specs.Literals.{Clause, Formula, same, without, with-first}
+use Rattle.definition.specs.Assignments.{Assignment, true-in, trues}
+use Rattle.definition.specs.Events.{Event}
+use Rattle.laws.proofs.Tests.{of-true, not-true, of-false, by-test}
+use Rattle.laws.proofs.Members.{same-eq, unlike, those-mem, mem-those, Within, Same, Proper, proper-literal, proper-unopposed, same-variable}
+use Rattle.soundness.proofs.Sound.{Into}
+use Rattle.soundness.proofs.Rules.{Absent, Clear}
+
+pub without-mem : (v : ℤ) (c : Clause) (x : ℤ) → List·Memᴰ x (without v c) → List·Memᴰ x c × (x ≢ v)
+unfolding without
+without-mem v c x i = let r = those-mem (λ m. not (same v m)) c x i in (r .0, λ e. unlike v x (not-true (r .1)) (sym e))
+
+pub mem-without : (v : ℤ) (c : Clause) (x : ℤ) → List·Memᴰ x c → (x ≡ v) ⊎ List·Memᴰ x (without v c)
+unfolding without
+mem-without v c x i =
+    by-test (same v x) (λ e. inl (sym (same-eq v x (of-true e)))) (λ e. inr (mem-those (λ m. not (same v m)) c x i (of-false e)))
+
+-- written first, the others in order
+pub first-same : (v : ℤ) (c : Clause) → List·Memᴰ v c → Same (with-first v c) c
+unfolding with-first
+first-same v c m = (go, λ x i. back x (mem-without v c x i))
+  where
+    go : (x : ℤ) → List·Memᴰ x (v ∷ without v c) → List·Memᴰ x c
+    go x (here e) = Memᴰ·cast e m
+    go x (there i) = without-mem v c x i .0
+
+    back : (x : ℤ) → (x ≡ v) ⊎ List·Memᴰ x (without v c) → List·Memᴰ x (v ∷ without v c)
+    back x (inl e) = here e
+    back x (inr i) = there i
+
+pub without-proper : (v : ℤ) (c : Clause) → Proper c → Proper (without v c)
+unfolding without those
+without-proper v [] a = tt
+without-proper v (x ∷ c) a = go (same v x) (without-proper v c (a .3))
+  where
+    go : (b : Bool) → Proper (without v c) → Proper (cond (not b) (x ∷ without v c) (without v c))
+    go true h = h
+    go false h = (a .0, λ i. a .1 (without-mem v c x i .0), λ i. a .2 (without-mem v c (negℤ x) i .0), h)
+
+pub first-proper : (v : ℤ) (c : Clause) → Proper c → List·Memᴰ v c → Proper (with-first v c)
+unfolding with-first
+first-proper v c a i = (
+  proper-literal c a v i,
+  λ j. without-mem v c v j .1 refl,
+  λ j. proper-unopposed c a v i (without-mem v c (negℤ v) j .0),
+  without-proper v c a,
+)
+
+-- ---- the number of true literals does not depend on the order
+without-trues : (σ : Assignment) (v : ℤ) (c : Clause) → trues σ (without v c) ≤ trues σ c
+unfolding without those trues count
+without-trues σ v [] = omega arith
+without-trues σ v (x ∷ c) = go (same v x) (without-trues σ v c)
+  where
+    go : (b : Bool) → trues σ (without v c) ≤ trues σ c → trues σ (cond (not b) (x ∷ without v c) (without v c)) ≤ trues σ (x ∷ c)
+    go true h = omega arith
+    go false h = omega arith
+
+more-trues : (σ : Assignment) (v : ℤ) (c : Clause) → List·Memᴰ v c → trues σ (v ∷ without v c) ≤ trues σ c
+unfolding without those trues count
+more-trues σ v (x ∷ c) i = go (same v x) refl i (more-trues σ v c) (without-trues σ v c)
+  where
+    go : (b : Bool) → same v x ≡ b → List·Memᴰ v (x ∷ c) → (List·Memᴰ v c → trues σ (v ∷ without v c) ≤ trues σ c) → trues σ (without v c) ≤ trues σ c →
+        trues σ (v ∷ cond (not b) (x ∷ without v c) (without v c)) ≤ trues σ (x ∷ c)
+    go true e j ih h = omega (arith, ap (λ (z : ℤ). bit (true-in σ z)) (same-eq v x (of-true e)))
+    go false e (here q) ih h = absurd (unlike v x e q)
+    go false e (there j) ih h = omega (arith, ih j)
+
+trues-within : (σ : Assignment) (c d : Clause) → Proper c → Within c d → trues σ c ≤ trues σ d
+unfolding trues count
+trues-within σ [] d a w = omega arith
+trues-within σ (l ∷ c) d a w =
+    omega (
+      arith,
+      more-trues σ l d (w l (here refl)),
+      trues-within σ c (without l d) (a .3) (λ x i. ⊎-elim (λ e. absurd (a .1 (Memᴰ·cast (sym e) i))) (λ j. j) (mem-without l d x (w x (there i)))),
+    )
+
+pub trues-order : (σ : Assignment) (c d : Clause) → Proper c → Proper d → Same c d → trues σ c ≡ trues σ d
+trues-order σ c d a b s = omega (arith, trues-within σ c d a (s .0), trues-within σ d c b (s .1))
+
+-- ---- a variable that stands nowhere: the literals of clauses that go into a choice stand, or are of variables above h
+abbrev pub Known : ℕ → List Event → Formula → Type 0
+Known h K F = (c : Clause) → Into K c → (x : ℤ) → List·Memᴰ x c → ((d : Clause) × List·Memᴰ d F × List·Memᴰ x d) ⊎ (h < natAbs x)
+
+pub clear-absent : (h : ℕ) (v : ℤ) (K : List Event) (F : Formula) → Known h K F → natAbs v ≤ h → Absent v F → Absent (negℤ v) F → Clear v K
+clear-absent h v K F w b p n c i x j e = ⊎-elim
+    (λ r. ⊎-elim (λ q. p (r .0) (r .1) (Memᴰ·cast (sym q) (r .2))) (λ q. n (r .0) (r .1) (Memᴰ·cast (sym q) (r .2))) (same-variable x v e))
+    (λ r. no r) (w c i x j)
+  where
+    no : h < natAbs x → ⊥
+    no r = omega arith
+
+-- ---- two clauses in one
+pub proper-++ : (c d : Clause) → Proper c → Proper d → ((x : ℤ) → List·Memᴰ x c → List·Memᴰ x d → ⊥) → ((x : ℤ) → List·Memᴰ x c → List·Memᴰ (negℤ x) d → ⊥) → Proper (c ++ d)
+proper-++ [] d a b s o = b
+proper-++ (x ∷ c) d a b s o = (
+  a .0,
+  λ i. ⊎-elim (a .1) (s x (here refl)) (List·Memᴰ·append-cases c i),
+  λ i. ⊎-elim (a .2) (o x (here refl)) (List·Memᴰ·append-cases c i),
+  proper-++ c d (a .3) b (λ y i. s y (there i)) (λ y i. o y (there i)),
+)

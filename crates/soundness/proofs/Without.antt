@@ -88,13 +88,21 @@ trues-within σ (l ∷ c) d a w =
 pub trues-order : (σ : Assignment) (c d : Clause) → Proper c → Proper d → Same c d → trues σ c ≡ trues σ d
 trues-order σ c d a b s = omega (arith, trues-within σ c d a (s .0), trues-within σ d c b (s .1))
 
--- ---- a variable that stands nowhere: the literals of clauses that go into a choice stand, or are of variables above h
+-- ---- a variable that stands nowhere
+
+-- a literal of this variable stands in the formula
+abbrev pub Stands : ℕ → Formula → Type 0
+Stands n F = (d : Clause) × List·Memᴰ d F × (y : ℤ) × List·Memᴰ y d × (natAbs y ≡ n)
+
+-- the variables of clauses that go into a choice stand in the formula, or are above h
 abbrev pub Known : ℕ → List Event → Formula → Type 0
-Known h K F = (c : Clause) → Into K c → (x : ℤ) → List·Memᴰ x c → ((d : Clause) × List·Memᴰ d F × List·Memᴰ x d) ⊎ (h < natAbs x)
+Known h K F = (c : Clause) → Into K c → (x : ℤ) → List·Memᴰ x c → Stands (natAbs x) F ⊎ (h < natAbs x)
 
 pub clear-absent : (h : ℕ) (v : ℤ) (K : List Event) (F : Formula) → Known h K F → natAbs v ≤ h → Absent v F → Absent (negℤ v) F → Clear v K
-clear-absent h v K F w b p n c i x j e = ⊎-elim
-    (λ r. ⊎-elim (λ q. p (r .0) (r .1) (Memᴰ·cast (sym q) (r .2))) (λ q. n (r .0) (r .1) (Memᴰ·cast (sym q) (r .2))) (same-variable x v e))
+clear-absent h v K F w b p n c i x j e =
+    ⊎-elim
+    (λ r.
+    ⊎-elim (λ q. p (r .0) (r .1) (Memᴰ·cast (sym q) (r .3))) (λ q. n (r .0) (r .1) (Memᴰ·cast (sym q) (r .3))) (same-variable (r .2) v (r .4 ∙ e)))
     (λ r. no r) (w c i x j)
   where
     no : h < natAbs x → ⊥

@@ -1,0 +1,5 @@
+pub mod Extra
+pub mod Groups
+pub mod Sorting
+pub mod Numbers
+pub mod Aligned

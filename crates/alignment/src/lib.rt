@@ -1,0 +1,1 @@
+// Alignment's notions and its computation agree, under proofs/; this crate has no function.

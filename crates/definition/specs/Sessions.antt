@@ -107,8 +107,18 @@ sessions =
     ∷ counts order f-text 10 8 59
     ∷ formula order f-text g-formula
     ∷ walks order f-text "s SATISFIABLE\nv 1 2 3 4 5 -6 -7 -8 -9 10 0\n" 59 "v -1 -2 -3 4 -5 -6 0\n"
+    ∷ walks order f-text "s SATISFIABLE\nv 10 0\n" 59 "v -1 -2 -3 4 -5 -6 0\n"
     ∷ reads-back counter f-text
     ∷ reads-back order f-text
+    -- the clashing variable stands last: it is written first in its deletion, and the way back makes it true
+    ∷ texts counter "p cnf 3 4\n2 1 0\n3 -1 0\n-2 -3 0\n-2 -3 0\n" "2 3 0\nd 1 2 0\nd -1 3 0\n" "p cnf 3 3\n-2 -3 0\n-2 -3 0\n2 3 0\n"
+    ∷ walks counter "p cnf 3 4\n2 1 0\n3 -1 0\n-2 -3 0\n-2 -3 0\n" "s SATISFIABLE\nv 3 0\n" 3 "v 1 -2 3 0\n"
+    -- clashes at 1 and 2: a variable that a later line turns
+    ∷ walks counter "p cnf 4 5\n1 2 0\n-1 3 0\n-2 4 0\n-3 -4 0\n-3 -4 0\n" "s SATISFIABLE\nv 2 3 0\n" 6 "v 1 -2 3 -4 0\n"
+    -- copies of pairs in both orders: all are deleted
+    ∷ counts counter "p cnf 5 9\n1 2 3 4 5 0\n-1 -2 0\n-1 -3 0\n-2 -1 0\n-3 -1 0\n-4 0\n-4 0\n-5 0\n-5 0\n" 9 20 37
+    -- four literals are no choice
+    ∷ counts counter "p cnf 5 4\n1 2 3 4 0\n-1 -2 -5 0\n-3 -4 -5 0\n5 0\n" 5 4 0
     -- alignment: 1..5 and 6..10, linked 1-8 and 2-6
     ∷ aligns "p cnf 11 4\n1 2 3 4 5 0\n6 7 8 9 10 0\n-1 -8 0\n-6 -2 0\n" "1 2 3 4 5 0\n8 6 7 9 10 0\n"
     -- 1-8-2: not alignable

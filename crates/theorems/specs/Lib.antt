@@ -1,0 +1,4 @@
+-- What is promised of the definition.
+pub mod Demand3
+pub mod Texts
+pub mod WayBack

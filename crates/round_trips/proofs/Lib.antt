@@ -1,0 +1,9 @@
+pub mod Extra
+pub mod Digits
+pub mod Outcomes
+pub mod Accepted
+pub mod Words
+pub mod ClauseText
+pub mod FormulaText
+pub mod LogText
+pub mod AnswerText

@@ -1,0 +1,82 @@
+-- The words, fields and lines of a text that begins with one of them.
+use mathlib.Core.Path.{_≡_, refl, ap}
+use mathlib.Core.Bool.{Bool, true, false}
+use mathlib.Core.List.{List, [], _∷_, _++_, append-nil}
+use Prim.Native.Nat.{ℕ, suc, _≤_}
+use Prim.Native.Char.{code}
+use native.Mathlib.Omega.{arith}
+use lib.ListN.{length, drop}
+use Rattle.definition.specs.Lists.{any}
+use Rattle.definition.specs.Text.{Bytes, is, add-part, parts, words-by, longer, text-lines, without-last-cr, fields-from, fields}
+use Rattle.round_trips.proofs.Extra.{or-false-both}
+use Rattle.round_trips.proofs.Digits.{Between}
+
+-- no byte passes the test
+abbrev pub Free : (ℕ → Bool) → Bytes → Type 0
+Free p [] = Unit {0}
+Free p (b ∷ t) = (p b ≡ false) × Free p t
+
+pub free-++ : (p : ℕ → Bool) (s t : Bytes) → Free p s → Free p t → Free p (s ++ t)
+free-++ p [] t f g = g
+free-++ p (b ∷ s) t f g = (f .0, free-++ p s t (f .1) g)
+
+pub any-free : (p : ℕ → Bool) (t : Bytes) → any p t ≡ false → Free p t
+unfolding any
+any-free p [] e = tt
+any-free p (b ∷ t) e = let r = or-false-both (p b) (any p t) e in (r .0, any-free p t (r .1))
+
+pub between-free : (p : ℕ → Bool) (a z : ℕ) → ((b : ℕ) → a ≤ b → b ≤ z → p b ≡ false) → (t : Bytes) → Between a z t → Free p t
+between-free p a z h [] f = tt
+between-free p a z h (b ∷ t) f = (h b (f .0) (f .1), between-free p a z h t (f .2))
+
+-- ---- words
+module _ (separates : ℕ → Bool) where
+  parts-free : (u t : Bytes) → Free separates u → parts separates (u ++ t) ≡ (u ++ parts separates t .0, parts separates t .1)
+  unfolding parts
+  parts-free [] t f = refl
+  parts-free (b ∷ u) t f = rw (f .0, parts-free u t (f .1))
+
+  add-part-some : (u : Bytes) (ws : List Bytes) → 1 ≤ length u → add-part u ws ≡ u ∷ ws
+  unfolding add-part
+  add-part-some [] ws h = absurd (omega arith)
+  add-part-some (b ∷ u) ws h = refl
+
+  pub first-word : (u : Bytes) (b : ℕ) (t : Bytes) → Free separates u → 1 ≤ length u → separates b ≡ true → words-by separates (u ++ b ∷ t) ≡ u ∷ words-by separates t
+  unfolding words-by parts
+  first-word u b t f h e = rw (parts-free u (b ∷ t) f, e, append-nil u) (add-part-some u _ h)
+
+  pub only-word : (u : Bytes) → Free separates u → 1 ≤ length u → words-by separates u ≡ u ∷ []
+  unfolding words-by parts
+  only-word u f h = rw (← append-nil u, parts-free u [] f, append-nil u) (add-part-some u [] h)
+
+-- ---- fields between single blanks
+fields-free : (u t : Bytes) → Free (is " ") u → fields-from (u ++ t) ≡ (u ++ fields-from t .0, fields-from t .1)
+unfolding fields-from
+fields-free [] t f = refl
+fields-free (b ∷ u) t f = rw (f .0, fields-free u t (f .1))
+
+pub first-field : (u t : Bytes) → Free (is " ") u → fields (u ++ code " " ∷ t) ≡ u ∷ fields t
+unfolding fields fields-from is
+first-field u t f = rw (fields-free u (code " " ∷ t) f, append-nil u)
+
+pub only-field : (u : Bytes) → Free (is " ") u → fields u ≡ u ∷ []
+unfolding fields fields-from
+only-field u f = rw (← append-nil u, fields-free u [] f, append-nil u)
+
+-- ---- lines
+pub first-line : (u t : Bytes) → Free (is "\n") u → text-lines (u ++ code "\n" ∷ t) ≡ record { text = u; ended = true } ∷ text-lines t
+unfolding text-lines longer is
+first-line [] t f = refl
+first-line (b ∷ u) t f = rw (f .0, first-line u t (f .1))
+
+-- without CR there is no last one
+pub no-last-cr : (u : Bytes) → Free (is "\r") u → without-last-cr u ≡ u
+unfolding without-last-cr
+no-last-cr [] f = refl
+no-last-cr (b ∷ []) f = rw (f .0)
+no-last-cr (b ∷ c ∷ u) f = ap (λ (t : Bytes). b ∷ t) (no-last-cr (c ∷ u) (f .1))
+
+-- what follows the first line
+pub past-line : (u : Bytes) (b : ℕ) (t : Bytes) → drop (suc (length u)) (u ++ b ∷ t) ≡ t
+past-line [] b t = refl
+past-line (c ∷ u) b t = past-line u b t

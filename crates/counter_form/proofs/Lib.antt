@@ -1,0 +1,8 @@
+pub mod Ready
+pub mod Fitting
+pub mod Pairs
+pub mod Stages
+pub mod Copies
+pub mod CounterLiterals
+pub mod Front
+pub mod Counter

@@ -1,6 +1,6 @@
 -- All choices, in either form: every line is sound.
-use mathlib.Core.Path.{_≡_, refl, sym, _∙_, subst}
-use mathlib.Core.Logic.{_≢_, ⊎-elim}
+use mathlib.Core.Path.{_≡_, refl, sym, _∙_, ap, subst}
+use mathlib.Core.Logic.{_≢_}
 use mathlib.Core.Bool.{Bool, true, false}
 use mathlib.Core.List.{List, [], _∷_, _++_, append-assoc, append-nil, List·Memᴰ, List·Memᴰ·head as here, List·Memᴰ·tail as there, Memᴰ·append-left}
 use Prim.Native.Nat.{ℕ, _≤_}
@@ -14,7 +14,7 @@ use Rattle.definition.specs.Events.{Choice, Event}
 use Rattle.definition.specs.Clearing.{times}
 use Rattle.definition.specs.Counter.{below-new, last-new, counter, take-choice}
 use Rattle.definition.specs.Order.{order-events}
-use Rattle.definition.specs.Reencoding.{lines-of, lines, Form, counter-form, order-form, choice-events, choices-events}
+use Rattle.definition.specs.Reencoding.{lines-of, lines, Form, counter-form, order-form, choice-events, choices-events, Goes-into}
 use Rattle.laws.proofs.Tests.{to-false}
 use Rattle.laws.proofs.Members.{Same, Proper, Fits, natAbs-neg, opposes-mem}
 use Rattle.laws.proofs.Replay.{after-++}
@@ -24,15 +24,30 @@ use Rattle.soundness.proofs.Without.{Known}
 use Rattle.counter_form.proofs.Ready.{Ready, Other}
 use Rattle.counter_form.proofs.Fitting.{fits-up, fits-++}
 use Rattle.counter_form.proofs.CounterLiterals.{counter-absent}
-use Rattle.counter_form.proofs.Front.{front, front-own, front-other, front-kept, front-fits}
+use Rattle.counter_form.proofs.Front.{front, own-fit, front-own, front-other, front-kept, front-fits, counter-fits}
 use Rattle.counter_form.proofs.Counter.{counter-sound, after-choice, counter-known}
-use Rattle.order_form.proofs.Order.{ordered, order-sound, after-order}
+use Rattle.order_form.proofs.Order.{Before, ordered, order-sound, after-order, ordered-times, ordered-fits, ordered-mem}
 
 -- the events of two phases one after the other
 pub lines-++ : (es fs : List Event) → lines (es ++ fs) ≡ lines es ++ lines fs
 unfolding lines for-each
 lines-++ [] fs = refl
 lines-++ (e ∷ es) fs = rw (append-assoc, lines-++ es fs)
+
+-- no event takes a clause into a choice where there is none
+pub no-events : (n : ℕ) (F : Formula) → Known n [] F
+no-events n F c i = absurd (no (i .goes))
+  where
+    no : {k : Choice} {d : Clause} → Goes-into k [] d → ⊥
+    no g = elim g [ ]
+
+none-written : (F : Formula) → Sound F [] (lines []) (after F (lines [])) []
+unfolding lines for-each after
+none-written F = nothing (λ σ s o. o)
+
+-- no variable in common
+abbrev pub Disjoint : Clause → Clause → Type 0
+Disjoint c d = (x : ℤ) → List·Memᴰ x c → (y : ℤ) → List·Memᴰ y d → natAbs x ≢ natAbs y
 
 -- what stands after a choice
 unfoldable pub after-form : Form → Formula → Choice → Formula
@@ -42,17 +57,118 @@ after-form order-form F k = ordered (front F k) k
 -- ---- one choice
 module _ (F : Formula) (k : Choice) (f : Fits (k .below) F) (r : Ready F k) where
   before-order : Before (front F k) k
-  before-order = ?
+  before-order = record { well-formed = record { proper = r .proper; long = r .long; fit = own-fit F k f r }; fits = front-fits F k f r; absent = front-own F k f r }
 
+  -- every line is sound, and clauses that go into a choice are known
   pub choice-sound : (form : Form) {H : Formula} {K L : List Event} {xs : List Line} → Known (last-new k) K (after-form form F k) → Sound (after-form form F k) K xs H L →
       Sound F (choice-events form F k ++ K) (lines (choice-events form F k) ++ xs) H L × Known (k .below) (choice-events form F k ++ K) F
   unfolding after-form choice-events lines for-each
-  choice-sound counter-form {H} {K} {L} {xs} w s = (rw append-nil (counter-sound F k f r s), counter-known F k f r w)
-  choice-sound order-form {H} {K} {L} {xs} w s =
+  choice-sound counter-form w s = (rw append-nil (counter-sound F k f r s), counter-known F k f r w)
+  choice-sound order-form w s =
       let o = order-sound k (front F k) before-order w s in
-      (rw (append-assoc, after-choice F k f r) (counter-sound F k f r (o .0)), rw (after-choice F k f r) (counter-known F k f r (o .1)))
+      rw (append-assoc, after-choice F k f r) (counter-sound F k f r (o .0), counter-known F k f r (o .1))
 
-  pub after-choice-events : (form : Form) → after F (lines (choice-events form F k)) ≡ after-form form F k
+  pub after-events : (form : Form) → after F (lines (choice-events form F k)) ≡ after-form form F k
   unfolding after-form choice-events lines for-each
-  after-choice-events counter-form = rw append-nil (after-choice F k f r)
-  after-choice-events order-form = after-++ F (lines-of (take-choice F k)) _ ∙ (rw (after-choice F k f r) (after-order k (front F k) before-order))
+  after-events counter-form = rw append-nil (after-choice F k f r)
+  after-events order-form =
+      after-++ F (lines-of (take-choice F k)) (lines (order-events k (after F (lines-of (take-choice F k)))))
+      ∙ (rw (after-choice F k f r) (after-order k (front F k) before-order))
+
+  pub after-fits : (form : Form) → Fits (last-new k) (after-form form F k)
+  unfolding after-form last-new
+  after-fits counter-form = fits-++ (last-new k) (front F k) (counter k) (fits-up (last-new k) (k .below) (front F k) (omega arith) (front-fits F k f r)) (counter-fits F k f r)
+  after-fits order-form = ordered-fits k (front F k) before-order
+
+  -- a clause with no variable in common stays, and its literals stand as often as before
+  module _ (c : Clause) (i : List·Memᴰ c F) (y : ℤ) (j : List·Memᴰ y c) (d : Disjoint (k .literals) c) where
+    other : (x : ℤ) → List·Memᴰ x c → Other k x
+    other x m = record { small = f c i x m .1; not-in = λ n. d x n x m refl; not-negated = λ n. d (negℤ x) n x m (natAbs-neg x) }
+
+    in-front : List·Memᴰ c (front F k)
+    in-front = front-kept F k f r y (other y j) c i j
+
+    unopposed : opposes (k .literals) c ≡ false
+    unopposed = to-false (λ t. let o = opposes-mem (k .literals) c t in d (o .0) (o .1) (negℤ (o .0)) (o .2) (sym (natAbs-neg (o .0))))
+
+    pub after-stands : (form : Form) → List·Memᴰ c (after-form form F k)
+    unfolding after-form
+    after-stands counter-form = Memᴰ·append-left (counter k) in-front
+    after-stands order-form =
+        ordered-mem k (front F k) before-order c in-front unopposed y j (other y j .not-in) (other y j .not-negated)
+
+    pub after-alone : (form : Form) (x : ℤ) → List·Memᴰ x c → times x F ≡ 1 → times x (after-form form F k) ≡ 1
+    unfolding after-form
+    after-alone counter-form x m e =
+        omega (arith, times-++ x (front F k) (counter k), times-none x (counter k) (counter-absent k (r .long) x (other x m)), front-other F k f r x (other x m))
+    after-alone order-form x m e =
+        omega (
+          arith,
+          ordered-times k (front F k) before-order x (other x m .small),
+          times-at x (after-stands order-form) m,
+          front-other F k f r x (other x m),
+        )
+
+-- ---- all choices
+
+-- a clause that can be taken where F stands, its literals in the order given
+pub record Choosable (order : Clause → Clause) (F : Formula) (c : Clause) : Type 0 where
+  pub proper : Proper c
+  pub order-proper : Proper (order c)
+  pub long : 2 ≤ length (order c)
+  pub standing : List·Memᴰ c F
+  pub same : Same (order c) c
+  pub alone : (x : ℤ) → List·Memᴰ x c → times x F ≡ 1
+
+abbrev pub Parted : List Clause → Type 0
+Parted [] = Unit {0}
+Parted (c ∷ cs) = ((d : Clause) → List·Memᴰ d cs → Disjoint c d) × Parted cs
+
+some-literal : (c d : Clause) → 2 ≤ length d → Same d c → (y : ℤ) × List·Memᴰ y c
+some-literal c [] h s = absurd (no h)
+  where
+    no : 2 ≤ 0 → ⊥
+    no h = omega arith
+some-literal c (y ∷ d) h s = (y, s .0 y (here refl))
+
+module _ (form : Form) (order : Clause → Clause) where
+  pub choices-sound : (n : ℕ) (F : Formula) (cs : List Clause) → Fits n F → ((c : Clause) → List·Memᴰ c cs → Choosable order F c) → Parted cs →
+      Sound F (choices-events form order n F cs) (lines (choices-events form order n F cs)) (after F (lines (choices-events form order n F cs))) [] × Known n (choices-events form order n F cs) F
+  unfolding choices-events below-new
+  choices-sound n F [] f q p = (none-written F, no-events n F)
+  choices-sound n F (c ∷ cs) f q p =
+      let ih = choices-sound (last-new k) E cs (after-fits F k f r form) next (p .1) in
+      let t = subst (λ (X : Formula). Sound F (es ++ more X) (lines es ++ lines (more X)) (after X (lines (more X))) [] × Known n (es ++ more X) F) (sym (after-events F k f r form)) (choice-sound F k f r form (ih .1) (ih .0)) in
+      rw (lines-++ es (more (after F (lines es))), after-++ F (lines es) (lines (more (after F (lines es))))) t
+    where
+      k : Choice
+      k = record { clause = c; literals = order c; below = n }
+
+      es : List Event
+      es = choice-events form F k
+
+      more : Formula → List Event
+      more X = choices-events form order (last-new k) X cs
+
+      w : Choosable order F c
+      w = q c (here refl)
+
+      r : Ready F k
+      r = record { proper = w .order-proper; proper-clause = w .proper; long = w .long; standing = w .standing; same = w .same; alone = λ x i. w .alone x (w .same .0 x i) }
+
+      E : Formula
+      E = after-form form F k
+
+      next : (d : Clause) → List·Memᴰ d cs → Choosable order E d
+      next d i =
+          let v = q d (there i) in
+          let y = some-literal d (order d) (v .long) (v .same) in
+          let apart : Disjoint (order c) d = λ x m z o. p .0 d i x (w .same .0 x m) z o in
+          record {
+            proper = v .proper;
+            order-proper = v .order-proper;
+            long = v .long;
+            standing = after-stands F k f r d (v .standing) (y .0) (y .1) apart form;
+            same = v .same;
+            alone = λ x m. after-alone F k f r d (v .standing) (y .0) (y .1) apart form x m (v .alone x m);
+          }

@@ -1,0 +1,3 @@
+pub mod Choices
+pub mod Log
+pub mod Demand3

@@ -1,0 +1,1 @@
+// The order form of a choice is sound, under proofs/; this crate has no function.

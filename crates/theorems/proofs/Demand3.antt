@@ -1,0 +1,44 @@
+-- Demand 3 holds.
+use mathlib.Core.Path.{_≡_, sym, subst}
+use mathlib.Core.Logic.{_↔_}
+use mathlib.Core.List.{List, []}
+use Prim.Native.Nat.{ℕ}
+use lib.Dec.{T}
+use lib.ListN.{take}
+use Rattle.definition.specs.Literals.{Clause, Formula}
+use Rattle.definition.specs.Reading.{Input, input-limits}
+use Rattle.definition.specs.Standing.{Line}
+use Rattle.definition.specs.Assignments.{Assignment, satisfies, Satisfiable, Exactly-one, carried-back}
+use Rattle.definition.specs.Events.{Choice, Event}
+use Rattle.definition.specs.Reencoding.{Settings, Goes-into, input, events, log, result}
+use Rattle.laws.proofs.Trues.{sat-satisfies, satisfies-sat}
+use Rattle.laws.proofs.Replay.{leads-cut, leads-replay}
+use Rattle.soundness.proofs.Sound.{Sound, sound-leads, Can, cut, exactly-one}
+use Rattle.round_trips.proofs.Accepted.{accepted}
+use Rattle.theorems.specs.Demand3.{standing, Demand-3, Demand-3-holds}
+use Rattle.theorems.proofs.Log.{log-sound}
+
+can-satisfiable : (f : Formula) → Can f → Satisfiable f
+can-satisfiable f s = record { by = s .0; holds = sat-satisfies (s .0) f (s .1) }
+
+satisfiable-can : (f : Formula) → Satisfiable f → Can f
+satisfiable-can f s = (s .by, satisfies-sat (s .by) f (s .holds))
+
+pub demand-3 : Demand-3-holds
+unfolding Demand-3-holds standing Exactly-one
+demand-3 t i e s = record {
+  found = λ j. leads-replay (leads-cut j (sound-leads sound));
+  equisatisfiable = λ j.
+      let c = cut sound j .equisatisfiable in (
+        λ q. can-satisfiable (input s i) (c .0 (satisfiable-can _ q)),
+        λ q. can-satisfiable _ (c .1 (satisfiable-can (input s i) q)),
+      );
+  back = λ j a q. sat-satisfies (carried-back a (take j (log s i))) (input s i) (cut sound j .back a (satisfies-sat a _ q));
+  exactly-one = λ a q c m k g. exactly-one sound a (satisfies-sat a (result s i) q) (λ d o. absurd (no (o .goes))) c (record { choice = k; goes = g });
+}
+  where
+    sound : Sound (input s i) (events s i) (log s i) (result s i) []
+    sound = let a = accepted input-limits t i e in log-sound s i (a .proper) (a .fits)
+
+    no : {k : Choice} {d : Clause} → Goes-into k [] d → ⊥
+    no g = elim g [ ]

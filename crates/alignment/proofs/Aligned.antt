@@ -13,7 +13,7 @@ use Rattle.definition.specs.Literals.{Clause, Formula, holds, repeated}
 use Rattle.definition.specs.Alignment.{computing, Wish, no-wish, alignment, choice-literals, Alignable, group, alignable, group-number, sorted, aligned, arranged}
 use Rattle.laws.proofs.Tests.{to-true, to-false, or-cases, or-l, or-r}
 use Rattle.laws.proofs.Members.{all-at, all-of, holds-mem, mem-holds, Same, Proper}
-use Rattle.alignment.proofs.Extra.{mem-for-each}
+use Rattle.laws.proofs.Loops.{mem-for-each}
 use Rattle.alignment.proofs.Groups.{chain-group, group-chain}
 use Rattle.alignment.proofs.Sorting.{Distinct, Rising, permuted-same, permuted-length, permuted-proper, sorted-permutes, sorted-rising}
 use Rattle.alignment.proofs.Numbers.{group-number-agrees}

@@ -11,7 +11,7 @@ use Rattle.definition.specs.Alignment.{choice-literals, linked, Chain, nothing,
 use Rattle.laws.proofs.Tests.{to-true, of-true, and-l, and-r, and-i}
 use Rattle.laws.proofs.Members.{any-mem, same-eq, same-refl, holds-mem, Same, same-set-same, same-joined}
 use Rattle.laws.proofs.Removal.{stands-same}
-use Rattle.alignment.proofs.Extra.{for-each-mem, mem-for-each, only-if-mem, mem-only-if}
+use Rattle.laws.proofs.Loops.{for-each-mem, mem-for-each, only-if-mem, mem-only-if}
 
 -- ---- links and chains, turned
 pair-turned : (x y : ℤ) → Same (x ∷ y ∷ []) (y ∷ x ∷ [])

@@ -1,4 +1,3 @@
-pub mod Extra
 pub mod Groups
 pub mod Sorting
 pub mod Numbers

@@ -15,15 +15,15 @@ use Rattle.definition.specs.Assignments.{Assignment, trues, make-true}
 use Rattle.definition.specs.Events.{Clash, Event}
 use Rattle.definition.specs.Clearing.{times, unique, resolvent, clash-lines}
 use Rattle.laws.proofs.Tests.{of-true, differ}
-use Rattle.laws.proofs.Members.{Same, Proper, Proper-all, proper-literal, proper-unopposed, Fits, natAbs-neg, holds-false, opposes-mem, mem-opposes}
+use Rattle.laws.proofs.Members.{Same, Proper, Proper-all, proper-literal, proper-unopposed, Fits, natAbs-neg, holds-false, opposes-mem, mem-opposes, Absent}
 use Rattle.laws.proofs.Trues.{negated, trues-cons, trues-at, trues-++, Sat, sat-right}
 use Rattle.laws.proofs.Removal.{Removed, takes, removed-++, removed-length, mem-removed, sat-less, sat-more, sat-of}
 use Rattle.laws.proofs.Replay.{Leads, ends, adds, dels, leads-after}
 use Rattle.soundness.proofs.Sound.{Sound}
-use Rattle.soundness.proofs.Rules.{Absent, Clear, stays, absent-stays, add-implied, del-first, del-blocked}
+use Rattle.soundness.proofs.Rules.{Clear, stays, absent-stays, add-implied, del-first, del-blocked}
 use Rattle.soundness.proofs.Times.{holds-yes, times-++, times-at, times-removed, none-times, unique-at, unique-some, at-unique, stays-in}
 use Rattle.soundness.proofs.Without.{without-mem, first-same, without-proper, first-proper, trues-order, Known, clear-absent, proper-++}
-use Rattle.clearing.proofs.Extra.{highest-le, Line-fits}
+use Rattle.laws.proofs.Fitting.{highest-le, Line-fits}
 
 -- ---- by true literals
 -- v ∷ a is deleted, then -v ∷ b: v and -v stand nowhere else, and where a is all false, b holds

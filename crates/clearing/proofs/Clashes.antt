@@ -22,7 +22,8 @@ use Rattle.laws.proofs.Trues.{Sat}
 use Rattle.laws.proofs.Replay.{after-++}
 use Rattle.soundness.proofs.Sound.{Into, Ones, Sound, weaken}
 use Rattle.soundness.proofs.Without.{Stands, Known}
-use Rattle.clearing.proofs.Extra.{none-some, first-some, first-none, first-from-none, first-from-some, highest-of-at, Line-fits}
+use Rattle.laws.proofs.Loops.{none-some, first-some, first-none, first-from-none, first-from-some}
+use Rattle.laws.proofs.Fitting.{highest-of-at, Line-fits}
 use Rattle.clearing.proofs.Clash.{Is-clash, literals-before, after-proper, after-fits, after-shorter, clash-sound, parents-one, clash-lines-fit}
 
 -- ---- the ULC in which a literal stands

@@ -7,7 +7,7 @@ use Rattle.definition.specs.Standing.{Line}
 use Rattle.definition.specs.Clearing.{clear-clashes, clear-pure}
 use Rattle.definition.specs.Reencoding.{lines, unclashed, cleared}
 use Rattle.laws.proofs.Members.{Proper-all, Fits}
-use Rattle.clearing.proofs.Extra.{Line-fits}
+use Rattle.laws.proofs.Fitting.{Line-fits}
 use Rattle.clearing.proofs.Clashes.{Clash-free, lowest-none, clears-lines-fit, clashes-clear, unclashed-proper, no-clash-left}
 use Rattle.clearing.proofs.Pure.{Eliminates, eliminates-mem, eliminates-lines-fit, pure-eliminates}
 use Rattle.clearing.proofs.Pass.{eliminates-free}

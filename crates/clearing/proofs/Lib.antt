@@ -1,4 +1,3 @@
-pub mod Extra
 pub mod Clash
 pub mod Clashes
 pub mod Scan

@@ -15,13 +15,14 @@ use Rattle.definition.specs.Events.{Event, pure-deleted}
 use Rattle.definition.specs.Clearing.{times, unique, pure, deletable, pure-literal, pure-lines, pure-next, clear-pure-from, clear-pure}
 use Rattle.definition.specs.Reencoding.{lines-of, lines, Goes-into, later}
 use Rattle.laws.proofs.Tests.{of-true, to-true, to-false}
-use Rattle.laws.proofs.Members.{Same, same-set-same, same-same-set, Proper-all, Fits, holds-false}
+use Rattle.laws.proofs.Members.{Same, same-set-same, same-same-set, Proper-all, Fits, holds-false, Absent}
 use Rattle.laws.proofs.Removal.{Removed, found, later as further, removed-take-out, mem-removed}
 use Rattle.soundness.proofs.Sound.{Into, Sound, weaken}
-use Rattle.soundness.proofs.Rules.{Absent, del-blocked}
+use Rattle.soundness.proofs.Rules.{del-blocked}
 use Rattle.soundness.proofs.Times.{holds-yes, times-++, times-cons, times-removed, none-times, unique-at, unique-some, at-unique}
 use Rattle.soundness.proofs.Without.{first-same, first-proper, Known, clear-absent}
-use Rattle.clearing.proofs.Extra.{none-some, first-some, highest-le, Line-fits}
+use Rattle.laws.proofs.Loops.{none-some, first-some}
+use Rattle.laws.proofs.Fitting.{highest-le, Line-fits}
 
 -- ---- what is found
 pub record Is-pure (F : Formula) (d : Clause) (l : ℤ) : Type 0 where

@@ -12,7 +12,8 @@ use Rattle.definition.specs.Standing.{after}
 use Rattle.definition.specs.Events.{Clash, Event, clash-cleared}
 use Rattle.definition.specs.Clearing.{clash-at, lowest-clash, clash-lines, clear-next, clear-up-to, clear-clashes}
 use Rattle.laws.proofs.Members.{Proper-all}
-use Rattle.clearing.proofs.Extra.{one-more, none-first-from, some-first-from, highest-of-at, highest-of-le}
+use Rattle.laws.proofs.Loops.{one-more, none-first-from, some-first-from}
+use Rattle.laws.proofs.Fitting.{highest-of-at, highest-of-le}
 use Rattle.clearing.proofs.Clash.{Is-clash, literals-before, after-proper, after-shorter, v-gone, ulc-before}
 use Rattle.clearing.proofs.Clashes.{clash-at-some, clash-at-none}
 

@@ -2,7 +2,7 @@
 use mathlib.Core.Path.{_≡_, refl, sym, _∙_}
 use mathlib.Core.Logic.{⊎-elim}
 use mathlib.Core.Bool.{Bool, true, false, cond, not}
-use mathlib.Core.List.{List, [], _∷_, _++_, List·Memᴰ, List·Memᴰ·head as here, List·Memᴰ·tail as there, List·Memᴰ·append-cases}
+use mathlib.Core.List.{[], _∷_, List·Memᴰ, List·Memᴰ·head as here, List·Memᴰ·tail as there, List·Memᴰ·append-cases}
 use Prim.Native.Nat.{ℕ, zero, suc, _+_}
 use native.Mathlib.Nat.{zero-add}
 use native.Mathlib.Numerals.{one-add}
@@ -16,11 +16,6 @@ use Rattle.laws.proofs.Removal.{Removed, found, later}
 use Rattle.soundness.proofs.Removals.{Removes, none-left, next, removes-join, Spread}
 
 -- ---- how many copies of a clause stand
-pub count-++ : {A : Type 0} (t : A → Bool) (xs ys : List A) → count t (xs ++ ys) ≡ count t xs + count t ys
-unfolding count
-count-++ t [] ys = omega arith
-count-++ t (x ∷ xs) ys = omega (arith, count-++ t xs ys)
-
 -- no clause is a copy
 not-copy : (p d : Clause) → (Same p d → ⊥) → same-set p d ≡ false
 not-copy p d n = to-false (λ t. n (same-set-same p d t))

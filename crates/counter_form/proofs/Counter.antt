@@ -24,7 +24,7 @@ use Rattle.soundness.proofs.Sound.{Into, Ones, Sound, nothing, sound-leads, wea
 use Rattle.soundness.proofs.Without.{trues-order, Stands, Known}
 use Rattle.soundness.proofs.Removals.{removes-++, mem-removes, del-all}
 use Rattle.counter_form.proofs.Ready.{Ready, Other}
-use Rattle.counter_form.proofs.Fitting.{Fit-all}
+use Rattle.laws.proofs.Fitting.{Fit-all}
 use Rattle.counter_form.proofs.Pairs.{pair-form, pair-literal, pairs-hold, pairs-most, missing-mem, missing-all}
 use Rattle.counter_form.proofs.Stages.{counter-one, pairs-added, counter-added}
 use Rattle.counter_form.proofs.CounterLiterals.{counter-by-literals, counter-absent}

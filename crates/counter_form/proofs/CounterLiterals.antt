@@ -9,12 +9,11 @@ use lib.ListN.{length, length-append}
 use Rattle.definition.specs.Literals.{Clause, Formula}
 use Rattle.definition.specs.Events.{Choice}
 use Rattle.definition.specs.Counter.{counter, last-new}
-use Rattle.laws.proofs.Members.{Same, Fit, Fits, far, turn}
-use Rattle.soundness.proofs.Rules.{Absent}
+use Rattle.laws.proofs.Members.{Same, Fit, Fits, far, turn, Absent}
 use Rattle.soundness.proofs.Written.{Each-literal, Every, every, every-++, of-literals, In-none, in-none}
 use Rattle.soundness.proofs.CounterClauses.{stage-2-from, stage-3-from, counter-from, counter-recursive}
 use Rattle.counter_form.proofs.Ready.{Other}
-use Rattle.counter_form.proofs.Fitting.{Fit-all, fit-neg, fit-pos, fit-negsuc, fit-up}
+use Rattle.laws.proofs.Fitting.{Fit-all, fit-neg, fit-pos, fit-negsuc, fit-up}
 
 -- ---- the first literal of each is a new one, so none is a clause of old literals
 abbrev First-above : ℕ → Formula → Type 0

@@ -11,15 +11,15 @@ use Rattle.definition.specs.Standing.{take-out}
 use Rattle.definition.specs.Events.{Choice}
 use Rattle.definition.specs.Clearing.{times}
 use Rattle.definition.specs.Counter.{pairs, missing-pairs, counter, copies, last-new}
-use Rattle.laws.proofs.Members.{Same, Fits, proper-unopposed, holds-false}
+use Rattle.laws.proofs.Members.{Same, Fits, proper-unopposed, holds-false, Absent}
 use Rattle.laws.proofs.Removal.{Removed, takes}
-use Rattle.soundness.proofs.Rules.{Absent}
 use Rattle.soundness.proofs.Times.{holds-yes, times-++, times-cons, times-none, none-times, times-removed}
 use Rattle.soundness.proofs.Removals.{Removes, next, times-removes, mem-removes, stay-in}
 use Rattle.counter_form.proofs.Ready.{Ready, Other}
-use Rattle.counter_form.proofs.Fitting.{Fit-all, fit-unneg}
+use Rattle.laws.proofs.Fitting.{Fit-all, fit-unneg}
 use Rattle.counter_form.proofs.Pairs.{Pair, pair-form, pair-literal, pairs-absent, missing-mem, pairs-spread}
-use Rattle.counter_form.proofs.Copies.{count-++, count-none, count-removed, drop-all, all-removed, copy-mem}
+use Rattle.laws.proofs.Loops.{count-++}
+use Rattle.counter_form.proofs.Copies.{count-none, count-removed, drop-all, all-removed, copy-mem}
 use Rattle.counter_form.proofs.CounterLiterals.{counter-new, counter-fits-own}
 
 -- the formula after stage 1, and the copies of pairs that stage 4 deletes

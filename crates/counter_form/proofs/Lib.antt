@@ -1,5 +1,4 @@
 pub mod Ready
-pub mod Fitting
 pub mod Pairs
 pub mod Stages
 pub mod Copies

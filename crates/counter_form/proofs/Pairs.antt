@@ -12,10 +12,9 @@ use Rattle.definition.specs.Standing.{stands}
 use Rattle.definition.specs.Assignments.{Assignment, true-in, trues}
 use Rattle.definition.specs.Counter.{pairs, missing-pairs}
 use Rattle.laws.proofs.Tests.{of-true, of-false, by-test}
-use Rattle.laws.proofs.Members.{Same, Proper, those-mem, mem-those, turn}
+use Rattle.laws.proofs.Members.{Same, Proper, those-mem, mem-those, turn, Absent}
 use Rattle.laws.proofs.Trues.{negated, Sat, sat-at, sat-all, sat-++, sat-left, sat-right}
 use Rattle.laws.proofs.Removal.{stands-removed, sat-of}
-use Rattle.soundness.proofs.Rules.{Absent}
 use Rattle.soundness.proofs.Removals.{Spread}
 
 -- ---- the pairs with one literal

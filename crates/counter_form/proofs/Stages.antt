@@ -11,14 +11,14 @@ use Rattle.definition.specs.Standing.{Line, addition}
 use Rattle.definition.specs.Assignments.{Assignment, true-in, trues, make-true}
 use Rattle.definition.specs.Events.{Event}
 use Rattle.laws.proofs.Tests.{bit≤1, bit-not}
-use Rattle.laws.proofs.Members.{Proper, proper-literal, proper-unopposed, Fit, Fits, natAbs-neg}
+use Rattle.laws.proofs.Members.{Proper, proper-literal, proper-unopposed, Fit, Fits, natAbs-neg, Absent}
 use Rattle.laws.proofs.Trues.{negated, keeps, unmoved, trues-at, Sat, sat-left, sat-right}
 use Rattle.laws.proofs.Removal.{Removed, split}
 use Rattle.soundness.proofs.Sound.{Sound}
-use Rattle.soundness.proofs.Rules.{Absent, negation-only, absent-stays, add-first, add-all}
+use Rattle.soundness.proofs.Rules.{negation-only, absent-stays, add-first, add-all}
 use Rattle.soundness.proofs.Written.{every}
 use Rattle.soundness.proofs.CounterClauses.{stage-2-from, stage-3-from, counter-from}
-use Rattle.counter_form.proofs.Fitting.{Fit-all, fit-neg, fit-pos, fit-negsuc, fit-up, fits-up, fits-++, above}
+use Rattle.laws.proofs.Fitting.{Fit-all, fit-neg, fit-pos, fit-negsuc, fit-up, fits-up, fits-++, above}
 use Rattle.counter_form.proofs.Pairs.{Pair, pair-literal}
 
 -- ---- the counter clauses say: exactly one

@@ -1,5 +1,9 @@
 pub mod Tests
+pub mod Loops
 pub mod Members
+pub mod Clauses
+pub mod Fitting
 pub mod Trues
 pub mod Removal
 pub mod Replay
+pub mod Outcomes

@@ -53,6 +53,18 @@ module _ {A : Type 0} where
       go false e (here q) ih = differ t (ap p q ∙ e)
       go false e (there j) ih = ih j
 
+-- tests that agree on the members of a list
+module _ {A : Type 0} (p q : A → Bool) where
+  pub any-same : (xs : List A) → ((x : A) → List·Memᴰ x xs → p x ≡ q x) → any p xs ≡ any q xs
+  unfolding any
+  any-same [] h = refl
+  any-same (x ∷ xs) h = rw (h x (here refl), any-same xs (λ y i. h y (there i)))
+
+  pub all-same : (xs : List A) → ((x : A) → List·Memᴰ x xs → p x ≡ q x) → all p xs ≡ all q xs
+  unfolding all
+  all-same [] h = refl
+  all-same (x ∷ xs) h = rw (h x (here refl), all-same xs (λ y i. h y (there i)))
+
 -- ---- literals
 pub same-eq : (l m : ℤ) → T (same l m) → l ≡ m
 unfolding same
@@ -185,3 +197,7 @@ Fit h x = (x ≢ pos 0) × (natAbs x ≤ h)
 
 abbrev pub Fits : ℕ → Formula → Type 0
 Fits h f = (d : Clause) → List·Memᴰ d f → (x : ℤ) → List·Memᴰ x d → Fit h x
+
+-- no clause holds the literal
+abbrev pub Absent : ℤ → Formula → Type 0
+Absent l F = (d : Clause) → List·Memᴰ d F → List·Memᴰ l d → ⊥

@@ -12,6 +12,7 @@ use Rattle.definition.specs.Lists.{bit, any, all, count}
 use Rattle.definition.specs.Literals.{Clause, Formula}
 use Rattle.definition.specs.Assignments.{Assignment, true-in, has-true, satisfies, trues, sign, make-true}
 use Rattle.laws.proofs.Tests.{and-l, and-r, and-i, bit≤1, bit-not}
+use Rattle.laws.proofs.Members.{any-same, all-same, Fit, Fits}
 
 pub trues-nil : (σ : Assignment) → trues σ [] ≡ 0
 unfolding trues count
@@ -159,3 +160,15 @@ sat-left σ (c ∷ F) G s = (s .0, sat-left σ F G (s .1))
 pub sat-right : (σ : Assignment) (F G : Formula) → Sat σ (F ++ G) → Sat σ G
 sat-right σ [] G s = s
 sat-right σ (c ∷ F) G s = sat-right σ F G (s .1)
+
+-- the same values for 1..v satisfy the same formulas of these variables
+same-values : (v : ℕ) (a b : Assignment) → ((x : ℕ) → 1 ≤ x → x ≤ v → a x ≡ b x) → (l : ℤ) → Fit v l → true-in a l ≡ true-in b l
+unfolding true-in
+same-values v a b h (pos zero) f = absurd (f .0 refl)
+same-values v a b h (pos (suc n)) f = h (suc n) (omega arith) (f .1)
+same-values v a b h (negsuc n) f = ap not (h (suc n) (omega arith) (f .1))
+
+pub satisfies-same : (v : ℕ) (a b : Assignment) (f : Formula) → Fits v f → ((x : ℕ) → 1 ≤ x → x ≤ v → a x ≡ b x) → satisfies a f ≡ satisfies b f
+unfolding satisfies has-true
+satisfies-same v a b f fits h =
+    all-same (any (true-in a)) (any (true-in b)) f (λ c i. any-same (true-in a) (true-in b) c (λ l j. same-values v a b h l (fits c i l j)))

@@ -11,13 +11,13 @@ use Rattle.definition.specs.Standing.{Line, deletion}
 use Rattle.definition.specs.Assignments.{Assignment, true-in, trues, make-true}
 use Rattle.definition.specs.Events.{Choice, Event}
 use Rattle.laws.proofs.Tests.{bit-not}
-use Rattle.laws.proofs.Members.{Proper, own, far, turn, natAbs-neg}
+use Rattle.laws.proofs.Members.{Proper, own, far, turn, natAbs-neg, Absent}
 use Rattle.laws.proofs.Trues.{unmoved, trues-cons, trues-same, hit-in, Sat}
 use Rattle.soundness.proofs.Sound.{Sound}
-use Rattle.soundness.proofs.Rules.{Absent, Clear, negation-only, del-first, del-blocked}
+use Rattle.soundness.proofs.Rules.{Clear, negation-only, del-first, del-blocked}
 use Rattle.soundness.proofs.Removals.{Removes, none-left, next, removes-split, each-of, absent-before}
 use Rattle.soundness.proofs.Written.{Every, every, In-none, in-none}
-use Rattle.order_form.proofs.Recursive.{Well-formed, Written, written, link-deletions, deletions-from, deletions, deletions-recursive}
+use Rattle.order_form.proofs.Recursive.{Well-formed, Written, written, link-deletions, deletions-from, deletions, deletions-is}
 
 -- ---- one literal: the clause with it, then those with its negation
 abbrev pub each-first : ℤ → List Clause → Formula
@@ -151,14 +151,14 @@ module _ (k : Choice) (u : Well-formed k) where
   pub literals-deleted-sound : {F G H : Formula} {K L : List Event} {xs : List Line} → Gone (k .literals) G → Clear-all (k .literals) K →
       Removes F (deletions k) G → Sound G K xs H L → Sound F K (map deletion (deletions k) ++ xs) H L
   literals-deleted-sound {F} {G} {H} {K} {L} {xs} g q r s =
-      let e = deletions-recursive k (w .one) (w .two) (w .others) (w .are) in
+      let e = deletions-is w in
       subst (λ (D : Formula). Sound F K (map deletion D ++ xs) H L) (sym e)
       (deletions-sound (k .below) (w .one) (w .two) (w .others) (subst Proper (w .are) (u .proper)) (subst (Below (k .below)) (w .are) (λ x i. u .fit x i .1))
       (subst (λ (c : Clause). Gone c G) (w .are) g) (subst (λ (c : Clause). Clear-all c K) (w .are) q) (subst (λ (D : Formula). Removes F D G) e r) s)
 
   pub deletions-absent : (x : ℤ) → natAbs x ≤ k .below → (List·Memᴰ x (k .literals) → ⊥) → (List·Memᴰ (negℤ x) (k .literals) → ⊥) → Absent x (deletions k)
   deletions-absent x b n p =
-      subst (Absent x) (sym (deletions-recursive k (w .one) (w .two) (w .others) (w .are)))
+      subst (Absent x) (sym (deletions-is w))
       (deletions-from-absent (subst (λ (c : Clause). List·Memᴰ x c → ⊥) (w .are) n) (subst (λ (c : Clause). List·Memᴰ (negℤ x) c → ⊥) (w .are) p))
     where
       deletions-from-absent : (List·Memᴰ x (w .one ∷ w .two ∷ w .others) → ⊥) → (List·Memᴰ (negℤ x) (w .one ∷ w .two ∷ w .others) → ⊥) →

@@ -2,7 +2,7 @@
 use mathlib.Core.Path.{_≡_, refl, sym, ap, subst}
 use mathlib.Core.Logic.{⊎-elim}
 use mathlib.Core.List.{[], _∷_, _++_, List·Memᴰ, List·Memᴰ·head as here, List·Memᴰ·tail as there, List·Memᴰ·append-cases, Memᴰ·append-left, Memᴰ·append-right, List·Memᴰ·not-nil}
-use Prim.Native.Nat.{ℕ, suc, _+_, _-_, _≤_, _<_}
+use Prim.Native.Nat.{ℕ, suc, _+_, _≤_, _<_}
 use native.Mathlib.Decide.{ℕ-discrete}
 use native.Mathlib.Omega.{arith}
 use lib.IntN.{ℤ, pos, negsuc, negℤ, negℤ-negℤ, natAbs}
@@ -12,13 +12,13 @@ use Rattle.definition.specs.Literals.{Clause, Formula}
 use Rattle.definition.specs.Clearing.{times}
 use Rattle.definition.specs.Events.{Choice}
 use Rattle.definition.specs.Counter.{last-new, counter}
-use Rattle.laws.proofs.Members.{Same, Proper, Fits, own, far, natAbs-neg, holds-false}
+use Rattle.laws.proofs.Members.{Same, Proper, own, far, natAbs-neg, holds-false}
 use Rattle.soundness.proofs.Times.{times-++, holds-same}
 use Rattle.soundness.proofs.Removals.{Removes, Spread, Found-all, found-mono, take-all, removes-exist}
 use Rattle.soundness.proofs.Without.{Stands}
 use Rattle.soundness.proofs.Written.{In-none, not-in, in-none}
-use Rattle.soundness.proofs.CounterClauses.{stage-2-from, stage-3-from, counter-from, counter-recursive}
-use Rattle.order_form.proofs.Recursive.{Well-formed, Written, written, link-deletions, deletions-from, deletions, deletions-recursive}
+use Rattle.soundness.proofs.CounterClauses.{stage-2-from, stage-3-from, counter-from}
+use Rattle.order_form.proofs.Recursive.{Well-formed, Written, written, link-deletions, deletions-from, deletions, deletions-is, counter-is}
 use Rattle.order_form.proofs.Deletions.{Below, strange}
 
 -- ---- the same literals in another order
@@ -163,16 +163,16 @@ module _ (k : Choice) (u : Well-formed k) where
   pub removes-deletions : (A B : Formula) → Removes (A ++ (counter k ++ B)) (deletions k) (take-all (A ++ (counter k ++ B)) (deletions k))
   removes-deletions A B =
       removes-exist (deletions k) (A ++ (counter k ++ B))
-      (subst Spread (sym (deletions-recursive k (w .one) (w .two) (w .others) (w .are))) (deletions-spread (k .below) (w .one) (w .two) (w .others) (subst Proper (w .are) (u .proper)) (subst (Below (k .below)) (w .are) (λ x i. u .fit x i .1))))
+      (subst Spread (sym (deletions-is w)) (deletions-spread (k .below) (w .one) (w .two) (w .others) (subst Proper (w .are) (u .proper)) (subst (Below (k .below)) (w .are) (λ x i. u .fit x i .1))))
       (found-mono (deletions k) (counter k) (A ++ (counter k ++ B)) (λ e i. Memᴰ·append-right A (Memᴰ·append-left B i))
-      (rw (deletions-recursive k (w .one) (w .two) (w .others) (w .are), counter-recursive k (w .one) (w .two) (w .others) (w .are)) (deletions-found (k .below) (w .one) (w .two) (w .others))))
+      (rw (deletions-is w, counter-is w) (deletions-found (k .below) (w .one) (w .two) (w .others))))
 
   pub counter-times : (x : ℤ) → natAbs x ≤ k .below → times x (counter k) ≡ times x (deletions k)
   counter-times x b =
-      rw (deletions-recursive k (w .one) (w .two) (w .others) (w .are), counter-recursive k (w .one) (w .two) (w .others) (w .are)) (deletions-times x (k .below) (w .one) (w .two) (w .others) b)
+      rw (deletions-is w, counter-is w) (deletions-times x (k .below) (w .one) (w .two) (w .others) b)
 
   pub counter-stands : (n : ℕ) → k .below < n → n ≤ last-new k → Stands n (counter k)
   unfolding last-new
   counter-stands n lo hi =
       let r = stage-3-new n (k .below) (w .two) (w .others) lo (omega (arith, ap length (w .are))) in
-      rw (counter-recursive k (w .one) (w .two) (w .others) (w .are)) (r .0, there (there (Memᴰ·append-right (stage-2-from (k .below) (w .two ∷ w .others)) (r .1))), r .2, r .3, r .4)
+      rw (counter-is w) (r .0, there (there (Memᴰ·append-right (stage-2-from (k .below) (w .two ∷ w .others)) (r .1))), r .2, r .3, r .4)

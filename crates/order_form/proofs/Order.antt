@@ -18,16 +18,16 @@ use Rattle.definition.specs.Counter.{last-new, counter}
 use Rattle.definition.specs.Order.{replaced, replace, order-events, literal-deletions}
 use Rattle.definition.specs.Reencoding.{Goes-into, later, lines-of, lines}
 use Rattle.laws.proofs.Tests.{differ}
-use Rattle.laws.proofs.Members.{Fit, Fits, natAbs-neg, mem-opposes}
+use Rattle.laws.proofs.Members.{Fit, Fits, natAbs-neg, mem-opposes, Absent}
 use Rattle.laws.proofs.Replay.{leads-after}
 use Rattle.soundness.proofs.Sound.{Into, Sound, nothing, sound-leads, weaken}
-use Rattle.soundness.proofs.Rules.{Absent}
 use Rattle.soundness.proofs.Times.{times-++, times-none, none-times}
 use Rattle.soundness.proofs.Without.{Stands, Known, clear-absent}
 use Rattle.soundness.proofs.Removals.{Removes, take-all, times-removes, mem-removes, stay-in}
 use Rattle.order_form.proofs.Recursive.{Well-formed, deletions}
-use Rattle.order_form.proofs.Extra.{for-each-++}
-use Rattle.order_form.proofs.Fitting.{fit-up, fits-up, fits-++, counter-fits-own}
+use Rattle.laws.proofs.Loops.{for-each-++}
+use Rattle.laws.proofs.Fitting.{fit-up, fits-up, fits-++}
+use Rattle.counter_form.proofs.CounterLiterals.{counter-fits-own}
 use Rattle.order_form.proofs.Replace.{replaced-literal}
 use Rattle.order_form.proofs.Deletions.{Gone, literals-deleted-sound, deletions-absent}
 use Rattle.order_form.proofs.Found.{removes-deletions, counter-times, counter-stands}

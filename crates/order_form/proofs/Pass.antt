@@ -23,7 +23,7 @@ use Rattle.soundness.proofs.Sound.{Ones, Sound, weaken}
 use Rattle.soundness.proofs.Rules.{add-implied, del-implied}
 use Rattle.soundness.proofs.Times.{holds-bit, times-nil, times-cons}
 use Rattle.soundness.proofs.Without.{Stands, Known}
-use Rattle.order_form.proofs.Extra.{for-each-mem, only-if-mem}
+use Rattle.laws.proofs.Loops.{for-each-mem, only-if-mem}
 use Rattle.order_form.proofs.Recursive.{Well-formed}
 use Rattle.order_form.proofs.Replace.{New, opposed-trues, replaced-trues, replaced-literal}
 

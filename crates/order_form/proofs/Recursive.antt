@@ -12,9 +12,9 @@ use borrow.Author.Tests.{lt-ltb, le-ltb}
 use Rattle.definition.specs.Lists.{only-if, for-each, for-from}
 use Rattle.definition.specs.Literals.{Clause, Formula, same}
 use Rattle.definition.specs.Events.{Choice}
-use Rattle.definition.specs.Counter.{size, lit, new}
+use Rattle.definition.specs.Counter.{counter, size, lit, new}
 use Rattle.laws.proofs.Members.{Proper, Fit}
-use Rattle.soundness.proofs.CounterClauses.{From, from-next, from-literal, from-new, from-previous, from-second, full-size}
+use Rattle.soundness.proofs.CounterClauses.{counter-from, counter-recursive, From, from-next, from-literal, from-new, from-previous, from-second, full-size}
 use Rattle.definition.specs.Order.{place-from, previous, negated-new, instead-of, replaced, deletions-of}
 
 -- a choice of two or more literals, all of its variables before the new ones
@@ -141,7 +141,7 @@ module _ (k : Choice) (l m : ℤ) (c : Clause) (e : k .literals ≡ l ∷ m ∷ 
       go true ih = first-negated
       go false ih = ih
 
-  pub replaced-recursive : (d : Clause) → replaced k d ≡ replaced-from (k .below) l (m ∷ c) d
+  replaced-recursive : (d : Clause) → replaced k d ≡ replaced-from (k .below) l (m ∷ c) d
   unfolding replaced for-each
   replaced-recursive [] = refl
   replaced-recursive (x ∷ d) = rw (instead-recursive x, replaced-recursive d)
@@ -150,8 +150,19 @@ module _ (k : Choice) (l m : ℤ) (c : Clause) (e : k .literals ≡ l ∷ m ∷ 
   unfolding deletions-of previous only-if new lit
   first-deletions = rw (first-negated, lt-ltb 1 (size k) enough, add-one (k .below), e)
 
-  pub deletions-recursive : deletions k ≡ deletions-from (k .below) l (m ∷ c)
+  deletions-recursive : deletions k ≡ deletions-from (k .below) l (m ∷ c)
   unfolding for-from
   deletions-recursive =
       let s : size k ≡ suc (suc (length c)) = omega (arith, full-size k l m c e) in
       rw (s, first-deletions, links-deleted k 0 (k .below) (m ∷ c) (omega (arith, full-size k l m c e)) (from-second k l m c e))
+
+-- by the literals written out
+module _ {k : Choice} (w : Written k) where
+  pub counter-is : counter k ≡ counter-from (k .below) (w .one) (w .two ∷ w .others)
+  counter-is = counter-recursive k (w .one) (w .two) (w .others) (w .are)
+
+  pub replaced-is : (d : Clause) → replaced k d ≡ replaced-from (k .below) (w .one) (w .two ∷ w .others) d
+  replaced-is = replaced-recursive k (w .one) (w .two) (w .others) (w .are)
+
+  pub deletions-is : deletions k ≡ deletions-from (k .below) (w .one) (w .two ∷ w .others)
+  deletions-is = deletions-recursive k (w .one) (w .two) (w .others) (w .are)

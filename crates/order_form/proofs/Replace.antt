@@ -16,8 +16,8 @@ use Rattle.definition.specs.Order.{replaced}
 use Rattle.laws.proofs.Tests.{of-true, bit-not}
 use Rattle.laws.proofs.Members.{same-eq, unlike, turn, Proper, opposes-mem}
 use Rattle.laws.proofs.Trues.{negated, trues-++, trues-at, Sat, sat-left, sat-right}
-use Rattle.soundness.proofs.CounterClauses.{stage-2-from, stage-3-from, counter-from, counter-recursive}
-use Rattle.order_form.proofs.Recursive.{Well-formed, Written, written, link-instead, instead-from, replaced-from, replaced-recursive}
+use Rattle.soundness.proofs.CounterClauses.{stage-2-from, stage-3-from, counter-from}
+use Rattle.order_form.proofs.Recursive.{Well-formed, Written, written, link-instead, instead-from, replaced-from, replaced-is, counter-is}
 
 -- the negation of a literal is looked for
 negation-of : (x m : ℤ) → same (negℤ x) m ≡ true → x ≡ negℤ m
@@ -116,11 +116,11 @@ module _ (k : Choice) (u : Well-formed k) where
 
   pub replaced-trues : (σ : Assignment) → Sat σ (counter k) → (d : Clause) → trues σ (replaced k d) ≡ trues σ d
   replaced-trues σ s d =
-      rw (replaced-recursive k (w .one) (w .two) (w .others) (w .are) d)
-      (replaced-from-trues σ (k .below) (w .one) (w .two) (w .others) (subst Proper (w .are) (u .proper)) (subst (Sat σ) (counter-recursive k (w .one) (w .two) (w .others) (w .are)) s) d)
+      rw (replaced-is w d)
+      (replaced-from-trues σ (k .below) (w .one) (w .two) (w .others) (subst Proper (w .are) (u .proper)) (subst (Sat σ) (counter-is w) s) d)
 
   pub replaced-literal : (d : Clause) (z : ℤ) → List·Memᴰ z (replaced k d) → (List·Memᴰ z d × No-negated (k .literals) z) ⊎ New (k .below) (last-new k) z
   unfolding last-new
   replaced-literal d z i =
       ⊎-elim (λ p. inl (p .0, rw (w .are) (p .1))) (λ p. inr (p .0, omega (arith, p .1, ap length (w .are))))
-      (replaced-mem (k .below) (w .one) (w .two) (w .others) d z (subst (List·Memᴰ z) (replaced-recursive k (w .one) (w .two) (w .others) (w .are) d) i))
+      (replaced-mem (k .below) (w .one) (w .two) (w .others) d z (subst (List·Memᴰ z) (replaced-is w d) i))

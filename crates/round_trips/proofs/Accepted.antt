@@ -14,10 +14,10 @@ use Rattle.definition.specs.Checked.{value, or-fault, through}
 use Rattle.definition.specs.Literals.{Formula, holds, literals-of}
 use Rattle.definition.specs.Text.{Bytes, TextLine, number, natural, fields, line-text, past-comments, text-lines}
 use Rattle.definition.specs.Reading.{Limits, Input, Header, Reader, read-header-fields, read-header-line, read-header, read-literal, end-clause, read-word, end-text, read-clauses, read-formula}
-use Rattle.laws.proofs.Tests.{differ}
+use Rattle.laws.proofs.Tests.{differ, or-false-both}
 use Rattle.laws.proofs.Members.{mem-holds, Proper, Proper-all, Fit, Fits}
-use Rattle.round_trips.proofs.Extra.{or-false-both, literals-snoc, members-snoc, proper-snoc}
-use Rattle.round_trips.proofs.Outcomes.{fault-value, value-same, refuse-value, bind-value, through-keeps}
+use Rattle.laws.proofs.Clauses.{literals-snoc, members-snoc, proper-snoc}
+use Rattle.laws.proofs.Outcomes.{fault-value, value-same, refuse-value, bind-value, through-keeps}
 
 -- ---- between two words
 record Reads (most : Limits) (v c : ℕ) (r : Reader) : Type 0 where

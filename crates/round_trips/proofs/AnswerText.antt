@@ -18,10 +18,11 @@ use Rattle.definition.specs.Answer.{Answer, begins-with, space-or-tab, read-ans
 use Rattle.definition.specs.Calls.{assigned, answer-text}
 use Rattle.laws.proofs.Tests.{to-true}
 use Rattle.laws.proofs.Members.{natAbs-neg, mem-holds, holds-false, Proper, proper-unopposed, Fit, Fits}
-use Rattle.round_trips.proofs.Extra.{natAbs-zero, satisfies-same}
+use Rattle.laws.proofs.Clauses.{natAbs-zero}
+use Rattle.laws.proofs.Trues.{satisfies-same}
 use Rattle.round_trips.proofs.Digits.{number-literal}
 use Rattle.round_trips.proofs.Words.{Free, first-line, no-last-cr}
-use Rattle.round_trips.proofs.Outcomes.{through-++}
+use Rattle.laws.proofs.Outcomes.{through-++}
 use Rattle.round_trips.proofs.ClauseText.{Outside, newline-outside, return-outside, space-or-tab-outside, literals-text, literal-words, clause-words, clause-line, clause-line-free, words-clause-line, literals-through}
 
 -- the literals that are true, of the n variables from i

@@ -16,7 +16,7 @@ use Rattle.definition.specs.Text.{Bytes, bytes, is, blank, words-by, words, fie
 use Rattle.definition.specs.Log.{clause-text}
 use Rattle.definition.specs.Answer.{space-or-tab}
 use Rattle.laws.proofs.Members.{Proper, Fit}
-use Rattle.round_trips.proofs.Extra.{proper-apart}
+use Rattle.laws.proofs.Clauses.{proper-apart}
 use Rattle.round_trips.proofs.Digits.{literal-between, literal-some}
 use Rattle.round_trips.proofs.Words.{Free, free-++, between-free, first-word, only-word, first-field, only-field}
 

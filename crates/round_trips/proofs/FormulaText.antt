@@ -16,8 +16,8 @@ use Rattle.definition.specs.Text.{Bytes, bytes, is, line-text, past-comments, a
 use Rattle.definition.specs.Log.{clause-text, formula-text}
 use Rattle.definition.specs.Reading.{Limits, Reader, read-header-fields, read-header-line, read-header, read-literal, end-clause, read-word, end-text, read-clauses, read-formula}
 use Rattle.laws.proofs.Members.{holds-false, Proper, Proper-all, Fit, Fits}
-use Rattle.round_trips.proofs.Extra.{literals-snoc, natAbs-zero}
-use Rattle.round_trips.proofs.Outcomes.{through-++}
+use Rattle.laws.proofs.Clauses.{literals-snoc, natAbs-zero}
+use Rattle.laws.proofs.Outcomes.{through-++}
 use Rattle.round_trips.proofs.Digits.{natural-digits, number-literal}
 use Rattle.round_trips.proofs.Words.{Free, free-++, any-free, first-field, only-field, first-line, no-last-cr, past-line}
 use Rattle.round_trips.proofs.ClauseText.{Outside, blank-outside, newline-outside, return-outside, digits-free, literal-words, clause-words, words-clause-text, literals-through}

@@ -1,6 +1,4 @@
-pub mod Extra
 pub mod Digits
-pub mod Outcomes
 pub mod Accepted
 pub mod Words
 pub mod ClauseText

@@ -17,7 +17,7 @@ use Rattle.definition.specs.Standing.{Line, addition, deletion, literals}
 use Rattle.definition.specs.Log.{log-line-text, log-text}
 use Rattle.definition.specs.LogReading.{with-literal, read-line-clause, line-clause-allowed, allowed-clause, read-line-fields, read-line, read-log}
 use Rattle.laws.proofs.Members.{Proper}
-use Rattle.round_trips.proofs.Extra.{natAbs-zero, proper-unrepeated, proper-not-opposed}
+use Rattle.laws.proofs.Clauses.{natAbs-zero, proper-unrepeated, proper-not-opposed}
 use Rattle.round_trips.proofs.Digits.{Between, number-literal, literal-between}
 use Rattle.round_trips.proofs.Words.{Free, first-field, first-line}
 use Rattle.round_trips.proofs.ClauseText.{newline-outside, literal-words, clause-words, clause-line, clause-text-line, fields-clause-line, clause-line-free}

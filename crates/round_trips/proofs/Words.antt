@@ -8,7 +8,7 @@ use native.Mathlib.Omega.{arith}
 use lib.ListN.{length, drop}
 use Rattle.definition.specs.Lists.{any}
 use Rattle.definition.specs.Text.{Bytes, is, add-part, parts, words-by, longer, text-lines, without-last-cr, fields-from, fields}
-use Rattle.round_trips.proofs.Extra.{or-false-both}
+use Rattle.laws.proofs.Tests.{or-false-both}
 use Rattle.round_trips.proofs.Digits.{Between}
 
 -- no byte passes the test

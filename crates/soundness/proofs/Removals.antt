@@ -10,11 +10,11 @@ use Rattle.definition.specs.Standing.{Line, deletion, take-out}
 use Rattle.definition.specs.Assignments.{Assignment}
 use Rattle.definition.specs.Events.{Event}
 use Rattle.definition.specs.Clearing.{times}
-use Rattle.laws.proofs.Members.{Same}
+use Rattle.laws.proofs.Members.{Same, Absent}
 use Rattle.laws.proofs.Trues.{Sat}
 use Rattle.laws.proofs.Removal.{Removed, removed-++, mem-removed, split, takes, sat-less}
 use Rattle.soundness.proofs.Sound.{Sound}
-use Rattle.soundness.proofs.Rules.{Absent, del-implied}
+use Rattle.soundness.proofs.Rules.{del-implied}
 use Rattle.soundness.proofs.Times.{times-nil, times-cons, times-removed, stays-in}
 
 -- the clauses D are taken out of F one after the other, which leaves G

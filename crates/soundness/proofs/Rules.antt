@@ -12,7 +12,7 @@ use Rattle.definition.specs.Standing.{Line, addition, deletion}
 use Rattle.definition.specs.Assignments.{Assignment, has-true, trues, make-true, repaired}
 use Rattle.definition.specs.Events.{Event}
 use Rattle.laws.proofs.Tests.{of-true, differ}
-use Rattle.laws.proofs.Members.{holds-mem, mem-holds}
+use Rattle.laws.proofs.Members.{holds-mem, mem-holds, Absent}
 use Rattle.laws.proofs.Trues.{made, keeps, unmoved, trues-mono, trues-same, has-trues, trues-has, Sat, sat-at, sat-all, sat-++, sat-left}
 use Rattle.laws.proofs.Removal.{Removed, sat-more}
 use Rattle.soundness.proofs.Sound.{Into, Ones, Sound, adding, deleting}
@@ -42,10 +42,7 @@ pub first-true : (l : ℤ) (c : Clause) (σ : Assignment) → 1 ≤ trues (make-
 unfolding trues count
 first-true l c σ = omega (arith, made l σ)
 
--- ---- no clause holds the literal; no clause that goes into a choice holds its variable
-abbrev pub Absent : ℤ → Formula → Type 0
-Absent l F = (d : Clause) → List·Memᴰ d F → List·Memᴰ l d → ⊥
-
+-- ---- no clause that goes into a choice holds the literal's variable
 abbrev pub Clear : ℤ → List Event → Type 0
 Clear l K = (d : Clause) → Into K d → (m : ℤ) → List·Memᴰ m d → natAbs m ≢ natAbs l
 

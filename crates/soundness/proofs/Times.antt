@@ -13,10 +13,8 @@ use Rattle.definition.specs.Lists.{bit, count}
 use Rattle.definition.specs.Literals.{Clause, Formula, holds}
 use Rattle.definition.specs.Clearing.{times, unique}
 use Rattle.laws.proofs.Tests.{to-true, of-true, bit≤1, and-l, and-r, and-i}
-use Rattle.laws.proofs.Members.{holds-mem, mem-holds, holds-false, all-at, all-of, Same}
+use Rattle.laws.proofs.Members.{holds-mem, mem-holds, holds-false, all-at, all-of, Same, same-set-same, Absent}
 use Rattle.laws.proofs.Removal.{Removed, found, later, split}
-use Rattle.laws.proofs.Members.{same-set-same}
-use Rattle.soundness.proofs.Rules.{Absent}
 
 pub holds-yes : (x : ℤ) (c : Clause) → List·Memᴰ x c → holds x c ≡ true
 holds-yes x c m = to-true (mem-holds x c m)

@@ -11,9 +11,9 @@ use Rattle.definition.specs.Literals.{Clause, Formula, same, without, with-firs
 use Rattle.definition.specs.Assignments.{Assignment, true-in, trues}
 use Rattle.definition.specs.Events.{Event}
 use Rattle.laws.proofs.Tests.{of-true, not-true, of-false, by-test}
-use Rattle.laws.proofs.Members.{same-eq, unlike, those-mem, mem-those, Within, Same, Proper, proper-literal, proper-unopposed, same-variable}
+use Rattle.laws.proofs.Members.{same-eq, unlike, those-mem, mem-those, Within, Same, Proper, proper-literal, proper-unopposed, same-variable, Absent}
 use Rattle.soundness.proofs.Sound.{Into}
-use Rattle.soundness.proofs.Rules.{Absent, Clear}
+use Rattle.soundness.proofs.Rules.{Clear}
 
 pub without-mem : (v : ℤ) (c : Clause) (x : ℤ) → List·Memᴰ x (without v c) → List·Memᴰ x c × (x ≢ v)
 unfolding without

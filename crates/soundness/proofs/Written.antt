@@ -4,7 +4,7 @@ use mathlib.Core.Logic.{_≢_}
 use mathlib.Core.List.{[], _∷_, _++_, List·Memᴰ, List·Memᴰ·head as here, List·Memᴰ·tail as there}
 use lib.IntN.{ℤ}
 use Rattle.definition.specs.Literals.{Clause, Formula}
-use Rattle.soundness.proofs.Rules.{Absent}
+use Rattle.laws.proofs.Members.{Absent}
 
 -- every literal of a clause, of every clause
 abbrev pub Each-literal : (ℤ → Type 0) → Clause → Type 0

@@ -1,7 +1,7 @@
 -- All choices, in either form: every line is sound.
-use mathlib.Core.Path.{_≡_, refl, sym, _∙_, ap, subst}
+use mathlib.Core.Path.{_≡_, refl, sym, _∙_, subst}
 use mathlib.Core.Logic.{_≢_}
-use mathlib.Core.Bool.{Bool, true, false}
+use mathlib.Core.Bool.{false}
 use mathlib.Core.List.{List, [], _∷_, _++_, append-assoc, append-nil, List·Memᴰ, List·Memᴰ·head as here, List·Memᴰ·tail as there, Memᴰ·append-left}
 use Prim.Native.Nat.{ℕ, _≤_}
 use native.Mathlib.Omega.{arith}
@@ -17,12 +17,13 @@ use Rattle.definition.specs.Order.{order-events}
 use Rattle.definition.specs.Reencoding.{lines-of, lines, Form, counter-form, order-form, choice-events, choices-events, Goes-into}
 use Rattle.laws.proofs.Tests.{to-false}
 use Rattle.laws.proofs.Members.{Same, Proper, Fits, natAbs-neg, opposes-mem}
+use Rattle.laws.proofs.Loops.{for-each-++}
 use Rattle.laws.proofs.Replay.{after-++}
-use Rattle.soundness.proofs.Sound.{Into, Sound, nothing}
+use Rattle.soundness.proofs.Sound.{Sound, nothing}
 use Rattle.soundness.proofs.Times.{times-++, times-none, times-at}
 use Rattle.soundness.proofs.Without.{Known}
 use Rattle.counter_form.proofs.Ready.{Ready, Other}
-use Rattle.counter_form.proofs.Fitting.{fits-up, fits-++}
+use Rattle.laws.proofs.Fitting.{fits-up, fits-++}
 use Rattle.counter_form.proofs.CounterLiterals.{counter-absent}
 use Rattle.counter_form.proofs.Front.{front, own-fit, front-own, front-other, front-kept, front-fits, counter-fits}
 use Rattle.counter_form.proofs.Counter.{counter-sound, after-choice, counter-known}
@@ -30,9 +31,8 @@ use Rattle.order_form.proofs.Order.{Before, ordered, order-sound, after-order, 
 
 -- the events of two phases one after the other
 pub lines-++ : (es fs : List Event) → lines (es ++ fs) ≡ lines es ++ lines fs
-unfolding lines for-each
-lines-++ [] fs = refl
-lines-++ (e ∷ es) fs = rw (append-assoc, lines-++ es fs)
+unfolding lines
+lines-++ es fs = for-each-++ es fs lines-of
 
 -- no event takes a clause into a choice where there is none
 pub no-events : (n : ℕ) (F : Formula) → Known n [] F

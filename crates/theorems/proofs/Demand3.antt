@@ -1,21 +1,16 @@
 -- Demand 3 holds.
-use mathlib.Core.Path.{_≡_, sym, subst}
-use mathlib.Core.Logic.{_↔_}
-use mathlib.Core.List.{List, []}
-use Prim.Native.Nat.{ℕ}
-use lib.Dec.{T}
+use mathlib.Core.List.{[]}
 use lib.ListN.{take}
 use Rattle.definition.specs.Literals.{Clause, Formula}
-use Rattle.definition.specs.Reading.{Input, input-limits}
-use Rattle.definition.specs.Standing.{Line}
-use Rattle.definition.specs.Assignments.{Assignment, satisfies, Satisfiable, Exactly-one, carried-back}
-use Rattle.definition.specs.Events.{Choice, Event}
-use Rattle.definition.specs.Reencoding.{Settings, Goes-into, input, events, log, result}
+use Rattle.definition.specs.Reading.{input-limits}
+use Rattle.definition.specs.Assignments.{Satisfiable, Exactly-one, carried-back}
+use Rattle.definition.specs.Events.{Choice}
+use Rattle.definition.specs.Reencoding.{Goes-into, input, events, log, result}
 use Rattle.laws.proofs.Trues.{sat-satisfies, satisfies-sat}
 use Rattle.laws.proofs.Replay.{leads-cut, leads-replay}
 use Rattle.soundness.proofs.Sound.{Sound, sound-leads, Can, cut, exactly-one}
 use Rattle.round_trips.proofs.Accepted.{accepted}
-use Rattle.theorems.specs.Demand3.{standing, Demand-3, Demand-3-holds}
+use Rattle.theorems.specs.Demand3.{standing, Demand-3-holds}
 use Rattle.theorems.proofs.Log.{log-sound}
 
 can-satisfiable : (f : Formula) → Can f → Satisfiable f

@@ -1,17 +1,17 @@
 -- The whole log is sound.
-use mathlib.Core.Path.{_≡_, refl, sym, _∙_, subst}
+use mathlib.Core.Path.{_≡_, refl, sym, subst}
 use mathlib.Core.Logic.{⊎-elim}
 use mathlib.Core.Bool.{Bool, true, false, cond, _&&_}
 use mathlib.Core.List.{List, [], _∷_, _++_, List·Memᴰ, List·Memᴰ·head as here, List·Memᴰ·tail as there, Memᴰ·cast, append-assoc}
-use Prim.Native.Nat.{ℕ, _≤_}
+use Prim.Native.Nat.{_≤_}
 use native.Mathlib.Omega.{arith}
 use lib.Dec.{T, leb, leb→le}
-use lib.IntN.{ℤ, natAbs}
+use lib.IntN.{ℤ}
 use lib.ListN.{length}
 use Rattle.definition.specs.Lists.{those}
 use Rattle.definition.specs.Literals.{Clause, Formula}
 use Rattle.definition.specs.Reading.{Input}
-use Rattle.definition.specs.Standing.{Line, after}
+use Rattle.definition.specs.Standing.{after}
 use Rattle.definition.specs.Events.{Event}
 use Rattle.definition.specs.Clearing.{times, unique, clear-clashes, clear-pure}
 use Rattle.definition.specs.Counter.{choice-size, choices}

@@ -1,18 +1,56 @@
--- The first that passes, the first number for which something is found, and the highest variable.
+-- What the loops over lists give: members, first finds, one list after another. Assumes nothing.
 use mathlib.Core.Path.{_≡_, refl, sym, _∙_, ap, subst}
+use mathlib.Core.Logic.{⊎-elim}
 use mathlib.Core.Bool.{Bool, true, false, cond}
-use mathlib.Core.List.{List, [], _∷_, List·Memᴰ, List·Memᴰ·head as here, List·Memᴰ·tail as there}
+use mathlib.Core.List.{List, [], _∷_, _++_, append-assoc, List·Memᴰ, List·Memᴰ·head as here, List·Memᴰ·tail as there, Memᴰ·append-left, Memᴰ·append-right, List·Memᴰ·append-cases}
 use mathlib.Core.Option.{Option, some, none}
 use Prim.Native.Nat.{ℕ, zero, suc, _+_, _≤_, _<_}
 use native.Mathlib.Omega.{arith}
 use native.Mathlib.Decide.{ℕ-discrete}
 use lib.Dec.{T}
-use lib.IntN.{ℤ, natAbs}
-use Rattle.definition.specs.Lists.{first, or-else, first-from}
-use Rattle.definition.specs.Literals.{Clause, Formula, highest, highest-of}
-use Rattle.definition.specs.Standing.{Line, literals}
+use lib.ListN.{length, getD}
+use Rattle.definition.specs.Lists.{first, count, only-if, or-else, first-from, for-each}
 use Rattle.laws.proofs.Tests.{of-true, differ}
-use Rattle.laws.proofs.Members.{Proper}
+
+-- ---- what `for-each` and `only-if` give
+module _ {A B : Type 0} where
+  pub for-each-mem : (xs : List A) (f : A → List B) (y : B) → List·Memᴰ y (for-each xs f) → (x : A) × List·Memᴰ x xs × List·Memᴰ y (f x)
+  unfolding for-each
+  for-each-mem (x ∷ xs) f y i =
+      ⊎-elim (λ j. (x, here refl, j)) (λ j. let r = for-each-mem xs f y j in (r .0, there (r .1), r .2)) (List·Memᴰ·append-cases (f x) i)
+
+  pub mem-for-each : (xs : List A) (f : A → List B) (x : A) (y : B) → List·Memᴰ x xs → List·Memᴰ y (f x) → List·Memᴰ y (for-each xs f)
+  unfolding for-each
+  mem-for-each (z ∷ xs) f x y (here e) j = Memᴰ·append-left (for-each xs f) (subst (λ (k : A). List·Memᴰ y (f k)) e j)
+  mem-for-each (z ∷ xs) f x y (there i) j = Memᴰ·append-right (f z) (mem-for-each xs f x y i j)
+
+module _ {A : Type 0} where
+  pub only-if-mem : (b : Bool) (xs : List A) (x : A) → List·Memᴰ x (only-if b xs) → T b × List·Memᴰ x xs
+  unfolding only-if
+  only-if-mem true xs x i = (tt, i)
+
+  pub mem-only-if : (b : Bool) (xs : List A) (x : A) → T b → List·Memᴰ x xs → List·Memᴰ x (only-if b xs)
+  unfolding only-if
+  mem-only-if true xs x t i = i
+  mem-only-if false xs x t i = absurd t
+
+pub for-each-++ : {A B : Type 0} (xs ys : List A) (f : A → List B) → for-each (xs ++ ys) f ≡ for-each xs f ++ for-each ys f
+unfolding for-each
+for-each-++ [] ys f = refl
+for-each-++ (x ∷ xs) ys f = rw (for-each-++ xs ys f, append-assoc)
+
+pub getD-mem : {A : Type 0} (xs : List A) (i : ℕ) (d : A) → i < length xs → List·Memᴰ (getD xs i d) xs
+getD-mem [] i d h = absurd (no h)
+  where
+    no : i < 0 → ⊥
+    no h = omega arith
+getD-mem (x ∷ xs) zero d h = here refl
+getD-mem (x ∷ xs) (suc i) d h = there (getD-mem xs i d (omega arith))
+
+pub count-++ : {A : Type 0} (t : A → Bool) (xs ys : List A) → count t (xs ++ ys) ≡ count t xs + count t ys
+unfolding count
+count-++ t [] ys = omega arith
+count-++ t (x ∷ xs) ys = omega (arith, count-++ t xs ys)
 
 -- nothing is not something
 pub none-some : {A : Type 0} {P : Type 0} {x : A} → none ≡ some x → P
@@ -103,28 +141,3 @@ module _ {A : Type 0} where
       no hi = omega arith
   some-first-from f i (suc n) j x lo hi h e =
       by-order i j lo (λ d. rw (d, e)) (λ l. rw (h i (omega arith) l, or-else) (some-first-from f (suc i) n j x l (omega arith) (λ k a b. h k (omega arith) b) e))
-
--- ---- the highest variable
-pub highest-at : (c : Clause) (x : ℤ) → List·Memᴰ x c → natAbs x ≤ highest c
-unfolding highest
-highest-at (y ∷ c) x (here e) = rw e (omega arith)
-highest-at (y ∷ c) x (there i) = omega (arith, highest-at c x i)
-
-pub highest-of-at : (F : Formula) (c : Clause) → List·Memᴰ c F → (x : ℤ) → List·Memᴰ x c → natAbs x ≤ highest-of F
-unfolding highest-of
-highest-of-at (d ∷ F) c (here e) x i = omega (arith, highest-at d x (subst (List·Memᴰ x) e i))
-highest-of-at (d ∷ F) c (there j) x i = omega (arith, highest-of-at F c j x i)
-
-pub highest-le : (h : ℕ) (c : Clause) → ((x : ℤ) → List·Memᴰ x c → natAbs x ≤ h) → highest c ≤ h
-unfolding highest
-highest-le h [] f = omega arith
-highest-le h (y ∷ c) f = omega (arith, f y (here refl), highest-le h c (λ x i. f x (there i)))
-
-pub highest-of-le : (h : ℕ) (F : Formula) → ((c : Clause) → List·Memᴰ c F → (x : ℤ) → List·Memᴰ x c → natAbs x ≤ h) → highest-of F ≤ h
-unfolding highest-of
-highest-of-le h [] f = omega arith
-highest-of-le h (c ∷ F) f = omega (arith, highest-le h c (f c (here refl)), highest-of-le h F (λ d i. f d (there i)))
-
--- a line of a proper clause of the variables up to h
-abbrev pub Line-fits : ℕ → Line → Type 0
-Line-fits h x = Proper (literals x) × (highest (literals x) ≤ h)

@@ -1,34 +1,16 @@
--- General laws of tests, members, proper clauses and satisfying. Assumes nothing.
+-- Proper clauses: with a literal more at the end, and what the tests for repeated and opposed literals say. Assumes nothing.
 use mathlib.Core.Path.{_≡_, refl, sym, ap, subst}
-use mathlib.Core.Bool.{Bool, true, false, not, _||_}
+use mathlib.Core.Bool.{false}
 use mathlib.Core.Logic.{_≢_, ⊎-elim}
 use mathlib.Core.List.{List, [], _∷_, _++_, List·Memᴰ, List·Memᴰ·head as here, List·Memᴰ·tail as there, List·Memᴰ·not-nil, List·Memᴰ·cases-cons, List·Memᴰ·append-cases, List·Memᴰ·eq-of-singleton, Memᴰ·append-right}
-use Prim.Native.Nat.{ℕ, zero, suc, _+_, _≤_}
+use Prim.Native.Nat.{ℕ, _+_}
 use native.Mathlib.Omega.{arith}
 use lib.IntN.{ℤ, pos, negsuc, negℤ, natAbs}
 use lib.ListN.{length}
-use Rattle.definition.specs.Lists.{any, all, sum-of}
+use Rattle.definition.specs.Lists.{sum-of}
 use Rattle.definition.specs.Literals.{Clause, Formula, literals-of, repeated, opposed}
-use Rattle.definition.specs.Assignments.{Assignment, true-in, has-true, satisfies}
-use Rattle.laws.proofs.Tests.{differ, to-false}
-use Rattle.laws.proofs.Members.{turn, holds-false, opposes-mem, Proper, proper-unopposed, Fit, Fits}
-
--- neither holds
-pub or-false-both : (a b : Bool) → (a || b) ≡ false → (a ≡ false) × (b ≡ false)
-or-false-both true b e = differ {b = true} tt e
-or-false-both false b e = (refl, e)
-
--- tests that agree on the members of a list
-module _ {A : Type 0} (p q : A → Bool) where
-  pub any-same : (xs : List A) → ((x : A) → List·Memᴰ x xs → p x ≡ q x) → any p xs ≡ any q xs
-  unfolding any
-  any-same [] h = refl
-  any-same (x ∷ xs) h = rw (h x (here refl), any-same xs (λ y i. h y (there i)))
-
-  pub all-same : (xs : List A) → ((x : A) → List·Memᴰ x xs → p x ≡ q x) → all p xs ≡ all q xs
-  unfolding all
-  all-same [] h = refl
-  all-same (x ∷ xs) h = rw (h x (here refl), all-same xs (λ y i. h y (there i)))
+use Rattle.laws.proofs.Tests.{to-false}
+use Rattle.laws.proofs.Members.{turn, holds-false, opposes-mem, Proper, proper-unopposed}
 
 -- a literal of a proper clause, and those before it
 pub proper-apart : (a : Clause) (l : ℤ) (c : Clause) → Proper (a ++ l ∷ c) → (List·Memᴰ l a → ⊥) × (List·Memᴰ (negℤ l) a → ⊥)
@@ -74,15 +56,3 @@ proper-unrepeated (l ∷ c) p = rw (holds-false l c (p .1)) (proper-unrepeated c
 pub proper-not-opposed : (c : Clause) → Proper c → opposed c ≡ false
 unfolding opposed
 proper-not-opposed c p = to-false (λ t. let r = opposes-mem c c t in proper-unopposed c p (r .0) (r .1) (r .2))
-
--- the same values for 1..v satisfy the same formulas of these variables
-same-values : (v : ℕ) (a b : Assignment) → ((x : ℕ) → 1 ≤ x → x ≤ v → a x ≡ b x) → (l : ℤ) → Fit v l → true-in a l ≡ true-in b l
-unfolding true-in
-same-values v a b h (pos zero) f = absurd (f .0 refl)
-same-values v a b h (pos (suc n)) f = h (suc n) (omega arith) (f .1)
-same-values v a b h (negsuc n) f = ap not (h (suc n) (omega arith) (f .1))
-
-pub satisfies-same : (v : ℕ) (a b : Assignment) (f : Formula) → Fits v f → ((x : ℕ) → 1 ≤ x → x ≤ v → a x ≡ b x) → satisfies a f ≡ satisfies b f
-unfolding satisfies has-true
-satisfies-same v a b f fits h =
-    all-same (any (true-in a)) (any (true-in b)) f (λ c i. any-same (true-in a) (true-in b) c (λ l j. same-values v a b h l (fits c i l j)))

@@ -48,58 +48,57 @@ module _ (F : Formula) (free : Clash-free F) where
       go false e ih = ih
 
 -- ---- the whole log
-module _ (s : Settings) (i : Input) (proper : Proper-all (i .formula)) (fits : Fits (i .variables) (i .formula)) where
-  -- what stands when the choices are taken
-  basis : Formula
-  basis = cleared (i .formula)
 
-  facts : Proper-all basis × Fits (i .variables) basis × Clash-free basis
-  unfolding basis
+-- what stands when the choices are taken
+abbrev pub basis : Input → Formula
+basis i = cleared (i .formula)
+
+abbrev pub order : Settings → Input → Clause → Clause
+order s i c = arranged (s .wish) (basis i) (chosen s i) c
+
+module _ (s : Settings) (i : Input) (proper : Proper-all (i .formula)) (fits : Fits (i .variables) (i .formula)) where
+  facts : Proper-all (basis i) × Fits (i .variables) (basis i) × Clash-free (basis i)
   facts = cleared-facts proper fits
 
-  order : Clause → Clause
-  order c = arranged (s .wish) basis (chosen s i) c
-
-  chosen-mem : (c : Clause) → List·Memᴰ c (chosen s i) → List·Memᴰ c basis × T (choice-size c && unique basis c)
-  unfolding chosen choices input basis
-  chosen-mem c m = those-mem (λ c. choice-size c && unique basis c) basis c m
+  chosen-mem : (c : Clause) → List·Memᴰ c (chosen s i) → List·Memᴰ c (basis i) × T (choice-size c && unique (basis i) c)
+  unfolding chosen choices input
+  chosen-mem c m = those-mem (λ c. choice-size c && unique (basis i) c) (basis i) c m
 
   chosen-parted : Parted (chosen s i)
-  unfolding chosen choices input basis
-  chosen-parted = parted basis (facts .2) (λ c. choice-size c && unique basis c) (λ c t. and-r (choice-size c) (unique basis c) t) basis (λ d m. m) (λ x. omega arith)
+  unfolding chosen choices input
+  chosen-parted = parted (basis i) (facts .2) (λ c. choice-size c && unique (basis i) c) (λ c t. and-r (choice-size c) (unique (basis i) c) t) (basis i) (λ d m. m) (λ x. omega arith)
 
   long-enough : (c : Clause) → T (choice-size c) → 5 ≤ length c
   unfolding choice-size
   long-enough c t = leb→le 5 (length c) (and-l (leb 5 (length c)) (leb (length c) 64) t)
 
-  choosable : (c : Clause) → List·Memᴰ c (chosen s i) → Choosable order basis c
-  unfolding order
+  pub choosable : (c : Clause) → List·Memᴰ c (chosen s i) → Choosable (order s i) (basis i) c
   choosable c m =
       let r = chosen-mem c m in
-      let k = arranged-keeps (s .wish) basis (chosen s i) c (facts .0 c (r .0)) in
-      let b = long-enough c (and-l (choice-size c) (unique basis c) (r .1)) in
+      let k = arranged-keeps (s .wish) (basis i) (chosen s i) c (facts .0 c (r .0)) in
+      let b = long-enough c (and-l (choice-size c) (unique (basis i) c) (r .1)) in
       record {
         proper = facts .0 c (r .0);
         order-proper = k .0;
         long = omega (arith, k .2);
         standing = r .0;
         same = k .1;
-        alone = λ x j. unique-at basis c (and-r (choice-size c) (unique basis c) (r .1)) x j;
+        alone = λ x j. unique-at (basis i) c (and-r (choice-size c) (unique (basis i) c) (r .1)) x j;
       }
 
   -- the events of the choices
   taken : List Event
-  taken = choices-events (s .form) order (i .variables) basis (chosen s i)
+  taken = choices-events (s .form) (order s i) (i .variables) (basis i) (chosen s i)
 
-  events-sound : Sound (i .formula) (clear-clashes (i .formula) ++ (clear-pure (unclashed (i .formula)) ++ taken)) (lines (clear-clashes (i .formula)) ++ (lines (clear-pure (unclashed (i .formula))) ++ lines taken)) (after basis (lines taken)) []
-  unfolding basis taken cleared
+  events-sound : Sound (i .formula) (clear-clashes (i .formula) ++ (clear-pure (unclashed (i .formula)) ++ taken)) (lines (clear-clashes (i .formula)) ++ (lines (clear-pure (unclashed (i .formula))) ++ lines taken)) (after (basis i) (lines taken)) []
+  unfolding taken cleared
   events-sound =
-      let c = choices-sound (s .form) order (i .variables) basis (chosen s i) (facts .1) choosable chosen-parted in
+      let c = choices-sound (s .form) (order s i) (i .variables) (basis i) (chosen s i) (facts .1) choosable chosen-parted in
       let p = pure-sound (i .variables) (unclashed (i .formula)) taken (unclashed-proper proper fits .1) (c .1) (c .0) in
       clashes-sound (i .variables) (i .formula) (clear-pure (unclashed (i .formula)) ++ taken) proper fits (p .1) (p .0) .0
 
-  whole : Sound (input s i) (events s i) (log s i) (after basis (lines taken)) []
-  unfolding input events log basis taken order
+  whole : Sound (input s i) (events s i) (log s i) (after (basis i) (lines taken)) []
+  unfolding input events log taken
   whole =
       rw (append-assoc (clear-clashes (i .formula)) (clear-pure (unclashed (i .formula))) taken, lines-++ (clear-clashes (i .formula)) (clear-pure (unclashed (i .formula)) ++ taken), lines-++ (clear-pure (unclashed (i .formula))) taken)
       events-sound

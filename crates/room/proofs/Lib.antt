@@ -1,0 +1,13 @@
+pub mod Extra
+pub mod Weights
+pub mod Variables
+pub mod Choice
+pub mod Replaced
+pub mod Lines
+pub mod Cleared
+pub mod Rises
+pub mod Additions
+pub mod Runs
+pub mod Room
+pub mod Limits
+pub mod Compaction

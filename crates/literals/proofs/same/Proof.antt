@@ -1,0 +1,9 @@
+use Rattle.literals.proofs.Bits.{same-bits}
+use Rattle.literals.proofs.same.Statement.{statement}
+use Rattle.literals.proofs.same.Tie as tie
+
+returns : tie.Need-returns
+returns c = same-bits (c .args .a) (c .args .b) (c .fits .a) (c .fits .b)
+
+pub same-spec : {M : Type 1} → statement M
+same-spec = tie.close (tie.spec returns)

@@ -1,0 +1,30 @@
+use Rattle.literals.proofs.Bits.{cast-signed, minus-asks, minus-value}
+use Rattle.literals.specs.Literal.{with-sign}
+use mathlib.Core.Path.{ap, _∙_, refl}
+use mathlib.Core.Bool.{true, false}
+use native.Mathlib.Omega.{arith}
+use borrow.Author.Needs.{needs}
+use Rattle.literals.proofs.signed.Statement.{statement}
+use Rattle.literals.proofs.signed.Tie as tie
+
+capped-requires : tie.Need-capped-requires
+capped-requires c κs = search needs
+
+cast-z : tie.Need-cast-z
+cast-z c = search needs
+
+sub-result : tie.Need-sub-result
+sub-result c = let e = c .before .capped .ensures in minus-asks (c .before .capped .result) (omega arith)
+
+returns : tie.Need-returns
+returns c =
+    let e = c .before .capped .ensures in
+    minus-value (c .before .capped .result) (omega arith) ∙ ap (with-sign true) e ∙ rw (c .if1 .taken) refl
+
+returns-2 : tie.Need-returns-2
+returns-2 c =
+    let e = c .before .capped .ensures in
+    cast-signed (c .before .capped .result) (omega arith) ∙ ap (with-sign false) e ∙ rw (c .if1 .left) refl
+
+pub signed-spec : {M : Type 1} → statement M
+signed-spec = tie.close (tie.spec capped-requires cast-z sub-result returns returns-2)

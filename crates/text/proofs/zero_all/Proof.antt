@@ -1,0 +1,54 @@
+use borrow.Author.Needs.{needs}
+use mathlib.Core.Path.{_≡_, ap, _∙_, refl}
+use mathlib.Core.List.{List, _++_, append-nil}
+use native.Mathlib.Omega.{arith}
+use Prim.Native.Nat.{ℕ, _-_, _≤_}
+use lib.ListN.{length, drop, set, replicate, length-set}
+use lib.Seq.{drop-length}
+use denote.Ref.{now}
+use borrow.Author.Fill.{fill-none, fill-more}
+use Rattle.text.proofs.zero_all.Statement.{statement}
+use Rattle.text.proofs.zero_all.Tie as tie
+
+abbrev Inv-loop : tie.InvT-loop
+Inv-loop buf₀ i₀ buf i = (i ≤ length buf₀) × (length buf ≡ length buf₀) × (buf ≡ replicate i 0 ++ drop i buf₀)
+
+abbrev μ-loop : tie.MeasureT-loop
+μ-loop buf₀ i₀ buf i = length buf₀ - i
+
+loop-holds : tie.Need-loop-holds Inv-loop μ-loop
+loop-holds c = (search needs, refl, fill-none (now (c .args .buf)) 0)
+
+slice-write-buf : tie.Need-slice-write-buf Inv-loop μ-loop
+slice-write-buf c = search needs
+
+add-i : tie.Need-add-i Inv-loop μ-loop
+add-i c = search needs
+
+loop-less : tie.Need-loop-less Inv-loop μ-loop
+loop-less c = search needs
+
+loop-again : tie.Need-loop-again Inv-loop μ-loop
+loop-again c = (search needs, simp length-set (c .before .loop .inv .1), ap (λ (l : List ℕ). set l (c .before .loop .i) 0) (c .before .loop .inv .2) ∙ fill-more (c .before .loop .i) 0 (now (c .before .before .args .buf)) (search needs))
+
+same-length : tie.Need-same-length Inv-loop μ-loop
+same-length c = search needs
+
+returns : tie.Need-returns Inv-loop μ-loop
+returns c =
+    let e : c .before .loop .i ≡ length (now (c .before .before .args .buf)) = omega arith in
+    c .before .loop .inv .2 ∙ ap (λ (k : ℕ). replicate k 0 ++ drop k (now (c .before .before .args .buf))) e ∙ rw (drop-length, append-nil) refl
+
+pub zero-all-spec : {M : Type 1} → statement M
+zero-all-spec =
+    tie.close
+    (tie.spec
+    Inv-loop
+    μ-loop
+    loop-holds
+    slice-write-buf
+    add-i
+    loop-less
+    loop-again
+    same-length
+    returns)

@@ -1,0 +1,301 @@
+// Bytes to words and numbers, numbers to bytes.
+ghost use mathlib.Core.Path.{_≡_};
+ghost use mathlib.Core.Bool.{true, false};
+ghost use mathlib.Core.List.{[], _∷_};
+ghost use Prim.Native.Nat.{_+_, _*_, _-_, _≤_, _<_, _^_, min};
+ghost use lib.ListN.{length, drop, set, replicate};
+ghost use Rattle.definition.specs.Text.{blank, digit, digits, literal-text, natural, number};
+ghost use Rattle.definition.specs.Answer.{space-or-tab};
+ghost use Rattle.text.specs.Numbers.{all-digits, natural-class, number-class, with-sign};
+ghost use Rattle.text.specs.Words.{separator, in-run, leading, word-at};
+ghost use Rattle.text.specs.Output.{Put};
+
+// ---- bytes
+
+// Whether a byte is a space or a tab, which part the words of a line.
+pub fn is_space_or_tab(b: u8) -> bool
+    ensures { λ r. ⌜ r ≡ space-or-tab b ⌝ }
+{
+    if b == 32 {
+        return true;
+    }
+    b == 9
+}
+
+// Whether a byte is a blank, which parts the words of a text: space, tab, CR or LF.
+pub fn is_blank(b: u8) -> bool
+    ensures { λ r. ⌜ r ≡ blank b ⌝ }
+{
+    if b == 32 {
+        return true;
+    }
+    if b == 9 {
+        return true;
+    }
+    if b == 13 {
+        return true;
+    }
+    b == 10
+}
+
+// Whether a byte is a decimal digit.
+pub fn is_digit(b: u8) -> bool
+    ensures { λ r. ⌜ r ≡ digit b ⌝ }
+{
+    if b < 48 {
+        return false;
+    }
+    b <= 57
+}
+
+// ---- numbers
+
+// What a word says as a number without a sign.
+pub enum Natural {
+    Value(u32),
+    // a number above what is asked for
+    Large,
+    NotANumber,
+}
+
+// What a word says as a number.
+pub enum Number {
+    Value(i32),
+    // a number whose absolute value is above 70,000
+    Large,
+    NotANumber,
+}
+
+// The value with one digit more, cut off at 1,000,001.
+fn next_value(value: u32, b: u8) -> u32
+    requires { ⌜ value ≤ 1000001 ⌝ }
+    requires { ⌜ 48 ≤ b ⌝ }
+    ensures { λ r. ⌜ r ≡ min (value * 10 + (b - 48)) 1000001 ⌝ }
+{
+    let v = value * 10 + (b - 48) as u32;
+    if v < 1000001 { v } else { 1000001 }
+}
+
+// The value of a word of digits only.
+fn digits_value(word: &[u8], most: u32) -> Natural
+    requires { ⌜ most ≤ 1000000 ⌝ }
+    ensures { λ r. ⌜ r ≡ natural-class most (all-digits 0 (now (word .entry))) ⌝ }
+{
+    let mut value: u32 = 0;
+    let mut i = 0;
+    while i < word.len() {
+        let b = word[i];
+        if is_digit(b) {
+            value = next_value(value, b);
+            i += 1;
+        } else {
+            return Natural::NotANumber;
+        }
+    }
+    if value <= most {
+        Natural::Value(value)
+    } else {
+        Natural::Large
+    }
+}
+
+// The number that a word says: 0, or digits that begin with 1 to 9.
+fn natural_up_to(word: &[u8], most: u32) -> Natural
+    requires { ⌜ most ≤ 1000000 ⌝ }
+    ensures { λ r. ⌜ r ≡ natural-class most (natural (now (word .entry))) ⌝ }
+{
+    if word.len() == 0 {
+        return Natural::NotANumber;
+    }
+    if word[0] == 48 {
+        if word.len() == 1 {
+            return Natural::Value(0);
+        }
+        return Natural::NotANumber;
+    }
+    digits_value(word, most)
+}
+
+// The number without a sign that a word says, up to 1,000,000.
+pub fn read_natural(word: &[u8]) -> Natural
+    ensures { λ r. ⌜ r ≡ natural-class 1000000 (natural (now (word .entry))) ⌝ }
+{
+    natural_up_to(word, 1000000)
+}
+
+// The number of a sign and what follows it; 0 takes no sign.
+fn signed_number(negative: bool, n: Natural) -> Number
+    ensures { λ r. ⌜ r ≡ with-sign negative n ⌝ }
+{
+    match n {
+        Natural::Value(v) => {
+            if negative {
+                if v == 0 {
+                    return Number::NotANumber;
+                }
+                return Number::Value(literals::signed(true, v));
+            }
+            Number::Value(literals::signed(false, v))
+        }
+        Natural::Large => Number::Large,
+        Natural::NotANumber => Number::NotANumber,
+    }
+}
+
+// The number that a word says, up to an absolute value of 70,000.
+pub fn read_number(word: &[u8]) -> Number
+    ensures { λ r. ⌜ r ≡ number-class (number (now (word .entry))) ⌝ }
+{
+    if word.len() == 0 {
+        return Number::NotANumber;
+    }
+    if word[0] == 45 {
+        signed_number(true, natural_up_to(&word[1..], 70000))
+    } else {
+        signed_number(false, natural_up_to(word, 70000))
+    }
+}
+
+// ---- words
+
+// A word's start and the place past it, or the text's end.
+pub enum Word {
+    At(usize, usize),
+    End,
+}
+
+// Whether a byte parts words; in a text the ends of lines do too.
+fn separates(lines: bool, b: u8) -> bool
+    ensures { λ r. ⌜ r ≡ separator lines b ⌝ }
+{
+    if lines {
+        is_blank(b)
+    } else {
+        is_space_or_tab(b)
+    }
+}
+
+// Whether a byte belongs to a run of separators, or to a run of other bytes.
+fn belongs(lines: bool, parting: bool, b: u8) -> bool
+    ensures { λ r. ⌜ r ≡ in-run (separator lines) parting b ⌝ }
+{
+    let s = separates(lines, b);
+    if parting { s } else { !s }
+}
+
+// The place past a run that starts at a place.
+fn run_end(lines: bool, parting: bool, text: &[u8], at: usize) -> usize
+    ensures { λ r. ⌜ r ≡ at + leading (in-run (separator lines) parting) (drop at (now (text .entry))) ⌝ }
+{
+    let mut i = at;
+    while i < text.len() {
+        if belongs(lines, parting, text[i]) {
+            i += 1;
+        } else {
+            return i;
+        }
+    }
+    i
+}
+
+// The first word at a place or after it.
+fn word_from(lines: bool, text: &[u8], at: usize) -> Word
+    ensures { λ r. ⌜ r ≡ word-at (separator lines) (now (text .entry)) at ⌝ }
+{
+    let start = run_end(lines, true, text, at);
+    let end = run_end(lines, false, text, start);
+    if start < end {
+        Word::At(start, end)
+    } else {
+        Word::End
+    }
+}
+
+// The first word of a text at a place or after it.
+pub fn next_word(text: &[u8], at: usize) -> Word
+    ensures { λ r. ⌜ r ≡ word-at blank (now (text .entry)) at ⌝ }
+{
+    word_from(true, text, at)
+}
+
+// The first word of a line at a place or after it.
+pub fn next_word_of_line(line: &[u8], at: usize) -> Word
+    ensures { λ r. ⌜ r ≡ word-at space-or-tab (now (line .entry)) at ⌝ }
+{
+    word_from(false, line, at)
+}
+
+// ---- output: a writer counts past the buffer's end and stores nothing there, so only the last caller asks whether all fitted
+
+// Stores a byte where the buffer has the place.
+fn store(buf: &mut [u8], at: usize, b: u8)
+    ensures { λ _. ⌜ now (buf .exit) ≡ set (now (buf .entry)) at b ⌝ }
+{
+    if at < buf.len() {
+        buf[at] = b;
+    }
+}
+
+// Writes a byte.
+pub fn put_byte(buf: &mut [u8], at: usize, b: u8) -> usize
+    requires { ⌜ at + 1 < 2 ^ 64 ⌝ }
+    ensures { λ r. ⌜ Put (now (buf .entry)) at (b ∷ []) r (now (buf .exit)) ⌝ }
+{
+    store(buf, at, b);
+    at + 1
+}
+
+// How many digits a number has.
+fn digit_count(n: u32) -> usize
+    ensures { λ r. ⌜ r ≡ length (digits n) ⌝ }
+{
+    let mut count: usize = 1;
+    let mut m = n;
+    while 10 <= m {
+        m = m / 10;
+        count += 1;
+    }
+    count
+}
+
+// Writes a number in decimal, the last digit first.
+pub fn put_number(buf: &mut [u8], at: usize, n: u32) -> usize
+    requires { ⌜ at + 10 < 2 ^ 64 ⌝ }
+    ensures { λ r. ⌜ Put (now (buf .entry)) at (digits n) r (now (buf .exit)) ⌝ }
+{
+    let end = at + digit_count(n);
+    let mut k = end;
+    let mut m = n;
+    while 10 <= m {
+        k -= 1;
+        store(buf, k, (48 + m % 10) as u8);
+        m = m / 10;
+    }
+    store(buf, at, (48 + m) as u8);
+    end
+}
+
+// Writes a literal in decimal.
+pub fn put_literal(buf: &mut [u8], at: usize, l: i32) -> usize
+    requires { ⌜ at + 11 < 2 ^ 64 ⌝ }
+    ensures { λ r. ⌜ Put (now (buf .entry)) at (literal-text l) r (now (buf .exit)) ⌝ }
+{
+    let v = literals::variable(l);
+    if literals::is_negative(l) {
+        let a = put_byte(buf, at, 45);
+        put_number(buf, a, v)
+    } else {
+        put_number(buf, at, v)
+    }
+}
+
+// Makes every byte 0.
+pub fn zero_all(buf: &mut [u8])
+    ensures { λ _. ⌜ now (buf .exit) ≡ replicate (length (now (buf .entry))) 0 ⌝ }
+{
+    let mut i = 0;
+    while i < buf.len() {
+        buf[i] = 0;
+        i += 1;
+    }
+}

@@ -1,0 +1,26 @@
+use mathlib.Core.Path.{sym, _∙_}
+use lib.IntN.{ℤ}
+use denote.Ref.{now}
+use Rattle.definition.specs.Lists.{all}
+use Rattle.definition.specs.Literals.{holds, same-set}
+use Rattle.clauses.proofs.Extra.{second-holds, second-fails}
+use borrow.Author.Needs.{needs}
+use Rattle.clauses.proofs.same_marked.Statement.{statement}
+use Rattle.clauses.proofs.same_marked.Tie as tie
+
+all-marked-requires : tie.Need-all-marked-requires
+all-marked-requires c κs = search needs
+
+all-in-requires : tie.Need-all-in-requires
+all-in-requires c κs = search needs
+
+returns : tie.Need-returns
+unfolding same-set
+returns c = c .all-in .ensures ∙ second-holds (all (λ (l : ℤ). holds l (now (c .before .before .before .before .args .a))) (now (c .before .before .before .before .args .clause))) (all (λ (l : ℤ). holds l (now (c .before .before .before .before .args .clause))) (now (c .before .before .before .before .args .a))) (sym (c .before .before .all-marked .ensures) ∙ c .before .if1 .taken)
+
+returns-2 : tie.Need-returns-2
+unfolding same-set
+returns-2 c = second-fails (all (λ (l : ℤ). holds l (now (c .before .before .before .args .a))) (now (c .before .before .before .args .clause))) (all (λ (l : ℤ). holds l (now (c .before .before .before .args .clause))) (now (c .before .before .before .args .a))) (sym (c .before .all-marked .ensures) ∙ c .if1 .left)
+
+pub same-marked-spec : {M : Type 1} → statement M
+same-marked-spec = tie.close (tie.spec all-marked-requires all-in-requires returns returns-2)

@@ -1,5 +1,5 @@
 -- Two literals are in one group exactly when a chain joins them. Assumes nothing.
-use mathlib.Core.Path.{_≡_, refl, sym, _∙_, subst, fun-ext}
+use mathlib.Core.Path.{_≡_, refl, _∙_, fun-ext}
 use mathlib.Core.Bool.{Bool, true, false, cond, not, _&&_, and-comm}
 use mathlib.Core.List.{List, [], _∷_, List·Memᴰ, List·Memᴰ·head as here, List·Memᴰ·tail as there, List·Memᴰ·eq-of-singleton}
 use lib.Dec.{T}
@@ -9,18 +9,11 @@ use Rattle.definition.specs.Literals.{Clause, Formula, same, holds, same-set}
 use Rattle.definition.specs.Standing.{stands}
 use Rattle.definition.specs.Alignment.{choice-literals, linked, Chain, nothing, link, links, join, grouped, group}
 use Rattle.laws.proofs.Tests.{to-true, of-true, and-l, and-r, and-i}
-use Rattle.laws.proofs.Members.{any-mem, same-eq, same-refl, holds-mem, Same, same-set-same, same-joined}
+use Rattle.laws.proofs.Members.{any-mem, same-eq, same-refl, holds-mem, same-set-same, same-joined, pair-turned}
 use Rattle.laws.proofs.Removal.{stands-same}
 use Rattle.laws.proofs.Loops.{for-each-mem, mem-for-each, only-if-mem, mem-only-if}
 
 -- ---- links and chains, turned
-pair-turned : (x y : ℤ) → Same (x ∷ y ∷ []) (y ∷ x ∷ [])
-pair-turned x y = (λ l. turn l x y, λ l. turn l y x)
-  where
-    turn : (l u v : ℤ) → List·Memᴰ l (u ∷ v ∷ []) → List·Memᴰ l (v ∷ u ∷ [])
-    turn l u v (here e) = there (here e)
-    turn l u v (there (here e)) = here e
-
 stands-pair-turned : (x y : ℤ) (f : Formula) → T (stands (x ∷ y ∷ []) f) → T (stands (y ∷ x ∷ []) f)
 unfolding stands
 stands-pair-turned x y f t =
@@ -39,7 +32,7 @@ module _ (f : Formula) (cs : List Clause) where
   linked-turned : (a b : ℤ) → T (linked f cs a b) → T (linked f cs b a)
   unfolding linked
   linked-turned a b t =
-      and-i (apart b a) (stands (negℤ b ∷ negℤ a ∷ []) f) (subst T (apart-turned a b) (and-l (apart a b) _ t))
+      and-i (apart b a) (stands (negℤ b ∷ negℤ a ∷ []) f) (rw (apart-turned a b) at (and-l (apart a b) _ t))
       (stands-pair-turned (negℤ a) (negℤ b) f (and-r (apart a b) _ t))
 
   -- a chain is an equivalence
@@ -58,7 +51,7 @@ module _ (f : Formula) (cs : List Clause) where
       let r = for-each-mem (choice-literals cs) (λ a. for-each (choice-literals cs) (λ b. only-if (linked f cs a b) ((a, b) ∷ []))) l i in
       let q = for-each-mem (choice-literals cs) (λ b. only-if (linked f cs (r .0) b) ((r .0, b) ∷ [])) l (r .2) in
       let u = only-if-mem (linked f cs (r .0) (q .0)) ((r .0, q .0) ∷ []) l (q .2) in
-      subst (λ (k : ℤ × ℤ). T (linked f cs (k .0) (k .1))) (sym (List·Memᴰ·eq-of-singleton (u .1))) (u .0)
+      rw (List·Memᴰ·eq-of-singleton (u .1)) (u .0)
 
   linked-links : (a b : ℤ) → T (linked f cs a b) → List·Memᴰ (a, b) (links f cs)
   unfolding links linked
@@ -97,7 +90,7 @@ module _ (f : Formula) (cs : List Clause) where
     where
       go : (b : Bool) → same (g m) (g (l .1)) ≡ b → Chain f cs m (cond b (g (l .0)) (g m))
       go true e =
-          let to-second = subst (Chain f cs m) (same-eq (g m) (g (l .1)) (of-true e)) (h m) in
+          let to-second = rw (same-eq (g m) (g (l .1)) (of-true e)) at (h m) in
           let to-first = chain-turned f cs (link t (h (l .1))) in
           chain-joined f cs to-second (chain-joined f cs to-first (h (l .0)))
       go false e = h m
@@ -117,4 +110,4 @@ module _ (f : Formula) (cs : List Clause) where
   unfolding group
   group-chain a b e =
       let named = grouped-chain (λ l. l) (links f cs) (λ m. nothing) (links-linked f cs) in
-      chain-joined f cs (subst (Chain f cs a) e (named a)) (chain-turned f cs (named b))
+      chain-joined f cs (rw e at (named a)) (chain-turned f cs (named b))

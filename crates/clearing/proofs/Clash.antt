@@ -1,5 +1,5 @@
 -- Clearing one clash: what stands after it, and that its lines are sound.
-use mathlib.Core.Path.{_≡_, refl, sym, _∙_, ap, subst}
+use mathlib.Core.Path.{_≡_, refl, sym, _∙_, ap}
 use mathlib.Core.Logic.{_≢_, _⊎_, inl, inr, ⊎-elim}
 use mathlib.Core.Bool.{Bool, true, false, not}
 use mathlib.Core.List.{List, [], _∷_, _++_, List·Memᴰ, List·Memᴰ·head as here, List·Memᴰ·tail as there, Memᴰ·cast, List·Memᴰ·append-cases, List·Memᴰ·eq-of-singleton, Memᴰ·append-left, Memᴰ·append-right}
@@ -146,7 +146,7 @@ module _ (F : Formula) (c : Clash) (p : Proper-all F) (q : Is-clash F c) where
 
   -- v and -v stand nowhere any more
   after-absent : (x : ℤ) → Absent x (without-both F c) → (List·Memᴰ x (rest-one c) → ⊥) → (List·Memᴰ x (rest-other c) → ⊥) → Absent x (after F (clash-lines c))
-  after-absent x l a b d i j = ⊎-elim (λ k. l d k j) (λ k. ⊎-elim a b (resolvent-mem x (subst (List·Memᴰ x) (k .0) j))) (after-mem d i)
+  after-absent x l a b d i j = ⊎-elim (λ k. l d k j) (λ k. ⊎-elim a b (resolvent-mem x (rw (k .0) at j))) (after-mem d i)
 
   pub v-gone : Absent (c .v) (after F (clash-lines c))
   v-gone = after-absent (c .v) (λ d i. one-gone (c .v) (q .one-holds) d (mem-removed other-removed i)) (λ i. without-mem (c .v) (c .one) (c .v) i .1 refl)
@@ -166,7 +166,7 @@ module _ (F : Formula) (c : Clash) (p : Proper-all F) (q : Is-clash F c) where
 
   pub literals-before : (d : Clause) → List·Memᴰ d (after F (clash-lines c)) → (x : ℤ) → List·Memᴰ x d → (k : Clause) × List·Memᴰ k F × List·Memᴰ x k
   literals-before d i x j =
-      ⊎-elim (λ k. (d, stood-before d k, j)) (λ k. let r = resolvent-before x (subst (List·Memᴰ x) (k .0) j) in (r .0, r .1, r .3)) (after-mem d i)
+      ⊎-elim (λ k. (d, stood-before d k, j)) (λ k. let r = resolvent-before x (rw (k .0) at j) in (r .0, r .1, r .3)) (after-mem d i)
 
   resolvent-proper : opposed (resolvent c) ≡ false → Proper (resolvent c)
   unfolding resolvent opposed
@@ -176,7 +176,7 @@ module _ (F : Formula) (c : Clash) (p : Proper-all F) (q : Is-clash F c) where
       (λ x i j. differ (mem-opposes (resolvent c) (resolvent c) x (Memᴰ·append-left (rest-other c) i) (Memᴰ·append-right (rest-one c) j)) e)
 
   pub after-proper : Proper-all (after F (clash-lines c))
-  after-proper d i = ⊎-elim (λ k. p d (stood-before d k)) (λ k. subst Proper (sym (k .0)) (resolvent-proper (k .1))) (after-mem d i)
+  after-proper d i = ⊎-elim (λ k. p d (stood-before d k)) (λ k. rw (k .0) (resolvent-proper (k .1))) (after-mem d i)
 
   pub after-fits : (h : ℕ) → Fits h F → Fits h (after F (clash-lines c))
   after-fits h f d i x j = let k = literals-before d i x j in f (k .0) (k .1) x (k .2)
@@ -231,14 +231,14 @@ module _ (F : Formula) (c : Clash) (p : Proper-all F) (q : Is-clash F c) where
           Sound F K ((only-if (not t) (addition (resolvent c) ∷ []) ++ (deletion (first-one c) ∷ deletion (first-other c) ∷ [])) ++ xs) H L
       go true e =
           clash-deletes (c .v) (rest-one c) (rest-other c) one-removed other-removed
-          (subst (Absent (c .v)) (clash-after true e) v-gone) (subst (Absent (negℤ (c .v))) (clash-after true e) negation-gone) only
-          (λ σ u n. opposite-holds σ (of-true e) n) clear (subst (λ (X : Formula). Sound X K xs H L) (clash-after true e) s)
+          (rw (clash-after true e) at v-gone) (rw (clash-after true e) at negation-gone) only
+          (λ σ u n. opposite-holds σ (of-true e) n) clear (rw (clash-after true e) at s)
       go false e =
           add-implied (λ σ u. resolvent-holds σ (c .v) (rest-one c) (rest-other c) v-literal (parents-hold σ u .0) (parents-hold σ u .1))
           (clash-deletes (c .v) (rest-one c) (rest-other c) (removed-++ (resolvent c ∷ []) one-removed) (removed-++ (resolvent c ∷ []) other-removed)
-          (subst (Absent (c .v)) (clash-after false e) v-gone) (subst (Absent (negℤ (c .v))) (clash-after false e) negation-gone) only
+          (rw (clash-after false e) at v-gone) (rw (clash-after false e) at negation-gone) only
           (λ σ u n. omega (arith, trues-++ σ (rest-one c) (rest-other c), sat-right σ (without-both F c) (resolvent c ∷ []) u .0))
-          clear (subst (λ (X : Formula). Sound X K xs H L) (clash-after false e) s))
+          clear (rw (clash-after false e) at s))
 
   -- exactly one true literal in the resolvent: so in A and in B
   pub parents-one : (σ : Assignment) → Sat σ F → trues σ (resolvent c) ≡ 1 → (trues σ (c .one) ≡ 1) × (trues σ (c .other) ≡ 1)
@@ -272,7 +272,7 @@ module _ (F : Formula) (c : Clash) (p : Proper-all F) (q : Is-clash F c) where
   ulc-before d i t x j =
       ⊎-elim
       (λ m. (d, stood-before d m, at-unique F d (unique-some (after F (clash-lines c)) d t) (λ y n. still-once d m y n (unique-at (after F (clash-lines c)) d t y n)), j))
-      (λ m. resolvent-before x (subst (List·Memᴰ x) (m .0) j))
+      (λ m. resolvent-before x (rw (m .0) at j))
       (after-mem d i)
     where
       left-times : (y : ℤ) → times y (without-both F c) ≤ times y (after F (clash-lines c))

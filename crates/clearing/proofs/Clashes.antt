@@ -160,7 +160,6 @@ clears-sound {h} {F} {rest = rest} {xs = xs} p f (next {c = c} {es = es} l r) w 
 
 pub clears-lines-fit : {h : ℕ} {F G : Formula} {es : List Event} → Proper-all F → Fits h F → Clears F es G → (x : Line) → List·Memᴰ x (lines es) → Line-fits h x
 unfolding lines lines-of for-each
-clears-lines-fit p f no-more x i = elim i [ ]
 clears-lines-fit {h} {F} p f (next {c = c} l s) x i = ⊎-elim
     (λ j. clash-lines-fit F c p (l .is-clash) f x j)
     (λ j. clears-lines-fit (after-proper F c p (l .is-clash)) (after-fits F c p (l .is-clash) h f) s x j)
@@ -170,10 +169,7 @@ clears-lines-fit {h} {F} p f (next {c = c} l s) x i = ⊎-elim
 up-to-none-left : (n : ℕ) (F : Formula) → Proper-all F → length F ≤ n → lowest-clash (after F (lines (clear-up-to n F))) ≡ none
 unfolding clear-up-to clear-next lines lines-of for-each after lowest-clash highest-of first-from
 up-to-none-left zero [] p b = refl
-up-to-none-left zero (d ∷ F) p b = absurd (no b)
-  where
-    no : suc (length F) ≤ 0 → ⊥
-    no b = omega arith
+up-to-none-left zero (d ∷ F) p b = absurd (omega arith)
 up-to-none-left (suc n) F p b = go (lowest-clash F) refl (up-to-none-left n)
   where
     go : (o : Option Clash) → lowest-clash F ≡ o → ((X : Formula) → Proper-all X → length X ≤ n → lowest-clash (after X (lines (clear-up-to n X))) ≡ none) →

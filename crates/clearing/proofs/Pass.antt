@@ -1,35 +1,22 @@
 -- Where no clash is left, the pure literals may all be looked for in the formula at the start.
 use mathlib.Core.Path.{_≡_, refl, sym, _∙_, ap}
-use mathlib.Core.Bool.{Bool, true, false, cond, _&&_}
-use mathlib.Core.List.{List, [], _∷_, _++_, append-assoc, List·Memᴰ, List·Memᴰ·head as here, List·Memᴰ·tail as there, Memᴰ·append-right}
+use mathlib.Core.Bool.{Bool, true, false, cond}
+use mathlib.Core.List.{List, [], _∷_, _++_, append-assoc, List·Memᴰ, List·Memᴰ·head as here, Memᴰ·append-right}
 use mathlib.Core.Option.{Option, some, none}
 use native.Mathlib.Omega.{arith}
-use lib.Dec.{T, eqb, ltb}
+use lib.Dec.{T, eqb}
 use lib.IntN.{ℤ, negℤ}
-use lib.ListN.{length}
-use Rattle.definition.specs.Lists.{bit, all, first, for-each}
+use Rattle.definition.specs.Lists.{bit, first, for-each}
 use Rattle.definition.specs.Literals.{Clause, Formula, with-first}
 use Rattle.definition.specs.Events.{Event, pure-deleted}
 use Rattle.definition.specs.Clearing.{times, unique, pure, deletable, pure-literal, pure-next, clear-pure-from, clear-pure}
 use Rattle.laws.proofs.Tests.{of-true}
-use Rattle.laws.proofs.Members.{holds-false}
+use Rattle.laws.proofs.Members.{all-same, first-agree, holds-false}
 use Rattle.laws.proofs.Removal.{mem-removed}
 use Rattle.soundness.proofs.Times.{times-removed, unique-at, unique-some, at-unique}
 use Rattle.soundness.proofs.Without.{first-same}
 use Rattle.clearing.proofs.Clashes.{Clash-free}
 use Rattle.clearing.proofs.Pure.{Eliminates, no-more, next, eliminates-mem, eliminates-times, eliminates-unique, pure-some, pure-removed}
-
--- ---- two tests that agree on the members
-module _ {A : Type 0} where
-  all-agree : (p q : A → Bool) (xs : List A) → ((x : A) → List·Memᴰ x xs → p x ≡ q x) → all p xs ≡ all q xs
-  unfolding all
-  all-agree p q [] h = refl
-  all-agree p q (x ∷ xs) h = rw (h x (here refl), all-agree p q xs (λ y i. h y (there i)))
-
-  first-agree : (p q : A → Bool) (xs : List A) → ((x : A) → List·Memᴰ x xs → p x ≡ q x) → first p xs ≡ first q xs
-  unfolding first
-  first-agree p q [] h = refl
-  first-agree p q (x ∷ xs) h = rw (h x (here refl), first-agree p q xs (λ y i. h y (there i)))
 
 -- a clause's pure literal depends only on how often its literals and their negations stand
 pure-agree : (F G : Formula) (c : Clause) → ((x : ℤ) → List·Memᴰ x c → times x F ≡ times x G) → (T (unique F c) → (x : ℤ) → List·Memᴰ x c → times (negℤ x) F ≡ times (negℤ x) G) →
@@ -38,7 +25,7 @@ unfolding pure-literal deletable unique pure
 pure-agree F G c h n = go (unique F c) refl
   where
     same-test : unique F c ≡ unique G c
-    same-test = ap (λ (b : Bool). ltb 0 (length c) && b) (all-agree (λ l. eqb (times l F) 1) (λ l. eqb (times l G) 1) c (λ x i. rw (h x i)))
+    same-test = rw (all-same (λ l. eqb (times l F) 1) (λ l. eqb (times l G) 1) c (λ x i. rw (h x i)))
 
     go : (b : Bool) → unique F c ≡ b → cond (unique F c) (first (pure F) c) none ≡ cond (unique G c) (first (pure G) c) none
     go true e = rw (← same-test, e) (first-agree (pure F) (pure G) c (λ x i. rw (n (of-true e) x i)))
@@ -85,7 +72,7 @@ from-at-start {F} {es} n X (c ∷ R) s =
     go none e left deleted = left (rw append-assoc s)
     go (some l) e left deleted =
         let q = pure-some (X ++ (c ∷ R)) c l c-stands e in
-        ap (λ (fs : List Event). pure-deleted l c ∷ fs) (deleted (es ++ (pure-deleted l c ∷ [])) (eliminates-join s (next q (pure-removed X R c l q) no-more)))
+        rw (deleted (es ++ (pure-deleted l c ∷ [])) (eliminates-join s (next q (pure-removed X R c l q) no-more)))
 
 pub pure-at-start : (F : Formula) → Clash-free F → clear-pure F ≡ for-each F (λ c. pure-next c [] [] (pure-literal F c))
 unfolding clear-pure

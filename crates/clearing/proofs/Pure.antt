@@ -14,9 +14,9 @@ use Rattle.definition.specs.Standing.{Line, literals, changed, after}
 use Rattle.definition.specs.Events.{Event, pure-deleted}
 use Rattle.definition.specs.Clearing.{times, unique, pure, deletable, pure-literal, pure-lines, pure-next, clear-pure-from, clear-pure}
 use Rattle.definition.specs.Reencoding.{lines-of, lines, Goes-into, later}
-use Rattle.laws.proofs.Tests.{of-true, to-true, to-false}
-use Rattle.laws.proofs.Members.{Same, same-set-same, same-same-set, Proper-all, Fits, holds-false, Absent}
-use Rattle.laws.proofs.Removal.{Removed, found, later as further, removed-take-out, mem-removed}
+use Rattle.laws.proofs.Tests.{of-true, to-false}
+use Rattle.laws.proofs.Members.{same-set-same, Proper-all, Fits, holds-false, Absent}
+use Rattle.laws.proofs.Removal.{Removed, removed-at, removed-take-out, mem-removed}
 use Rattle.soundness.proofs.Sound.{Into, Sound, weaken}
 use Rattle.soundness.proofs.Rules.{del-blocked}
 use Rattle.soundness.proofs.Times.{holds-yes, times-++, times-cons, times-removed, none-times, unique-at, unique-some, at-unique}
@@ -75,18 +75,14 @@ pub eliminates-times : {F G : Formula} {es : List Event} → Eliminates F es G �
 eliminates-times no-more x c i j = refl
 eliminates-times {F} (next {E = E} {d = d} {l = l} q r s) x c i j = others-same F E d l q r x c (eliminates-mem s c i) j ∙ eliminates-times s x c i j
 
--- a clause is found at its place, where no clause before it holds one of its literals
-reach : (x : ℤ) (c d : Clause) (X F : Formula) → List·Memᴰ x c → Same c d → times x X ≡ 0 → Removed c (X ++ (d ∷ F)) (X ++ F)
-reach x c d [] F i s o = found (to-true (same-same-set c d s))
-reach x c d (k ∷ X) F i s o =
-    further (to-false (λ t. none-times x (k ∷ X) o k (here refl) (same-set-same c k t .0 x i))) (reach x c d X F i s (omega (arith, times-cons x k X)))
-
 -- the first with its literals is the one that is looked at
 pub pure-removed : (X F : Formula) (d : Clause) (l : ℤ) → Is-pure (X ++ (d ∷ F)) d l → Removed (with-first l d) (X ++ (d ∷ F)) (X ++ F)
 unfolding with-first
 pure-removed X F d l q =
-    reach l (with-first l d) d X F (here refl) (first-same l d (q .literal))
-    (omega (arith, unique-at (X ++ (d ∷ F)) d (q .alone) l (q .literal), times-++ l X (d ∷ F), times-cons l d F, ap bit (holds-yes l d (q .literal))))
+    removed-at (with-first l d) d X F (first-same l d (q .literal)) (λ k i. to-false (λ t. none-times l X absent k i (same-set-same (with-first l d) k t .0 l (here refl))))
+  where
+    absent : times l X ≡ 0
+    absent = omega (arith, unique-at (X ++ (d ∷ F)) d (q .alone) l (q .literal), times-++ l X (d ∷ F), times-cons l d F, ap bit (holds-yes l d (q .literal)))
 
 pub from-eliminates : (X F : Formula) → Eliminates (X ++ F) (clear-pure-from X F) (after (X ++ F) (lines (clear-pure-from X F)))
 unfolding clear-pure-from pure-next lines lines-of pure-lines for-each after changed
@@ -125,7 +121,6 @@ eliminates-sound {h} {F} {rest = rest} f (next {E = E} {d = d} {l = l} {es = es}
 
 pub eliminates-lines-fit : {h : ℕ} {F G : Formula} {es : List Event} → Proper-all F → Fits h F → Eliminates F es G → (x : Line) → List·Memᴰ x (lines es) → Line-fits h x
 unfolding lines lines-of pure-lines for-each literals
-eliminates-lines-fit p f no-more x i = elim i [ ]
 eliminates-lines-fit {h} p f (next {d = d} {l = l} q r s) x (here e) = rw e
     (first-proper l d (p d (q .stands)) (q .literal), highest-le h (with-first l d) (λ y j. f d (q .stands) y (first-same l d (q .literal) .0 y j) .1))
 eliminates-lines-fit p f (next q r s) x (there i) = eliminates-lines-fit (λ c j. p c (mem-removed r j)) (λ c j. f c (mem-removed r j)) s x i

@@ -64,15 +64,12 @@ scan-lowest i (suc n) m F p a b h l = go (clash-at F i) refl (scan-lowest (suc i
     found : (c : Clash) → clash-at F i ≡ some c → (m : ℕ) → length F ≤ m →
         ((m : ℕ) → length (after F (clash-lines c)) ≤ m → scan-from (suc i) n (after F (clash-lines c)) ≡ clear-up-to m (after F (clash-lines c))) →
         clash-cleared c ∷ scan-from (suc i) n (after F (clash-lines c)) ≡ clear-up-to m F
-    found c e zero l ih = let q = clash-at-some F i c e .1 in absurd (no (after-shorter F c p q))
-      where
-        no : length (after F (clash-lines c)) < length F → ⊥
-        no s = omega arith
+    found c e zero l ih = let q = clash-at-some F i c e .1 in absurd (omega (arith, after-shorter F c p q))
     found c e (suc m) l ih =
         let r = clash-at-some F i c e in
         let up = highest-of-at F (c .one) (r .1 .one-stands) (pos i) (Memᴰ·cast (sym (r .0)) (r .1 .one-holds)) in
         let lowest : lowest-clash F ≡ some c = some-first-from (clash-at F) 1 (highest-of F) i c a (omega arith) h e in
-        rw (lowest, clear-next) (ap (λ (fs : List Event). clash-cleared c ∷ fs) (ih m (omega (arith, after-shorter F c p (r .1)))))
+        rw (lowest, clear-next) (rw (ih m (omega (arith, after-shorter F c p (r .1)))))
 
     go : (o : Option Clash) → clash-at F i ≡ o →
         ((m : ℕ) (F : Formula) → Proper-all F → 1 ≤ suc i → highest-of F < suc i + n → ((k : ℕ) → 1 ≤ k → k < suc i → clash-at F k ≡ none) → length F ≤ m → scan-from (suc i) n F ≡ clear-up-to m F) →
@@ -85,7 +82,4 @@ scan-lowest i (suc n) m F p a b h l = go (clash-at F i) refl (scan-lowest (suc i
 
 pub scan-clashes : (h : ℕ) (F : Formula) → Proper-all F → highest-of F ≤ h → scan-from 1 h F ≡ clear-clashes F
 unfolding clear-clashes
-scan-clashes h F p b = scan-lowest 1 h (length F) F p (omega arith) (omega arith) (λ k lo hi. absurd (no k lo hi)) (omega arith)
-  where
-    no : (k : ℕ) → 1 ≤ k → k < 1 → ⊥
-    no k lo hi = omega arith
+scan-clashes h F p b = scan-lowest 1 h (length F) F p (omega arith) (omega arith) (λ k lo hi. absurd (omega arith)) (omega arith)

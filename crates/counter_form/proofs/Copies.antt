@@ -12,6 +12,7 @@ use Rattle.definition.specs.Lists.{bit, count, those, for-each}
 use Rattle.definition.specs.Literals.{Clause, Formula, same-set}
 use Rattle.laws.proofs.Tests.{of-true, to-false}
 use Rattle.laws.proofs.Members.{Same, same-set-same, same-turned, same-joined}
+use Rattle.laws.proofs.Loops.{replicate-mem}
 use Rattle.laws.proofs.Removal.{Removed, found, later}
 use Rattle.soundness.proofs.Removals.{Removes, none-left, next, removes-join, Spread}
 
@@ -79,10 +80,6 @@ all-removed n (p ∷ ps) F s h =
     (all-removed n ps (drop-copies p F) (s .1) (λ q i. h q (there i) ∙ sym (count-dropped q p F (λ t. s .0 q i (same-turned t)))))
 
 -- only copies of these clauses are deleted
-replicate-mem : (n : ℕ) (p d : Clause) → List·Memᴰ d (replicate n p) → d ≡ p
-replicate-mem (suc n) p d (here e) = e
-replicate-mem (suc n) p d (there i) = replicate-mem n p d i
-
 pub copy-mem : (n : Clause → ℕ) (ps : Formula) (d : Clause) → List·Memᴰ d (for-each ps (λ p. replicate (n p) p)) → List·Memᴰ d ps
 unfolding for-each
 copy-mem n (p ∷ ps) d i =

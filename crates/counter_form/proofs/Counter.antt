@@ -1,5 +1,5 @@
 -- The counter form of one choice is sound.
-use mathlib.Core.Path.{_≡_, refl, sym, _∙_, subst}
+use mathlib.Core.Path.{_≡_, refl, sym, _∙_}
 use mathlib.Core.Logic.{_⊎_, inl, inr, ⊎-elim}
 use mathlib.Core.Bool.{false}
 use mathlib.Core.List.{List, [], _∷_, _++_, map, List·Memᴰ, append-assoc, append-nil, map-append, List·Memᴰ·append-cases}
@@ -7,28 +7,27 @@ use Prim.Native.Nat.{ℕ, _≤_, _<_}
 use native.Mathlib.Omega.{arith}
 use lib.Dec.{leb}
 use lib.IntN.{ℤ, negℤ, natAbs}
-use lib.ListN.{length}
 use borrow.Author.Tests.{leb-true, leb-false}
 use Rattle.definition.specs.Literals.{Clause, Formula, holds}
 use Rattle.definition.specs.Standing.{Line, addition, deletion, after}
 use Rattle.definition.specs.Assignments.{Assignment, trues}
 use Rattle.definition.specs.Events.{Choice, Event, choice-taken}
-use Rattle.definition.specs.Counter.{pairs, missing-pairs, counter, last-new, take-choice, choice-lines}
+use Rattle.definition.specs.Counter.{pairs, missing-pairs, counter, last-new, take-choice}
 use Rattle.definition.specs.Reencoding.{lines-of, Goes-into, taken, later}
 use Rattle.laws.proofs.Tests.{by-test, of-true, differ}
-use Rattle.laws.proofs.Members.{Proper, Fits, holds-mem, mem-holds, natAbs-neg}
+use Rattle.laws.proofs.Members.{Fits, holds-mem, mem-holds, natAbs-neg}
 use Rattle.laws.proofs.Trues.{Sat, sat-at, sat-all, sat-left, sat-right}
 use Rattle.laws.proofs.Removal.{sat-of}
 use Rattle.laws.proofs.Replay.{leads-after}
 use Rattle.soundness.proofs.Sound.{Into, Ones, Sound, nothing, sound-leads, weaken}
 use Rattle.soundness.proofs.Without.{trues-order, Stands, Known}
 use Rattle.soundness.proofs.Removals.{removes-++, mem-removes, del-all}
-use Rattle.counter_form.proofs.Ready.{Ready, Other}
-use Rattle.laws.proofs.Fitting.{Fit-all}
+use Rattle.soundness.proofs.CounterClauses.{Written, written, counter-is}
+use Rattle.counter_form.proofs.Ready.{Well-formed, Ready, Other}
 use Rattle.counter_form.proofs.Pairs.{pair-form, pair-literal, pairs-hold, pairs-most, missing-mem, missing-all}
 use Rattle.counter_form.proofs.Stages.{counter-one, pairs-added, counter-added}
-use Rattle.counter_form.proofs.CounterLiterals.{counter-by-literals, counter-absent}
-use Rattle.counter_form.proofs.Front.{paired, pair-copies, front, copies-mem, own-fit, clause-taken, absent-else, front-removes, paired-fits}
+use Rattle.counter_form.proofs.CounterLiterals.{counter-absent}
+use Rattle.counter_form.proofs.Front.{taken-lines-are, paired, pair-copies, front, copies-mem, well-formed, clause-taken, absent-else, front-removes, paired-fits}
 
 -- the clauses that go into a choice from the taking of a choice on
 goes-taken : {j k : Choice} {missing copies : List Clause} {es : List Event} {c : Clause} → Goes-into j (choice-taken k missing copies ∷ es) c → (c ≡ k .clause) ⊎ Into es c
@@ -36,19 +35,20 @@ goes-taken taken = inl refl
 goes-taken {j} (later g) = inr (record { choice = j; goes = g })
 
 -- ---- stages 2 and 3 of a choice
-counter-exactly-one : (σ : Assignment) (k : Choice) → 2 ≤ length (k .literals) → Proper (k .literals) → Sat σ (counter k) → trues σ (k .literals) ≡ 1
-counter-exactly-one σ k b p s =
-    let c = counter-by-literals k b in
-    subst (λ (ls : Clause). trues σ ls ≡ 1) (sym (c .3))
-    (counter-one σ (k .below) (c .0) (c .1) (c .2) (subst Proper (c .3) p) (subst (Sat σ) (c .4) s))
+module _ {k : Choice} (u : Well-formed k) where
+  w : Written k
+  w = written k (u .long)
 
-counter-stages-added : {G H : Formula} {K L : List Event} {xs : List Line} (k : Choice) → 2 ≤ length (k .literals) → Proper (k .literals) → Fits (k .below) G → Fit-all (k .below) (k .literals) →
-    ((σ : Assignment) → Sat σ G → trues σ (k .literals) ≡ 1) → Sound (G ++ counter k) K xs H L → Sound G K (map addition (counter k) ++ xs) H L
-counter-stages-added {G} {H} {K} {L} {xs} k b p u f one s =
-    let c = counter-by-literals k b in
-    subst (λ (X : Formula). Sound G K (map addition X ++ xs) H L) (sym (c .4))
-    (counter-added (k .below) (c .0) (c .1) (c .2) (subst Proper (c .3) p) u (subst (Fit-all (k .below)) (c .3) f)
-    (λ σ t. subst (λ (ls : Clause). trues σ ls ≡ 1) (c .3) (one σ t)) (subst (λ (X : Formula). Sound (G ++ X) K xs H L) (c .4) s))
+  counter-exactly-one : (σ : Assignment) → Sat σ (counter k) → trues σ (k .literals) ≡ 1
+  counter-exactly-one σ s =
+      rw (w .are) (counter-one σ (k .below) (w .one) (w .two) (w .others) (rw (w .are) at (u .proper)) (rw (counter-is w) at s))
+
+  counter-stages-added : {G H : Formula} {K L : List Event} {xs : List Line} → Fits (k .below) G → ((σ : Assignment) → Sat σ G → trues σ (k .literals) ≡ 1) →
+      Sound (G ++ counter k) K xs H L → Sound G K (map addition (counter k) ++ xs) H L
+  counter-stages-added {G} {H} {K} {L} {xs} f one s =
+      rw (counter-is w)
+      (counter-added (k .below) (w .one) (w .two) (w .others) (rw (w .are) at (u .proper)) f (rw (w .are) at (u .fit))
+      (λ σ t. rw (w .are) at (one σ t)) (rw (counter-is w) at s))
 
 -- ---- the four stages
 module _ (F : Formula) (k : Choice) (f : Fits (k .below) F) (r : Ready F k) where
@@ -60,30 +60,25 @@ module _ (F : Formula) (k : Choice) (f : Fits (k .below) F) (r : Ready F k) wher
       omega (arith, pairs-most σ (k .literals) (r .proper) (missing-all σ F (k .literals) u v), sat-of σ (clause-taken F k f r) u)
 
   front-one : (σ : Assignment) → Sat σ (front F k ++ counter k) → trues σ (k .literals) ≡ 1
-  front-one σ t = counter-exactly-one σ k (r .long) (r .proper) (sat-right σ (front F k) (counter k) t)
+  front-one σ t = counter-exactly-one (well-formed F k f r) σ (sat-right σ (front F k) (counter k) t)
 
   ones-taken : {K : List Event} (σ : Assignment) → Sat σ (front F k ++ counter k) → Ones σ K → Ones σ (take-choice F k ∷ K)
   unfolding take-choice
   ones-taken σ t o c i =
       ⊎-elim
-      (λ e. subst (λ (d : Clause). trues σ d ≡ 1) (sym e) (sym (trues-order σ (k .literals) (k .clause) (r .proper) (r .proper-clause) (r .same)) ∙ front-one σ t))
+      (λ e. rw e (sym (trues-order σ (k .literals) (k .clause) (r .proper) (r .proper-clause) (r .same)) ∙ front-one σ t))
       (o c) (goes-taken (i .goes))
 
   lines-form : (xs : List Line) → lines-of (take-choice F k) ++ xs ≡ map addition (missing-pairs F (k .literals)) ++ (map addition (counter k) ++ (map deletion (k .literals ∷ pair-copies F k) ++ xs))
-  unfolding lines-of take-choice choice-lines counter
-  lines-form xs = simp (map-append, append-assoc)
+  lines-form xs = rw (taken-lines-are F k) (simp (map-append, append-assoc))
 
   pub counter-sound : {H : Formula} {K L : List Event} {xs : List Line} → Sound (front F k ++ counter k) K xs H L → Sound F (take-choice F k ∷ K) (lines-of (take-choice F k) ++ xs) H L
   counter-sound {H} {K} {L} {xs} s =
       rw (lines-form xs)
-      (subst (λ (X : Formula). Sound X (take-choice F k ∷ K) (map addition (missing-pairs F (k .literals)) ++ (map addition (counter k) ++ deletions)) H L) (append-nil F)
-      (pairs-added (clause-taken F k f r) (r .proper) (absent-else F k f r) [] (missing-pairs F (k .literals)) (λ d i. elim i [ ]) (λ d i. pair-form (k .literals) (r .proper) d (missing-mem F (k .literals) d i))
-      (counter-stages-added k (r .long) (r .proper) (paired-fits F k f r) (own-fit F k f r) paired-one
+      (rw (append-nil F) at (pairs-added (clause-taken F k f r) (r .proper) (absent-else F k f r) [] (missing-pairs F (k .literals)) (λ d i. elim i [ ]) (λ d i. pair-form (k .literals) (r .proper) d (missing-mem F (k .literals) d i))
+      (counter-stages-added (well-formed F k f r) (paired-fits F k f r) paired-one
       (del-all (removes-++ (counter k) (front-removes F k f r)) deleted-hold (weaken ones-taken s)))))
     where
-      deletions : List Line
-      deletions = map deletion (k .literals ∷ pair-copies F k) ++ xs
-
       deleted-hold : (σ : Assignment) → Sat σ (front F k ++ counter k) → Sat σ (k .literals ∷ pair-copies F k)
       deleted-hold σ t =
           let e = front-one σ t in
@@ -91,8 +86,7 @@ module _ (F : Formula) (k : Choice) (f : Fits (k .below) F) (r : Ready F k) wher
 
   pub after-choice : after F (lines-of (take-choice F k)) ≡ front F k ++ counter k
   after-choice =
-      subst (λ (xs : List Line). after F xs ≡ front F k ++ counter k) (append-nil (lines-of (take-choice F k)))
-      (leads-after (sound-leads (counter-sound (nothing {K = []} {L = []} (λ σ s o. o)))))
+      rw (append-nil (lines-of (take-choice F k))) at (leads-after (sound-leads (counter-sound (nothing {K = []} {L = []} (λ σ s o. o)))))
 
 -- ---- the variables of clauses that go into a choice
 
@@ -114,7 +108,7 @@ module _ (F : Formula) (k : Choice) (f : Fits (k .below) F) (r : Ready F k) wher
   own-stands x i = (k .clause, r .standing, x, r .same .0 x i, refl)
 
   negated-stands : (x : ℤ) → List·Memᴰ (negℤ x) (k .literals) → Stands (natAbs x) F
-  negated-stands x i = subst (λ (n : ℕ). Stands n F) (natAbs-neg x) (own-stands (negℤ x) i)
+  negated-stands x i = rw (natAbs-neg x) at (own-stands (negℤ x) i)
 
   front-stands : (d : Clause) → List·Memᴰ d (front F k) → (x : ℤ) → List·Memᴰ x d → Stands (natAbs x) F
   front-stands d i x j =
@@ -127,12 +121,11 @@ module _ (F : Formula) (k : Choice) (f : Fits (k .below) F) (r : Ready F k) wher
 
   stands-before : (n : ℕ) → Stands n (front F k ++ counter k) → Stands n F ⊎ (k .below < n)
   stands-before n s =
-      subst (λ (m : ℕ). Stands m F ⊎ (k .below < m)) (s .4)
-      (⊎-elim (λ i. inl (front-stands (s .0) i (s .2) (s .3))) (λ i. counter-stands (s .0) i (s .2) (s .3)) (List·Memᴰ·append-cases (front F k) (s .1)))
+      rw (s .4) at (⊎-elim (λ i. inl (front-stands (s .0) i (s .2) (s .3))) (λ i. counter-stands (s .0) i (s .2) (s .3)) (List·Memᴰ·append-cases (front F k) (s .1)))
 
   pub counter-known : {K : List Event} → Known (last-new k) K (front F k ++ counter k) → Known (k .below) (take-choice F k ∷ K) F
   unfolding take-choice last-new
   counter-known w c i x j =
-      ⊎-elim (λ e. inl (k .clause, r .standing, x, subst (λ (d : Clause). List·Memᴰ x d) e j, refl))
+      ⊎-elim (λ e. inl (k .clause, r .standing, x, rw e at j, refl))
       (λ g. ⊎-elim (stands-before (natAbs x)) (λ b. inr (omega arith)) (w c g x j))
       (goes-taken (i .goes))

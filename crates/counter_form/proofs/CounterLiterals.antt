@@ -1,5 +1,5 @@
 -- The literals of the counter clauses, and the number of these clauses.
-use mathlib.Core.Path.{_≡_, refl, sym, ap, subst}
+use mathlib.Core.Path.{_≡_, refl, ap}
 use mathlib.Core.Logic.{_≢_}
 use mathlib.Core.List.{[], _∷_, _++_, List·Memᴰ, List·Memᴰ·head as here, List·Memᴰ·tail as there}
 use Prim.Native.Nat.{ℕ, suc, _+_, _-_, _*_, _≤_, _<_}
@@ -10,9 +10,9 @@ use Rattle.definition.specs.Literals.{Clause, Formula}
 use Rattle.definition.specs.Events.{Choice}
 use Rattle.definition.specs.Counter.{counter, last-new}
 use Rattle.laws.proofs.Members.{Same, Fit, Fits, far, turn, Absent}
-use Rattle.soundness.proofs.Written.{Each-literal, Every, every, every-++, of-literals, In-none, in-none}
-use Rattle.soundness.proofs.CounterClauses.{stage-2-from, stage-3-from, counter-from, counter-recursive}
-use Rattle.counter_form.proofs.Ready.{Other}
+use Rattle.soundness.proofs.Written.{Each, Every, every, each-++, of-each, In-none, in-none}
+use Rattle.soundness.proofs.CounterClauses.{stage-2-from, stage-3-from, counter-from, written, counter-is}
+use Rattle.counter_form.proofs.Ready.{Well-formed, Other}
 use Rattle.laws.proofs.Fitting.{Fit-all, fit-neg, fit-pos, fit-negsuc, fit-up}
 
 -- ---- the first literal of each is a new one, so none is a clause of old literals
@@ -23,15 +23,11 @@ First-above g ((x ∷ c) ∷ F) = (g < natAbs x) × First-above g F
 
 first-above-++ : (g : ℕ) (F G : Formula) → First-above g F → First-above g G → First-above g (F ++ G)
 first-above-++ g [] G s t = t
-first-above-++ g ([] ∷ F) G s t = absurd s
 first-above-++ g ((x ∷ c) ∷ F) G s t = (s .0, first-above-++ g F G (s .1) t)
 
 first-above-not : (g : ℕ) (F : Formula) → First-above g F → (p : Clause) → Fit-all g p → (d : Clause) → List·Memᴰ d F → Same p d → ⊥
 first-above-not g ([] ∷ F) a p f d i s = a
-first-above-not g ((x ∷ c) ∷ F) a p f d (here e) s = no (a .0) (f x (s .1 x (subst (λ (z : Clause). List·Memᴰ x z) (sym e) (here refl))) .1)
-  where
-    no : g < natAbs x → natAbs x ≤ g → ⊥
-    no b q = omega arith
+first-above-not g ((x ∷ c) ∷ F) a p f d (here e) s = omega (arith, a .0, f x (s .1 x (rw e (here refl))) .1)
 first-above-not g ((x ∷ c) ∷ F) a p f d (there i) s = first-above-not g F (a .1) p f d i s
 
 stages-first : (g h : ℕ) (c : Clause) → g ≤ h → First-above g (stage-2-from h c) × First-above g (stage-3-from h c)
@@ -71,12 +67,12 @@ counter-from-absent x h l c b n p =
       (far x (negsuc h) (omega arith), (λ e. n (here e), tt)),
       (
         (far x (pos (suc h)) (omega arith), (λ e. p (here (turn x l e)), tt)),
-        every-++ (λ y. x ≢ y) (stage-2-from h c) (stage-3-from h c) (r .0) (r .1),
+        each-++ (Each (λ y. x ≢ y)) (stage-2-from h c) (stage-3-from h c) (r .0) (r .1),
       ),
     )
 
 -- ---- they hold variables up to the last new one
-stages-fit : (g h : ℕ) (m : ℤ) (c : Clause) → h + length (m ∷ c) ≤ g → Each-literal (Fit g) (m ∷ c) → Every (Fit g) (stage-2-from h (m ∷ c)) × Every (Fit g) (stage-3-from h (m ∷ c))
+stages-fit : (g h : ℕ) (m : ℤ) (c : Clause) → h + length (m ∷ c) ≤ g → Each (Fit g) (m ∷ c) → Every (Fit g) (stage-2-from h (m ∷ c)) × Every (Fit g) (stage-3-from h (m ∷ c))
 stages-fit g h m [] b f =
     let p = fit-pos g h (omega arith) in
     let n = fit-negsuc g h (omega arith) in
@@ -93,7 +89,7 @@ pub counter-from-fits : (h : ℕ) (l m : ℤ) (c : Clause) → Fit-all h (l ∷ 
 counter-from-fits h l m c f =
     every (Fit g) (counter-from h l (m ∷ c)) (
       (fit-negsuc g h (omega arith), (up l (here refl), tt)),
-      ((fit-pos g h (omega arith), (fit-neg g l (up l (here refl)), tt)), every-++ (Fit g) (stage-2-from h (m ∷ c)) (stage-3-from h (m ∷ c)) (s .0) (s .1)),
+      ((fit-pos g h (omega arith), (fit-neg g l (up l (here refl)), tt)), each-++ (Each (Fit g)) (stage-2-from h (m ∷ c)) (stage-3-from h (m ∷ c)) (s .0) (s .1)),
     )
   where
     g : ℕ
@@ -103,7 +99,7 @@ counter-from-fits h l m c f =
     up x i = fit-up g h x (omega arith) (f x i)
 
     s : Every (Fit g) (stage-2-from h (m ∷ c)) × Every (Fit g) (stage-3-from h (m ∷ c))
-    s = stages-fit g h m c (omega arith) (of-literals (Fit g) (m ∷ c) (λ x i. up x (there i)))
+    s = stages-fit g h m c (omega arith) (of-each (Fit g) (m ∷ c) (λ x i. up x (there i)))
 
 -- ---- their number
 stage-2-length : (h : ℕ) (m : ℤ) (c : Clause) → length (stage-2-from h (m ∷ c)) ≡ 3 * length c
@@ -119,31 +115,20 @@ counter-from-length h l m c =
     omega (arith, length-append (stage-2-from h (m ∷ c)) (stage-3-from h (m ∷ c)), stage-2-length h m c, stage-3-length h m c)
 
 -- ---- a choice of two literals or more
-pub counter-by-literals : (k : Choice) → 2 ≤ length (k .literals) → (l m : ℤ) × (c : Clause) × (k .literals ≡ l ∷ m ∷ c) × (counter k ≡ counter-from (k .below) l (m ∷ c))
-counter-by-literals k b = go (k .literals) refl b
-  where
-    short : (n : ℕ) → 2 ≤ n → n ≤ 1 → ⊥
-    short n a b = omega arith
-
-    go : (ls : Clause) → k .literals ≡ ls → 2 ≤ length ls → (l m : ℤ) × (c : Clause) × (k .literals ≡ l ∷ m ∷ c) × (counter k ≡ counter-from (k .below) l (m ∷ c))
-    go [] e a = absurd (short (length {A = ℤ} []) a (omega arith))
-    go (l ∷ []) e a = absurd (short (length (l ∷ [])) a (omega arith))
-    go (l ∷ m ∷ c) e a = (l, m, c, e, counter-recursive k l m c e)
-
 pub counter-new : (k : Choice) → 2 ≤ length (k .literals) → (p : Clause) → Fit-all (k .below) p → (d : Clause) → List·Memᴰ d (counter k) → Same p d → ⊥
-counter-new k b p f d i = let r = counter-by-literals k b in counter-from-new (k .below) (r .0) (r .1 ∷ r .2) p f d (subst (λ (X : Formula). List·Memᴰ d X) (r .4) i)
+counter-new k b p f = let w = written k b in rw (counter-is w) (counter-from-new (k .below) (w .one) (w .two ∷ w .others) p f)
 
 pub counter-absent : (k : Choice) → 2 ≤ length (k .literals) → (x : ℤ) → Other k x → Absent x (counter k)
 counter-absent k b x o =
-    let r = counter-by-literals k b in
-    rw (r .4) (counter-from-absent x (k .below) (r .0) (r .1 ∷ r .2) (o .small) (λ i. o .not-in (rw (r .3) i)) (λ i. o .not-negated (rw (r .3) i)))
+    let w = written k b in
+    rw (counter-is w) (counter-from-absent x (k .below) (w .one) (w .two ∷ w .others) (o .small) (λ i. o .not-in (rw (w .are) i)) (λ i. o .not-negated (rw (w .are) i)))
 
-pub counter-fits-own : (k : Choice) → 2 ≤ length (k .literals) → Fit-all (k .below) (k .literals) → Fits (last-new k) (counter k)
+pub counter-fits : {k : Choice} → Well-formed k → Fits (last-new k) (counter k)
 unfolding last-new
-counter-fits-own k b f =
-    let r = counter-by-literals k b in
-    let e : length (k .literals) - 1 ≡ length (r .1 ∷ r .2) = omega (arith, ap length (r .3)) in
-    rw (e, r .4) (counter-from-fits (k .below) (r .0) (r .1) (r .2) (λ x i. f x (rw (r .3) i)))
+counter-fits {k} u =
+    let w = written k (u .long) in
+    let e : length (k .literals) - 1 ≡ length (w .two ∷ w .others) = omega (arith, ap length (w .are)) in
+    rw (e, counter-is w) (counter-from-fits (k .below) (w .one) (w .two) (w .others) (λ x i. u .fit x (rw (w .are) i)))
 
 pub counter-length : (k : Choice) → 2 ≤ length (k .literals) → length (counter k) ≡ 4 * (length (k .literals) - 1)
-counter-length k b = let r = counter-by-literals k b in rw (r .4) (omega (arith, ap length (r .3), counter-from-length (k .below) (r .0) (r .1) (r .2)))
+counter-length k b = let w = written k b in rw (counter-is w) (omega (arith, ap length (w .are), counter-from-length (k .below) (w .one) (w .two) (w .others)))

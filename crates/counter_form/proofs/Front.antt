@@ -1,26 +1,27 @@
 -- What stands before the counter clauses after stage 4 of a choice.
-use mathlib.Core.Path.{_≡_, ap, subst}
+use mathlib.Core.Path.{_≡_, ap}
 use mathlib.Core.Logic.{⊎-elim}
-use mathlib.Core.List.{_∷_, _++_, List·Memᴰ, List·Memᴰ·head as here, List·Memᴰ·tail as there, List·Memᴰ·append-cases, Memᴰ·append-left}
+use mathlib.Core.List.{_∷_, _++_, map, map-append, append-assoc, List·Memᴰ, List·Memᴰ·head as here, List·Memᴰ·tail as there, List·Memᴰ·append-cases, Memᴰ·append-left}
 use Prim.Native.Nat.{_+_}
 use native.Mathlib.Omega.{arith}
 use lib.IntN.{ℤ, negℤ}
 use Rattle.definition.specs.Lists.{bit, count}
 use Rattle.definition.specs.Literals.{Clause, Formula, same-set, holds}
-use Rattle.definition.specs.Standing.{take-out}
+use Rattle.definition.specs.Standing.{addition, deletion, take-out}
 use Rattle.definition.specs.Events.{Choice}
 use Rattle.definition.specs.Clearing.{times}
-use Rattle.definition.specs.Counter.{pairs, missing-pairs, counter, copies, last-new}
+use Rattle.definition.specs.Counter.{pairs, missing-pairs, counter, take-choice, choice-lines, copies}
+use Rattle.definition.specs.Reencoding.{lines-of}
 use Rattle.laws.proofs.Members.{Same, Fits, proper-unopposed, holds-false, Absent}
 use Rattle.laws.proofs.Removal.{Removed, takes}
 use Rattle.soundness.proofs.Times.{holds-yes, times-++, times-cons, times-none, none-times, times-removed}
 use Rattle.soundness.proofs.Removals.{Removes, next, times-removes, mem-removes, stay-in}
-use Rattle.counter_form.proofs.Ready.{Ready, Other}
+use Rattle.counter_form.proofs.Ready.{Well-formed, Ready, Other}
 use Rattle.laws.proofs.Fitting.{Fit-all, fit-unneg}
 use Rattle.counter_form.proofs.Pairs.{Pair, pair-form, pair-literal, pairs-absent, missing-mem, pairs-spread}
 use Rattle.laws.proofs.Loops.{count-++}
 use Rattle.counter_form.proofs.Copies.{count-none, count-removed, drop-all, all-removed, copy-mem}
-use Rattle.counter_form.proofs.CounterLiterals.{counter-new, counter-fits-own}
+use Rattle.counter_form.proofs.CounterLiterals.{counter-new}
 
 -- the formula after stage 1, and the copies of pairs that stage 4 deletes
 abbrev pub paired : Formula → Choice → Formula
@@ -28,6 +29,10 @@ paired F k = F ++ missing-pairs F (k .literals)
 
 abbrev pub pair-copies : Formula → Choice → Formula
 pair-copies F k = copies (paired F k ++ counter k) (k .literals)
+
+pub taken-lines-are : (F : Formula) (k : Choice) → lines-of (take-choice F k) ≡ map addition (missing-pairs F (k .literals) ++ counter k) ++ map deletion (k .literals ∷ pair-copies F k)
+unfolding lines-of take-choice choice-lines counter
+taken-lines-are F k = simp (map-append, append-assoc)
 
 unfoldable pub front : Formula → Choice → Formula
 front F k = drop-all (take-out (k .literals) (paired F k)) (pairs (k .literals))
@@ -40,6 +45,9 @@ module _ (F : Formula) (k : Choice) (f : Fits (k .below) F) (r : Ready F k) wher
   -- the choice's literals are old ones, and each stands in no other clause
   pub own-fit : Fit-all (k .below) (k .literals)
   own-fit x i = f (k .clause) (r .standing) x (r .same .0 x i)
+
+  pub well-formed : Well-formed k
+  well-formed = record { proper = r .proper; long = r .long; fit = own-fit }
 
   pub clause-taken : Removed (k .literals) F (take-out (k .literals) F)
   clause-taken = takes (k .literals) (k .clause) F (r .standing) (r .same)
@@ -102,7 +110,7 @@ module _ (F : Formula) (k : Choice) (f : Fits (k .below) F) (r : Ready F k) wher
   front-kept x o d i j = stay-in x front-removes (Memᴰ·append-left (missing-pairs F (k .literals)) i) j away
     where
       away : Absent x (k .literals ∷ pair-copies F k)
-      away e (here q) y = o .not-in (subst (λ (z : Clause). List·Memᴰ x z) q y)
+      away e (here q) y = o .not-in (rw q at y)
       away e (there q) y = copies-absent x (o .not-negated) e q y
 
   -- ---- variables
@@ -111,6 +119,3 @@ module _ (F : Formula) (k : Choice) (f : Fits (k .below) F) (r : Ready F k) wher
 
   pub front-fits : Fits (k .below) (front F k)
   front-fits d i = paired-fits d (mem-removes front-removes i)
-
-  pub counter-fits : Fits (last-new k) (counter k)
-  counter-fits = counter-fits-own k (r .long) own-fit

@@ -1,8 +1,8 @@
 -- The pairs of a clause: their literals, that they are different sets, and that all hold exactly where at most one literal is true.
-use mathlib.Core.Path.{_≡_, refl, sym, _∙_, ap, subst}
+use mathlib.Core.Path.{_≡_, refl, sym, _∙_, ap}
 use mathlib.Core.Logic.{_≢_, ⊎-elim}
 use mathlib.Core.Bool.{Bool, true, false, not}
-use mathlib.Core.List.{[], _∷_, _++_, map, List·Memᴰ, List·Memᴰ·head as here, List·Memᴰ·tail as there, Memᴰ·cast, List·Memᴰ·append-cases}
+use mathlib.Core.List.{[], _∷_, map, List·Memᴰ, List·Memᴰ·head as here, List·Memᴰ·tail as there, Memᴰ·cast, List·Memᴰ·append-cases}
 use Prim.Native.Nat.{_+_, _≤_}
 use native.Mathlib.Omega.{arith}
 use lib.IntN.{ℤ, pos, negℤ, negℤ-negℤ}
@@ -15,7 +15,7 @@ use Rattle.laws.proofs.Tests.{of-true, of-false, by-test}
 use Rattle.laws.proofs.Members.{Same, Proper, those-mem, mem-those, turn, Absent}
 use Rattle.laws.proofs.Trues.{negated, Sat, sat-at, sat-all, sat-++, sat-left, sat-right}
 use Rattle.laws.proofs.Removal.{stands-removed, sat-of}
-use Rattle.soundness.proofs.Removals.{Spread}
+use Rattle.soundness.proofs.Removals.{Spread, spread-++}
 
 -- ---- the pairs with one literal
 abbrev pairs-with : ℤ → Clause → Formula
@@ -48,7 +48,7 @@ pair-form (a ∷ c) p d i =
 
 -- each literal of a pair is the negation of a literal of the clause
 pub pair-literal : {c d : Clause} → Pair c d → (x : ℤ) → List·Memᴰ x d → List·Memᴰ (negℤ x) c
-pair-literal {c} r x i = go (subst (λ (z : Clause). List·Memᴰ x z) (r .is) i)
+pair-literal {c} r x i = go (rw (r .is) at i)
   where
     go : List·Memᴰ x (negℤ (r .one) ∷ negℤ (r .two) ∷ []) → List·Memᴰ (negℤ x) c
     go (here e) = Memᴰ·cast (turn x (r .one) e) (r .one-in)
@@ -96,19 +96,12 @@ missing-all σ F c s t =
     (λ e. sat-at σ (missing-pairs F c) t (mem-those (λ p. not (stands p F)) (pairs c) p i (of-false e))))
 
 -- ---- two pairs of a proper clause are different sets
-spread-++ : (A B : Formula) → Spread A → Spread B → ((a b : Clause) → List·Memᴰ a A → List·Memᴰ b B → Same a b → ⊥) → Spread (A ++ B)
-spread-++ [] B s t n = t
-spread-++ (a ∷ A) B s t n = (
-  λ k i. ⊎-elim (s .0 k) (n a k (here refl)) (List·Memᴰ·append-cases A i),
-  spread-++ A B (s .1) t (λ x y i. n x y (there i)),
-)
-
 pairs-with-spread : (a : ℤ) (c : Clause) → (List·Memᴰ a c → ⊥) → Proper c → Spread (pairs-with a c)
 pairs-with-spread a [] n p = tt
 pairs-with-spread a (b ∷ c) n p = (λ k i s. no k (pairs-with-form a c k i) s, pairs-with-spread a c (λ i. n (there i)) (p .3))
   where
     no : (k : Clause) → (y : ℤ) × List·Memᴰ y c × (k ≡ negℤ a ∷ negℤ y ∷ []) → Same (negℤ a ∷ negℤ b ∷ []) k → ⊥
-    no k r s = go (subst (λ (z : Clause). List·Memᴰ (negℤ b) z) (r .2) (s .0 (negℤ b) (there (here refl))))
+    no k r s = go (rw (r .2) at (s .0 (negℤ b) (there (here refl))))
       where
         go : List·Memᴰ (negℤ b) (negℤ a ∷ negℤ (r .0) ∷ []) → ⊥
         go (here e) = n (here (sym (sym (negℤ-negℤ b) ∙ turn (negℤ b) a e)))
@@ -122,4 +115,4 @@ pairs-spread (a ∷ c) p = spread-++ (pairs-with a c) (pairs c) (pairs-with-spre
     apart : (d e : Clause) → List·Memᴰ d (pairs-with a c) → List·Memᴰ e (pairs c) → Same d e → ⊥
     apart d e i j s =
         let r = pairs-with-form a c d i in
-        p .1 (Memᴰ·cast (sym (negℤ-negℤ a)) (pair-literal (pair-form c (p .3) e j) (negℤ a) (s .0 (negℤ a) (subst (λ (z : Clause). List·Memᴰ (negℤ a) z) (sym (r .2)) (here refl)))))
+        p .1 (Memᴰ·cast (sym (negℤ-negℤ a)) (pair-literal (pair-form c (p .3) e j) (negℤ a) (s .0 (negℤ a) (rw (r .2) (here refl)))))

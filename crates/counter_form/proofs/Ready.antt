@@ -8,6 +8,13 @@ use Rattle.definition.specs.Literals.{Formula}
 use Rattle.definition.specs.Events.{Choice}
 use Rattle.definition.specs.Clearing.{times}
 use Rattle.laws.proofs.Members.{Same, Proper}
+use Rattle.laws.proofs.Fitting.{Fit-all}
+
+-- a choice of two or more literals, all of its variables before the new ones
+pub record Well-formed (k : Choice) : Type 0 where
+  pub proper : Proper (k .literals)
+  pub long : 2 ≤ length (k .literals)
+  pub fit : Fit-all (k .below) (k .literals)
 
 -- a choice that can be taken where F stands: its literals are those of a standing clause, in some order, and each stands in that clause only
 pub record Ready (F : Formula) (k : Choice) : Type 0 where

@@ -13,6 +13,7 @@ use Rattle.definition.specs.Events.{Event}
 use Rattle.laws.proofs.Tests.{bit≤1, bit-not}
 use Rattle.laws.proofs.Members.{Proper, proper-literal, proper-unopposed, Fit, Fits, natAbs-neg, Absent}
 use Rattle.laws.proofs.Trues.{negated, keeps, unmoved, trues-at, Sat, sat-left, sat-right}
+use Rattle.laws.proofs.Clauses.{members-snoc}
 use Rattle.laws.proofs.Removal.{Removed, split}
 use Rattle.soundness.proofs.Sound.{Sound}
 use Rattle.soundness.proofs.Rules.{negation-only, absent-stays, add-first, add-all}
@@ -69,26 +70,20 @@ module _ {F G : Formula} {c : Clause} (taken : Removed c F G) (p : Proper c) (al
 
   pub pairs-added : {H : Formula} {K L : List Event} {xs : List Line} (P S : Formula) → ((d : Clause) → List·Memᴰ d P → Pair c d) → ((d : Clause) → List·Memᴰ d S → Pair c d) →
       Sound (F ++ (P ++ S)) K xs H L → Sound (F ++ P) K (map addition S ++ xs) H L
-  pairs-added {H} {K} {L} {xs} P [] q w s = subst (λ (X : Formula). Sound (F ++ X) K xs H L) (append-nil P) s
+  pairs-added {H} {K} {L} {xs} P [] q w s = rw (append-nil P) at s
   pairs-added {H} {K} {L} {xs} P (d ∷ S) q w s =
       let r = w d (here refl) in
-      subst (λ (z : Clause). Sound (F ++ P) K (addition z ∷ (map addition S ++ xs)) H L) (sym (r .is))
+      rw (r .is)
       (add-first (pair-first P q r)
       (subst (λ (z : Clause). Sound ((F ++ P) ++ (z ∷ [])) K (map addition S ++ xs) H L) (r .is)
-      (simp append-assoc (pairs-added (P ++ (d ∷ [])) S more (λ k i. w k (there i)) (simp append-assoc s)))))
-    where
-      more : (k : Clause) → List·Memᴰ k (P ++ (d ∷ [])) → Pair c k
-      more k i = ⊎-elim (q k) (λ j. subst (Pair c) (sym (List·Memᴰ·eq-of-singleton j)) (w d (here refl))) (List·Memᴰ·append-cases P i)
+      (simp append-assoc (pairs-added (P ++ (d ∷ [])) S (members-snoc (Pair c) P d q r) (λ k i. w k (there i)) (simp append-assoc s)))))
 
 -- ---- stage 2: a new variable, h + 1; the only clauses with its negation hold the literal that forces it
 upper : (h : ℕ) (F : Formula) (y : ℤ) → Fit h y → ((d : Clause) → List·Memᴰ d F → List·Memᴰ (negsuc h) d → List·Memᴰ y d) →
     (σ : Assignment) → Sat σ F → trues σ (pos (suc h) ∷ negℤ y ∷ []) ≡ 0 → Sat (make-true (pos (suc h)) σ) F
 unfolding trues count
 upper h F y f w σ s o =
-    negation-only σ (pos (suc h)) F s (λ d i m. omega (arith, negated σ y (f .0), ap bit (unmoved (pos (suc h)) y σ (λ e. no (f .1) e)), trues-at (make-true (pos (suc h)) σ) (w d i m)))
-  where
-    no : natAbs y ≤ h → natAbs y ≡ suc h → ⊥
-    no b e = omega arith
+    negation-only σ (pos (suc h)) F s (λ d i m. omega (arith, negated σ y (f .0), ap bit (unmoved (pos (suc h)) y σ (λ e. omega (arith, f .1))), trues-at (make-true (pos (suc h)) σ) (w d i m)))
 
 -- the clauses of which each says that a literal of ys makes it true
 abbrev uppers : ℕ → Clause → Formula
@@ -106,10 +101,7 @@ module _ {H : Formula} {K L : List Event} {xs : List Line} where
     where
       none : List·Memᴰ (negsuc h) (pos (suc h) ∷ negℤ y ∷ []) → ⊥
       none (here e) = let k : _≡_ {A = ℕ} 0 1 = cc in omega arith
-      none (there (here e)) = no (ap natAbs e ∙ natAbs-neg y) (f y (here refl) .1)
-        where
-          no : suc h ≡ natAbs y → natAbs y ≤ h → ⊥
-          no e b = omega arith
+      none (there (here e)) = omega (arith, ap natAbs e, natAbs-neg y, f y (here refl) .1)
 
   -- defined by the clause r, which follows from it, and the clauses for the literals of r
   defined : (h : ℕ) (F : Formula) (r : Clause) → Fits h F → Fit-all h r →
@@ -124,12 +116,12 @@ module _ {H : Formula} {K L : List Event} {xs : List Line} where
 
 stage-2-added : {H : Formula} {K L : List Event} (xs : List Line) (h : ℕ) (m : ℤ) (c : Clause) (F : Formula) → Fit-all (suc h) (m ∷ c) → Fits (suc h) F →
     Sound (F ++ stage-2-from h (m ∷ c)) K xs H L → Sound F K (map addition (stage-2-from h (m ∷ c)) ++ xs) H L
-stage-2-added {H} {K} {L} xs h m [] F f u s = subst (λ (X : Formula). Sound X K xs H L) (append-nil F) s
+stage-2-added {H} {K} {L} xs h m [] F f u s = rw (append-nil F) at s
 stage-2-added {H} {K} {L} xs h m (k ∷ c) F f u s =
     defined (suc h) F (pos (suc h) ∷ m ∷ []) u lits
     (stage-2-added xs (suc h) k c (F ++ three) (λ x i. fit-up (suc (suc h)) (suc h) x (omega arith) (f x (there i)))
     (fits-++ (suc (suc h)) F three (fits-up (suc (suc h)) (suc h) F (omega arith) u) fits-three)
-    (subst (λ (X : Formula). Sound X K xs H L) (sym (append-assoc F three (stage-2-from (suc h) (k ∷ c)))) s))
+    (rw (append-assoc F three (stage-2-from (suc h) (k ∷ c))) s))
   where
     three : Formula
     three = (negsuc (suc h) ∷ pos (suc h) ∷ m ∷ []) ∷ (pos (suc (suc h)) ∷ negsuc h ∷ []) ∷ (pos (suc (suc h)) ∷ negℤ m ∷ []) ∷ []

@@ -1,5 +1,5 @@
 -- Proper clauses: with a literal more at the end, and what the tests for repeated and opposed literals say. Assumes nothing.
-use mathlib.Core.Path.{_≡_, refl, sym, ap, subst}
+use mathlib.Core.Path.{_≡_, refl, sym, ap}
 use mathlib.Core.Bool.{false}
 use mathlib.Core.Logic.{_≢_, ⊎-elim}
 use mathlib.Core.List.{List, [], _∷_, _++_, List·Memᴰ, List·Memᴰ·head as here, List·Memᴰ·tail as there, List·Memᴰ·not-nil, List·Memᴰ·cases-cons, List·Memᴰ·append-cases, List·Memᴰ·eq-of-singleton, Memᴰ·append-right}
@@ -8,9 +8,10 @@ use native.Mathlib.Omega.{arith}
 use lib.IntN.{ℤ, pos, negsuc, negℤ, natAbs}
 use lib.ListN.{length}
 use Rattle.definition.specs.Lists.{sum-of}
-use Rattle.definition.specs.Literals.{Clause, Formula, literals-of, repeated, opposed}
-use Rattle.laws.proofs.Tests.{to-false}
-use Rattle.laws.proofs.Members.{turn, holds-false, opposes-mem, Proper, proper-unopposed}
+use Rattle.definition.specs.Literals.{Clause, Formula, holds, literals-of, repeated, opposed}
+use Rattle.laws.proofs.Tests.{to-false, differ, or-false-both}
+use Rattle.laws.proofs.Sums.{sum-++, count-length, Distinct, sum-within}
+use Rattle.laws.proofs.Members.{turn, holds-false, mem-holds, opposes-mem, mem-opposes, Same, Proper, proper-unopposed}
 
 -- a literal of a proper clause, and those before it
 pub proper-apart : (a : Clause) (l : ℤ) (c : Clause) → Proper (a ++ l ∷ c) → (List·Memᴰ l a → ⊥) × (List·Memᴰ (negℤ l) a → ⊥)
@@ -28,12 +29,11 @@ natAbs-zero (negsuc n) e = let k : _≡_ {A = ℕ} 0 1 = omega arith in cc
 -- a clause at the end of a formula
 pub literals-snoc : (f : Formula) (c : Clause) → literals-of (f ++ (c ∷ [])) ≡ literals-of f + length c
 unfolding literals-of sum-of
-literals-snoc [] c = omega arith
-literals-snoc (d ∷ f) c = omega (arith, literals-snoc f c)
+literals-snoc f c = omega (arith, sum-++ length f (c ∷ []))
 
 -- a property of the members of f and of c, with c put after f
 pub members-snoc : {A : Type 0} (P : A → Type 0) (f : List A) (c : A) → ((d : A) → List·Memᴰ d f → P d) → P c → (d : A) → List·Memᴰ d (f ++ (c ∷ [])) → P d
-members-snoc P [] c h p d (here e) = subst P (sym e) p
+members-snoc P [] c h p d (here e) = rw e p
 members-snoc P (k ∷ f) c h p d (here e) = h d (here e)
 members-snoc P (k ∷ f) c h p d (there i) = members-snoc P f c (λ x j. h x (there j)) p d i
 
@@ -56,3 +56,25 @@ proper-unrepeated (l ∷ c) p = rw (holds-false l c (p .1)) (proper-unrepeated c
 pub proper-not-opposed : (c : Clause) → Proper c → opposed c ≡ false
 unfolding opposed
 proper-not-opposed c p = to-false (λ t. let r = opposes-mem c c t in proper-unopposed c p (r .0) (r .1) (r .2))
+
+-- and a clause with neither, and without 0, is proper
+pub tests-proper : (c : Clause) → repeated c ≡ false → opposed c ≡ false → ((x : ℤ) → List·Memᴰ x c → x ≢ pos 0) → Proper c
+unfolding opposed repeated
+tests-proper c r o z = by-members c r (λ x i j. differ (mem-opposes c c x i j) o) z
+  where
+    by-members : (c : Clause) → repeated c ≡ false → ((x : ℤ) → List·Memᴰ x c → List·Memᴰ (negℤ x) c → ⊥) → ((x : ℤ) → List·Memᴰ x c → x ≢ pos 0) → Proper c
+    by-members [] r o z = tt
+    by-members (l ∷ c) r o z =
+        let q = or-false-both (holds l c) (repeated c) r in
+        (z l (here refl), λ i. differ (mem-holds l c i) (q .0), λ i. o l (here refl) (there i), by-members c (q .1) (λ x i j. o x (there i) (there j)) (λ x i. z x (there i)))
+
+-- ---- two proper clauses with the same literals have the same sums
+pub proper-distinct : (c : Clause) → Proper c → Distinct c
+proper-distinct [] p = tt
+proper-distinct (l ∷ c) p = (p .1, proper-distinct c (p .3))
+
+pub same-sum : (w : ℤ → ℕ) (c d : Clause) → Proper c → Proper d → Same c d → sum-of w c ≡ sum-of w d
+same-sum w c d p q s = omega (arith, sum-within w c d (proper-distinct c p) (s .0), sum-within w d c (proper-distinct d q) (s .1))
+
+pub same-length : (c d : Clause) → Proper c → Proper d → Same c d → length c ≡ length d
+same-length c d p q s = omega (arith, same-sum (λ _. 1) c d p q s, count-length c, count-length d)

@@ -1,5 +1,6 @@
 pub mod Tests
 pub mod Loops
+pub mod Sums
 pub mod Members
 pub mod Clauses
 pub mod Fitting

@@ -1,5 +1,5 @@
 -- What the loops over lists give: members, first finds, one list after another. Assumes nothing.
-use mathlib.Core.Path.{_≡_, refl, sym, _∙_, ap, subst}
+use mathlib.Core.Path.{_≡_, refl, sym, _∙_, ap}
 use mathlib.Core.Logic.{⊎-elim}
 use mathlib.Core.Bool.{Bool, true, false, cond}
 use mathlib.Core.List.{List, [], _∷_, _++_, append-assoc, List·Memᴰ, List·Memᴰ·head as here, List·Memᴰ·tail as there, Memᴰ·append-left, Memᴰ·append-right, List·Memᴰ·append-cases}
@@ -8,9 +8,9 @@ use Prim.Native.Nat.{ℕ, zero, suc, _+_, _≤_, _<_}
 use native.Mathlib.Omega.{arith}
 use native.Mathlib.Decide.{ℕ-discrete}
 use lib.Dec.{T}
-use lib.ListN.{length, getD}
-use Rattle.definition.specs.Lists.{first, count, only-if, or-else, first-from, for-each}
-use Rattle.laws.proofs.Tests.{of-true, differ}
+use lib.ListN.{length, getD, replicate}
+use Rattle.definition.specs.Lists.{first, count, only-if, or-else, first-from, for-from, for-each}
+use Rattle.laws.proofs.Tests.{of-true, differ, bit-true}
 
 -- ---- what `for-each` and `only-if` give
 module _ {A B : Type 0} where
@@ -21,7 +21,7 @@ module _ {A B : Type 0} where
 
   pub mem-for-each : (xs : List A) (f : A → List B) (x : A) (y : B) → List·Memᴰ x xs → List·Memᴰ y (f x) → List·Memᴰ y (for-each xs f)
   unfolding for-each
-  mem-for-each (z ∷ xs) f x y (here e) j = Memᴰ·append-left (for-each xs f) (subst (λ (k : A). List·Memᴰ y (f k)) e j)
+  mem-for-each (z ∷ xs) f x y (here e) j = Memᴰ·append-left (for-each xs f) (rw e at j)
   mem-for-each (z ∷ xs) f x y (there i) j = Memᴰ·append-right (f z) (mem-for-each xs f x y i j)
 
 module _ {A : Type 0} where
@@ -32,7 +32,18 @@ module _ {A : Type 0} where
   pub mem-only-if : (b : Bool) (xs : List A) (x : A) → T b → List·Memᴰ x xs → List·Memᴰ x (only-if b xs)
   unfolding only-if
   mem-only-if true xs x t i = i
-  mem-only-if false xs x t i = absurd t
+
+  pub replicate-mem : (n : ℕ) (x y : A) → List·Memᴰ y (replicate n x) → y ≡ x
+  replicate-mem (suc n) x y (here e) = e
+  replicate-mem (suc n) x y (there i) = replicate-mem n x y i
+
+  -- what `for-from` gives
+  pub for-from-mem : (i n : ℕ) (f : ℕ → List A) (x : A) → List·Memᴰ x (for-from i n f) → (j : ℕ) × (i ≤ j) × (j < i + n) × List·Memᴰ x (f j)
+  unfolding for-from
+  for-from-mem i (suc n) f x m =
+      ⊎-elim (λ k. (i, omega arith, omega arith, k))
+      (λ k. let r = for-from-mem (suc i) n f x k in (r .0, omega (arith, r .1), omega (arith, r .2), r .3))
+      (List·Memᴰ·append-cases (f i) m)
 
 pub for-each-++ : {A B : Type 0} (xs ys : List A) (f : A → List B) → for-each (xs ++ ys) f ≡ for-each xs f ++ for-each ys f
 unfolding for-each
@@ -40,10 +51,7 @@ for-each-++ [] ys f = refl
 for-each-++ (x ∷ xs) ys f = rw (for-each-++ xs ys f, append-assoc)
 
 pub getD-mem : {A : Type 0} (xs : List A) (i : ℕ) (d : A) → i < length xs → List·Memᴰ (getD xs i d) xs
-getD-mem [] i d h = absurd (no h)
-  where
-    no : i < 0 → ⊥
-    no h = omega arith
+getD-mem [] i d h = absurd (omega arith)
 getD-mem (x ∷ xs) zero d h = here refl
 getD-mem (x ∷ xs) (suc i) d h = there (getD-mem xs i d (omega arith))
 
@@ -52,23 +60,22 @@ unfolding count
 count-++ t [] ys = omega arith
 count-++ t (x ∷ xs) ys = omega (arith, count-++ t xs ys)
 
+pub count-mem : {A : Type 0} (p : A → Bool) (xs : List A) (x : A) → List·Memᴰ x xs → T (p x) → 1 ≤ count p xs
+unfolding count
+count-mem {A} p (y ∷ xs) x (here e) t = omega (arith, bit-true (p y) (rw e at t))
+count-mem p (y ∷ xs) x (there m) t = omega (arith, count-mem p xs x m t)
+
 -- nothing is not something
 pub none-some : {A : Type 0} {P : Type 0} {x : A} → none ≡ some x → P
-none-some e = let z : _≡_ {A = ℕ} 0 1 = cc in absurd (no z)
-  where
-    no : _≡_ {A = ℕ} 0 1 → ⊥
-    no z = omega arith
+none-some e = let z : _≡_ {A = ℕ} 0 1 = cc in absurd (omega arith)
 
 -- ---- numbers
 pub by-order : {X : Type 0} (i k : ℕ) → i ≤ k → (i ≡ k → X) → (i < k → X) → X
 by-order {X} i k h f g = go (ℕ-discrete i k)
   where
-    less : ¬ (i ≡ k) → i < k
-    less d = omega arith
-
     go : Dec (i ≡ k) → X
     go (yes d) = f d
-    go (no d) = g (less d)
+    go (no d) = g (omega arith)
 
 -- what holds from 1 up to n and at n
 pub one-more : (P : ℕ → Type 0) (n : ℕ) → P n → ((k : ℕ) → 1 ≤ k → k < n → P k) → (k : ℕ) → 1 ≤ k → k < suc n → P k
@@ -82,7 +89,7 @@ module _ {A : Type 0} where
   first-some p (y ∷ xs) x e = go (p y) refl e (first-some p xs x)
     where
       go : (b : Bool) → p y ≡ b → cond b (some y) (first p xs) ≡ some x → (first p xs ≡ some x → List·Memᴰ x xs × T (p x)) → List·Memᴰ x (y ∷ xs) × T (p x)
-      go true t e ih = let y=x : y ≡ x = cc in (here (sym y=x), subst (λ (z : A). T (p z)) y=x (of-true t))
+      go true t e ih = let y=x : y ≡ x = cc in (here (sym y=x), rw y=x at (of-true t))
       go false t e ih = let r = ih e in (there (r .0), r .1)
 
   pub first-none : (p : A → Bool) (xs : List A) → first p xs ≡ none → (x : A) → List·Memᴰ x xs → T (p x) → ⊥
@@ -97,10 +104,7 @@ module _ {A : Type 0} where
   -- ---- the first number for which something is found
   pub first-from-none : (f : ℕ → Option A) (i n : ℕ) → first-from i n f ≡ none → (k : ℕ) → i ≤ k → k < i + n → f k ≡ none
   unfolding first-from or-else
-  first-from-none f i zero e k lo hi = absurd (no hi)
-    where
-      no : k < i + 0 → ⊥
-      no hi = omega arith
+  first-from-none f i zero e k lo hi = absurd (omega arith)
   first-from-none f i (suc n) e k lo hi = go (f i) refl e (λ q l. first-from-none f (suc i) n q k l (omega arith))
     where
       go : (o : Option A) → f i ≡ o → or-else o (first-from (suc i) n f) ≡ none → (first-from (suc i) n f ≡ none → i < k → f k ≡ none) → f k ≡ none
@@ -113,12 +117,6 @@ module _ {A : Type 0} where
   first-from-some f i zero x e = none-some e
   first-from-some f i (suc n) x e = go (f i) refl e (first-from-some f (suc i) n x)
     where
-      below : (j : ℕ) → i ≤ j → j < i → f j ≡ none
-      below j a b = absurd (no j a b)
-        where
-          no : (j : ℕ) → i ≤ j → j < i → ⊥
-          no j a b = omega arith
-
       before : f i ≡ none → (k : ℕ) → ((j : ℕ) → suc i ≤ j → j < k → f j ≡ none) → (j : ℕ) → i ≤ j → j < k → f j ≡ none
       before q k h j a b = by-order i j a (λ d. rw (← d) q) (λ l. h j l b)
 
@@ -126,7 +124,7 @@ module _ {A : Type 0} where
           (first-from (suc i) n f ≡ some x → (k : ℕ) × (suc i ≤ k) × (k < suc i + n) × (f k ≡ some x) × ((j : ℕ) → suc i ≤ j → j < k → f j ≡ none)) →
           (k : ℕ) × (i ≤ k) × (k < i + suc n) × (f k ≡ some x) × ((j : ℕ) → i ≤ j → j < k → f j ≡ none)
       go none q e ih = let r = ih e in (r .0, omega (arith, r .1), omega (arith, r .2), r .3, before q (r .0) (r .4))
-      go (some y) q e ih = (i, omega arith, omega arith, q ∙ e, below)
+      go (some y) q e ih = (i, omega arith, omega arith, q ∙ e, λ j a b. absurd (omega arith))
 
   pub none-first-from : (f : ℕ → Option A) (i n : ℕ) → ((k : ℕ) → i ≤ k → k < i + n → f k ≡ none) → first-from i n f ≡ none
   unfolding first-from or-else
@@ -135,9 +133,6 @@ module _ {A : Type 0} where
 
   pub some-first-from : (f : ℕ → Option A) (i n j : ℕ) (x : A) → i ≤ j → j < i + n → ((k : ℕ) → i ≤ k → k < j → f k ≡ none) → f j ≡ some x → first-from i n f ≡ some x
   unfolding first-from or-else
-  some-first-from f i zero j x lo hi h e = absurd (no hi)
-    where
-      no : j < i + 0 → ⊥
-      no hi = omega arith
+  some-first-from f i zero j x lo hi h e = absurd (omega arith)
   some-first-from f i (suc n) j x lo hi h e =
       by-order i j lo (λ d. rw (d, e)) (λ l. rw (h i (omega arith) l, or-else) (some-first-from f (suc i) n j x l (omega arith) (λ k a b. h k (omega arith) b) e))

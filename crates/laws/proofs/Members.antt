@@ -1,5 +1,5 @@
 -- Membership: what `any`, `all`, `holds`, `same-set` and `those` say of members. Assumes nothing.
-use mathlib.Core.Path.{_≡_, refl, sym, _∙_, ap, subst}
+use mathlib.Core.Path.{_≡_, refl, sym, _∙_, ap}
 use mathlib.Core.Logic.{_≢_, _⊎_, inl, inr, ⊎-elim}
 use mathlib.Core.Bool.{Bool, true, false, cond}
 use mathlib.Core.List.{List, [], _∷_, List·Memᴰ, List·Memᴰ·head as here, List·Memᴰ·tail as there, Memᴰ·cast}
@@ -7,26 +7,25 @@ use Prim.Native.Nat.{ℕ, zero, suc, _≤_, _<_}
 use native.Mathlib.Omega.{arith}
 use lib.Dec.{T, eqb→eq, eqb-refl}
 use lib.IntN.{ℤ, pos, negsuc, negℤ, negℤ-negℤ, natAbs}
-use Rattle.definition.specs.Lists.{any, all, those}
+use Rattle.definition.specs.Lists.{any, all, those, first}
 use Rattle.definition.specs.Literals.{Clause, Formula, same, holds, same-set, opposes}
-use Rattle.laws.proofs.Tests.{of-true, differ, to-false, and-l, and-r, and-i, or-cases, or-l, or-r}
+use Rattle.laws.proofs.Tests.{of-true, differ, to-false, each-way, and-l, and-r, and-i, or-cases, or-l, or-r}
 
 -- ---- lists
 module _ {A : Type 0} where
   pub any-mem : (p : A → Bool) (xs : List A) → T (any p xs) → (x : A) × List·Memᴰ x xs × T (p x)
   unfolding any
-  any-mem p [] t = absurd t
   any-mem p (x ∷ xs) t =
       ⊎-elim (λ u. (x, here refl, u)) (λ u. let r = any-mem p xs u in (r .0, there (r .1), r .2)) (or-cases (p x) (any p xs) t)
 
   pub mem-any : (p : A → Bool) (xs : List A) (x : A) → List·Memᴰ x xs → T (p x) → T (any p xs)
   unfolding any
-  mem-any p (y ∷ xs) x (here e) t = or-l (p y) (any p xs) (subst (λ (z : A). T (p z)) e t)
+  mem-any p (y ∷ xs) x (here e) t = or-l (p y) (any p xs) (rw e at t)
   mem-any p (y ∷ xs) x (there i) t = or-r (p y) (any p xs) (mem-any p xs x i t)
 
   pub all-at : (p : A → Bool) (xs : List A) → T (all p xs) → (x : A) → List·Memᴰ x xs → T (p x)
   unfolding all
-  all-at p (y ∷ xs) t x (here e) = subst (λ (z : A). T (p z)) (sym e) (and-l (p y) (all p xs) t)
+  all-at p (y ∷ xs) t x (here e) = rw e (and-l (p y) (all p xs) t)
   all-at p (y ∷ xs) t x (there i) = all-at p xs (and-r (p y) (all p xs) t) x i
 
   pub all-of : (p : A → Bool) (xs : List A) → ((x : A) → List·Memᴰ x xs → T (p x)) → T (all p xs)
@@ -65,12 +64,15 @@ module _ {A : Type 0} (p q : A → Bool) where
   all-same [] h = refl
   all-same (x ∷ xs) h = rw (h x (here refl), all-same xs (λ y i. h y (there i)))
 
+  pub first-agree : (xs : List A) → ((x : A) → List·Memᴰ x xs → p x ≡ q x) → first p xs ≡ first q xs
+  unfolding first
+  first-agree [] h = refl
+  first-agree (x ∷ xs) h = rw (h x (here refl), first-agree xs (λ y i. h y (there i)))
+
 -- ---- literals
 pub same-eq : (l m : ℤ) → T (same l m) → l ≡ m
 unfolding same
 same-eq (pos a) (pos b) t = ap pos (eqb→eq a b t)
-same-eq (pos a) (negsuc b) t = absurd t
-same-eq (negsuc a) (pos b) t = absurd t
 same-eq (negsuc a) (negsuc b) t = ap negsuc (eqb→eq a b t)
 
 pub same-refl : (l : ℤ) → T (same l l)
@@ -90,21 +92,12 @@ unlike-false y k n = to-false (λ t. n (same-eq y k t))
 -- a literal is not its negation; 0 is no literal
 pub own : (l : ℤ) → l ≢ pos 0 → l ≢ negℤ l
 own (pos zero) z e = z refl
-own (pos (suc n)) z e = let k : _≡_ {A = ℕ} 0 1 = cc in absurd (no k)
-  where
-    no : _≡_ {A = ℕ} 0 1 → ⊥
-    no k = omega arith
-own (negsuc n) z e = let k : _≡_ {A = ℕ} 0 1 = cc in absurd (no k)
-  where
-    no : _≡_ {A = ℕ} 0 1 → ⊥
-    no k = omega arith
+own (pos (suc n)) z e = let k : _≡_ {A = ℕ} 0 1 = cc in omega arith
+own (negsuc n) z e = let k : _≡_ {A = ℕ} 0 1 = cc in omega arith
 
 -- literals of a lower and a higher variable
 pub far : (l x : ℤ) → natAbs l < natAbs x → l ≢ x
-far l x h e = no (ap natAbs e)
-  where
-    no : natAbs l ≡ natAbs x → ⊥
-    no q = omega arith
+far l x h e = omega (arith, ap natAbs e)
 
 pub turn : (l m : ℤ) → l ≡ negℤ m → negℤ l ≡ m
 turn l m e = ap negℤ e ∙ negℤ-negℤ m
@@ -163,6 +156,14 @@ same-turned s = (s .1, s .0)
 pub same-joined : {c d e : Clause} → Same c d → Same d e → Same c e
 same-joined s t = (λ l i. t .0 l (s .0 l i), λ l i. s .1 l (t .1 l i))
 
+-- two literals in the other order
+pub pair-turned : (x y : ℤ) → Same (x ∷ y ∷ []) (y ∷ x ∷ [])
+pair-turned x y = (λ l. turned l x y, λ l. turned l y x)
+  where
+    turned : (l u v : ℤ) → List·Memᴰ l (u ∷ v ∷ []) → List·Memᴰ l (v ∷ u ∷ [])
+    turned l u v (here e) = there (here e)
+    turned l u v (there (here e)) = here e
+
 -- a literal of c whose negation is in d
 pub opposes-mem : (c d : Clause) → T (opposes c d) → (x : ℤ) × List·Memᴰ x c × List·Memᴰ (negℤ x) d
 unfolding opposes
@@ -171,6 +172,12 @@ opposes-mem c d t = let r = any-mem (λ l. holds (negℤ l) d) c t in (r .0, r .
 pub mem-opposes : (c d : Clause) (x : ℤ) → List·Memᴰ x c → List·Memᴰ (negℤ x) d → T (opposes c d)
 unfolding opposes
 mem-opposes c d x i j = mem-any (λ l. holds (negℤ l) d) c x i (mem-holds (negℤ x) d j)
+
+pub opposes-same : (c d e : Clause) → Same d e → opposes c d ≡ opposes c e
+opposes-same c d e s = each-way (within d e (s .0)) (within e d (s .1))
+  where
+    within : (d e : Clause) → Within d e → T (opposes c d) → T (opposes c e)
+    within d e h t = let r = opposes-mem c d t in mem-opposes c e (r .0) (r .1) (h (negℤ (r .0)) (r .2))
 
 -- ---- a proper clause: no literal is 0, repeated or opposed
 abbrev pub Proper : Clause → Type 0
@@ -186,6 +193,18 @@ proper-unopposed (l ∷ c) a x (here e) (here q) = own l (a .0) (sym q ∙ ap ne
 proper-unopposed (l ∷ c) a x (here e) (there j) = a .2 (Memᴰ·cast (ap negℤ (sym e)) j)
 proper-unopposed (l ∷ c) a x (there i) (here q) = a .2 (Memᴰ·cast (turn l x (sym q)) i)
 proper-unopposed (l ∷ c) a x (there i) (there j) = proper-unopposed c (a .3) x i j
+
+-- two literals of a proper clause, the first and one behind it, are of different variables
+pub proper-first : (x : ℤ) (c : Clause) → Proper (x ∷ c) → (y : ℤ) → List·Memᴰ y c → natAbs x ≢ natAbs y
+proper-first x c p y m e = ⊎-elim (λ q. p .1 (Memᴰ·cast q m)) (λ q. p .2 (Memᴰ·cast (turn x y q) m)) (same-variable x y e)
+
+-- no variable in common
+abbrev pub Disjoint : Clause → Clause → Type 0
+Disjoint c d = (x : ℤ) → List·Memᴰ x c → (y : ℤ) → List·Memᴰ y d → natAbs x ≢ natAbs y
+
+abbrev pub Parted : List Clause → Type 0
+Parted [] = Unit {0}
+Parted (c ∷ cs) = ((d : Clause) → List·Memᴰ d cs → Disjoint c d) × Parted cs
 
 -- every clause of the formula is proper
 abbrev pub Proper-all : Formula → Type 0

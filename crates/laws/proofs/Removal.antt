@@ -1,5 +1,5 @@
 -- Taking out the first clause with the same set of literals. Assumes nothing.
-use mathlib.Core.Path.{_≡_, refl, sym, ap, subst}
+use mathlib.Core.Path.{_≡_, refl, ap}
 use mathlib.Core.Logic.{_⊎_, inl, inr}
 use mathlib.Core.Bool.{Bool, true, false, cond, _||_}
 use mathlib.Core.List.{[], _∷_, _++_, List·Memᴰ, List·Memᴰ·head as here, List·Memᴰ·tail as there}
@@ -10,7 +10,7 @@ use Rattle.definition.specs.Lists.{any}
 use Rattle.definition.specs.Literals.{Clause, Formula, same-set}
 use Rattle.definition.specs.Standing.{stands, take-out}
 use Rattle.definition.specs.Assignments.{Assignment, trues}
-use Rattle.laws.proofs.Tests.{of-true, or-l, or-r}
+use Rattle.laws.proofs.Tests.{of-true, to-true, or-l, or-r}
 use Rattle.laws.proofs.Members.{Same, same-set-same, same-same-set}
 use Rattle.laws.proofs.Trues.{hit-in, Sat}
 
@@ -31,7 +31,6 @@ removed-stands (later e r) = rw e (removed-stands r)
 
 pub stands-removed : (c : Clause) (F : Formula) → T (stands c F) → Removed c F (take-out c F)
 unfolding stands any take-out
-stands-removed c [] t = absurd t
 stands-removed c (d ∷ F) t = go (same-set c d) refl t (stands-removed c F)
   where
     go : (b : Bool) → same-set c d ≡ b → T (b || any (same-set c) F) → (T (any (same-set c) F) → Removed c F (take-out c F)) → Removed c (d ∷ F) (cond b F (d ∷ take-out c F))
@@ -41,11 +40,37 @@ stands-removed c (d ∷ F) t = go (same-set c d) refl t (stands-removed c F)
 -- a clause with the same literals stands: it is found
 pub stands-same : (c d : Clause) (F : Formula) → List·Memᴰ d F → Same c d → T (stands c F)
 unfolding stands any
-stands-same c d (k ∷ F) (here e) s = or-l (same-set c k) (any (same-set c) F) (same-same-set c k (subst (λ (z : Clause). Same c z) e s))
+stands-same c d (k ∷ F) (here e) s = or-l (same-set c k) (any (same-set c) F) (same-same-set c k (rw e at s))
 stands-same c d (k ∷ F) (there i) s = or-r (same-set c k) (any (same-set c) F) (stands-same c d F i s)
 
 pub takes : (c d : Clause) (F : Formula) → List·Memᴰ d F → Same c d → Removed c F (take-out c F)
 takes c d F i s = stands-removed c F (stands-same c d F i s)
+
+-- at its place, where no clause before it has its literals
+pub removed-at : (c d : Clause) (X F : Formula) → Same c d → ((k : Clause) → List·Memᴰ k X → same-set c k ≡ false) → Removed c (X ++ (d ∷ F)) (X ++ F)
+removed-at c d [] F s h = found (to-true (same-same-set c d s))
+removed-at c d (k ∷ X) F s h = later (h k (here refl)) (removed-at c d X F s (λ x i. h x (there i)))
+
+-- what is left stood before
+pub mem-take-out : (c : Clause) (F : Formula) (d : Clause) → List·Memᴰ d (take-out c F) → List·Memᴰ d F
+unfolding take-out
+mem-take-out c (e ∷ F) d m = go (same-set c e) m (mem-take-out c F d)
+  where
+    go : (b : Bool) → List·Memᴰ d (cond b F (e ∷ take-out c F)) → (List·Memᴰ d (take-out c F) → List·Memᴰ d F) → List·Memᴰ d (e ∷ F)
+    go true m ih = there m
+    go false (here q) ih = here q
+    go false (there m) ih = there (ih m)
+
+-- nothing is taken out of what stands behind and has other literals
+pub take-out-first : (c : Clause) (F X : Formula) → ((x : Clause) → List·Memᴰ x X → same-set c x ≡ false) → take-out c (F ++ X) ≡ take-out c F ++ X
+unfolding take-out
+take-out-first c [] [] h = refl
+take-out-first c [] (x ∷ X) h = rw (h x (here refl), take-out-first c [] X (λ y m. h y (there m)))
+take-out-first c (d ∷ F) X h = go (same-set c d) (take-out-first c F X h)
+  where
+    go : (b : Bool) → take-out c (F ++ X) ≡ take-out c F ++ X → cond b (F ++ X) (d ∷ take-out c (F ++ X)) ≡ cond b F (d ∷ take-out c F) ++ X
+    go true ih = refl
+    go false ih = rw ih
 
 -- what stands behind is left
 pub removed-++ : {c : Clause} {F G : Formula} (X : Formula) → Removed c F G → Removed c (F ++ X) (G ++ X)
@@ -58,7 +83,7 @@ removed-length (later e r) = ap suc (removed-length r)
 
 -- a clause that stands before a deletion stands after it, or has the deleted one's literals
 pub split : {c : Clause} {F G : Formula} → Removed c F G → {d : Clause} → List·Memᴰ d F → Same c d ⊎ List·Memᴰ d G
-split {c} (found {d = k} e) {d} (here i) = inl (subst (λ (z : Clause). Same c z) (sym i) (same-set-same c k (of-true e)))
+split {c} (found {d = k} e) {d} (here i) = inl (rw i (same-set-same c k (of-true e)))
 split (found e) (there m) = inr m
 split (later e r) (here i) = inr (here i)
 split {c} (later {d = k} {F = F} {G = G} e r) {d} (there m) = go (split r m)

@@ -1,5 +1,5 @@
 -- Tests as facts. Assumes nothing.
-use mathlib.Core.Path.{_≡_, refl, sym, subst}
+use mathlib.Core.Path.{_≡_, refl, sym}
 use mathlib.Core.Logic.{_⊎_, inl, inr}
 use mathlib.Core.Bool.{Bool, true, false, not, _&&_, _||_}
 use Prim.Native.Nat.{_≤_, _+_}
@@ -9,21 +9,19 @@ use Rattle.definition.specs.Lists.{bit}
 
 pub to-true : {b : Bool} → T b → b ≡ true
 to-true {b = true} t = refl
-to-true {b = false} t = absurd t
 
 pub of-true : {b : Bool} → b ≡ true → T b
-of-true e = subst T (sym e) tt
+of-true e = rw e tt
 
 -- true is not false
 pub differ : {P : Type 0} {b : Bool} → T b → b ≡ false → P
-differ t e = absurd (subst T e t)
+differ t e = absurd (rw e at t)
 
 pub to-false : {b : Bool} → (T b → ⊥) → b ≡ false
 to-false {b = true} n = absurd (n tt)
 to-false {b = false} n = refl
 
 pub not-true : {b : Bool} → T (not b) → b ≡ false
-not-true {b = true} t = absurd t
 not-true {b = false} t = refl
 
 pub of-false : {b : Bool} → b ≡ false → T (not b)
@@ -36,7 +34,6 @@ and-l false b t = t
 
 pub and-r : (a b : Bool) → T (a && b) → T b
 and-r true b t = t
-and-r false b t = absurd t
 
 pub and-i : (a b : Bool) → T a → T b → T (a && b)
 and-i true b s t = t
@@ -48,11 +45,15 @@ or-cases false b t = inr t
 
 pub or-l : (a b : Bool) → T a → T (a || b)
 or-l true b t = tt
-or-l false b t = absurd t
 
 pub or-r : (a b : Bool) → T b → T (a || b)
 or-r true b t = tt
 or-r false b t = t
+
+-- each gives the other
+pub each-way : {a b : Bool} → (T a → T b) → (T b → T a) → a ≡ b
+each-way {a = true} f g = sym (to-true (f tt))
+each-way {a = false} f g = sym (to-false g)
 
 -- neither holds
 pub or-false-both : (a b : Bool) → (a || b) ≡ false → (a ≡ false) × (b ≡ false)
@@ -74,11 +75,7 @@ bit-not false = refl
 
 pub bit-true : (b : Bool) → T b → bit b ≡ 1
 bit-true true t = refl
-bit-true false t = absurd t
 
 pub bit-of : (b : Bool) → 1 ≤ bit b → T b
 bit-of true h = tt
-bit-of false h = absurd (no h)
-  where
-    no : 1 ≤ 0 → ⊥
-    no h = omega arith
+bit-of false h = absurd (omega arith)

@@ -12,6 +12,7 @@ use Rattle.definition.specs.Lists.{bit, any, all, count}
 use Rattle.definition.specs.Literals.{Clause, Formula}
 use Rattle.definition.specs.Assignments.{Assignment, true-in, has-true, satisfies, trues, sign, make-true}
 use Rattle.laws.proofs.Tests.{and-l, and-r, and-i, bit≤1, bit-not}
+use Rattle.laws.proofs.Loops.{count-++}
 use Rattle.laws.proofs.Members.{any-same, all-same, Fit, Fits}
 
 pub trues-nil : (σ : Assignment) → trues σ [] ≡ 0
@@ -41,7 +42,7 @@ make-other l v σ h = rw (ne-eqb v (natAbs l) h)
 pub made : (l : ℤ) (σ : Assignment) → bit (true-in (make-true l σ) l) ≡ 1
 unfolding true-in sign
 made (pos n) σ = ap bit (make-same (pos n) σ)
-made (negsuc n) σ = ap (λ (b : Bool). bit (not b)) (make-same (negsuc n) σ)
+made (negsuc n) σ = rw (make-same (negsuc n) σ)
 
 up : (e b : Bool) → bit b ≤ bit (cond e true b)
 up true b = bit≤1 b
@@ -86,10 +87,7 @@ Hit σ c = (l : ℤ) × List·Memᴰ l c × (1 ≤ bit (true-in σ l))
 
 pub hit : (σ : Assignment) (c : Clause) → 1 ≤ trues σ c → Hit σ c
 unfolding trues count
-hit σ [] h = absurd (no h)
-  where
-    no : 1 ≤ 0 → ⊥
-    no h = omega arith
+hit σ [] h = absurd (omega arith)
 hit σ (l ∷ c) h = go (true-in σ l) refl (hit σ c)
   where
     go : (b : Bool) → true-in σ l ≡ b → (1 ≤ trues σ c → Hit σ c) → Hit σ (l ∷ c)
@@ -100,17 +98,13 @@ pub hit-in : (σ : Assignment) (c d : Clause) → ((l : ℤ) → List·Memᴰ l 
 hit-in σ c d sub h = let t = hit σ c h in omega (arith, trues-at σ (sub (t .0) (t .1)), t .2)
 
 pub trues-++ : (σ : Assignment) (c d : Clause) → trues σ (c ++ d) ≡ trues σ c + trues σ d
-unfolding trues count
-trues-++ σ [] d = omega arith
-trues-++ σ (l ∷ c) d = omega (arith, trues-++ σ c d)
+unfolding trues
+trues-++ σ c d = count-++ (true-in σ) c d
 
 -- a clause has a true literal
 pub trues-has : (σ : Assignment) (c : Clause) → 1 ≤ trues σ c → T (has-true σ c)
 unfolding has-true any trues count
-trues-has σ [] h = absurd (no h)
-  where
-    no : 1 ≤ 0 → ⊥
-    no h = omega arith
+trues-has σ [] h = absurd (omega arith)
 trues-has σ (l ∷ c) h = go (true-in σ l) refl (trues-has σ c)
   where
     go : (b : Bool) → true-in σ l ≡ b → (1 ≤ trues σ c → T (has-true σ c)) → T (b || has-true σ c)
@@ -119,7 +113,6 @@ trues-has σ (l ∷ c) h = go (true-in σ l) refl (trues-has σ c)
 
 pub has-trues : (σ : Assignment) (c : Clause) → T (has-true σ c) → 1 ≤ trues σ c
 unfolding has-true any trues count
-has-trues σ [] t = absurd t
 has-trues σ (l ∷ c) t = go (true-in σ l) refl t (has-trues σ c)
   where
     go : (b : Bool) → true-in σ l ≡ b → T (b || has-true σ c) → (T (has-true σ c) → 1 ≤ trues σ c) → 1 ≤ bit (true-in σ l) + trues σ c

@@ -1,5 +1,5 @@
 -- The deletions that end the order form of a choice: each is sound where no other clause holds a literal of the choice.
-use mathlib.Core.Path.{_≡_, refl, sym, subst}
+use mathlib.Core.Path.{_≡_, refl, subst}
 use mathlib.Core.Logic.{_≢_}
 use mathlib.Core.List.{List, [], _∷_, _++_, List·Memᴰ, List·Memᴰ·head as here, List·Memᴰ·tail as there, map}
 use Prim.Native.Nat.{ℕ, suc, _≤_, _<_}
@@ -13,11 +13,14 @@ use Rattle.definition.specs.Events.{Choice, Event}
 use Rattle.laws.proofs.Tests.{bit-not}
 use Rattle.laws.proofs.Members.{Proper, own, far, turn, natAbs-neg, Absent}
 use Rattle.laws.proofs.Trues.{unmoved, trues-cons, trues-same, hit-in, Sat}
+use Rattle.laws.proofs.Fitting.{Up-to}
 use Rattle.soundness.proofs.Sound.{Sound}
 use Rattle.soundness.proofs.Rules.{Clear, negation-only, del-first, del-blocked}
 use Rattle.soundness.proofs.Removals.{Removes, none-left, next, removes-split, each-of, absent-before}
 use Rattle.soundness.proofs.Written.{Every, every, In-none, in-none}
-use Rattle.order_form.proofs.Recursive.{Well-formed, Written, written, link-deletions, deletions-from, deletions, deletions-is}
+use Rattle.soundness.proofs.CounterClauses.{Written, written}
+use Rattle.counter_form.proofs.Ready.{Well-formed}
+use Rattle.order_form.proofs.Recursive.{link-deletions, deletions-from, deletions, deletions-is}
 
 -- ---- one literal: the clause with it, then those with its negation
 abbrev pub each-first : ℤ → List Clause → Formula
@@ -31,7 +34,7 @@ abbrev All-away : ℤ → List Clause → Type 0
 All-away l N = (q : Clause) → List·Memᴰ q N → Away l q
 
 away-first : (l k : ℤ) (N : List Clause) → l ≢ k → All-away l N → Absent l (each-first k N)
-away-first l k (q ∷ N) z w d (here i) m = go (subst (λ (y : Clause). List·Memᴰ l y) i m)
+away-first l k (q ∷ N) z w d (here i) m = go (rw i at m)
   where
     go : List·Memᴰ l (k ∷ q) → ⊥
     go (here e) = z e
@@ -87,10 +90,7 @@ abbrev Highers : ℤ → List Clause → Type 0
 Highers l N = Every (λ x. natAbs l < natAbs x) N
 
 highers-away : (l : ℤ) (N : List Clause) → Highers l N → All-away l N
-highers-away l N h q i x j = no (every (λ x. natAbs l < natAbs x) N h q i x j)
-  where
-    no : {n : ℕ} → natAbs l < n → n ≢ natAbs l
-    no b e = omega arith
+highers-away l N h q i x j e = omega (arith, every (λ x. natAbs l < natAbs x) N h q i x j)
 
 -- the literals of the choice and their negations stand in no clause of G
 abbrev pub Gone : Clause → Formula → Type 0
@@ -98,10 +98,6 @@ Gone c G = (x : ℤ) → List·Memᴰ x c → Absent x G × Absent (negℤ x) G
 
 abbrev pub Clear-all : Clause → List Event → Type 0
 Clear-all c K = (x : ℤ) → List·Memᴰ x c → Clear x K
-
--- the variables of the clause are up to h
-abbrev pub Below : ℕ → Clause → Type 0
-Below h c = (x : ℤ) → List·Memᴰ x c → natAbs x ≤ h
 
 -- one literal and then those of c: both it and its negation are absent once its own clauses are gone
 literal-first : {F G H : Formula} {K L : List Event} {ys : List Line} (l : ℤ) (p : Clause) (N : List Clause) (h : ℕ) (c : Clause) → Proper (l ∷ c) → natAbs l ≤ h →
@@ -120,7 +116,7 @@ module _ {H : Formula} {K L : List Event} {xs : List Line} where
   none-deleted : {E G : Formula} → Removes E [] G → Sound G K xs H L → Sound E K xs H L
   none-deleted none-left s = s
 
-  links-sound : {F G : Formula} (h : ℕ) (m : ℤ) (c : Clause) → Proper (m ∷ c) → Below h (m ∷ c) → Gone (m ∷ c) G → Clear-all (m ∷ c) K →
+  links-sound : {F G : Formula} (h : ℕ) (m : ℤ) (c : Clause) → Proper (m ∷ c) → Up-to h (m ∷ c) → Gone (m ∷ c) G → Clear-all (m ∷ c) K →
       Removes F (link-deletions h (m ∷ c)) G → Sound G K xs H L → Sound F K (map deletion (link-deletions h (m ∷ c)) ++ xs) H L
   unfolding trues count true-in
   links-sound h m [] a b g k r s =
@@ -134,7 +130,7 @@ module _ {H : Formula} {K L : List Event} {xs : List Line} where
       (λ σ q. (omega (arith, bit-not (σ (suc (suc h)))), (omega (arith, bit-not (σ (suc h))), tt))) g (k m (here refl)) r
       (λ E t. links-sound (suc h) y c (a .3) (λ x i. omega (arith, b x (there i))) (λ x i. g x (there i)) (λ x i. k x (there i)) t s)
 
-  pub deletions-sound : {F G : Formula} (h : ℕ) (l m : ℤ) (c : Clause) → Proper (l ∷ m ∷ c) → Below h (l ∷ m ∷ c) → Gone (l ∷ m ∷ c) G → Clear-all (l ∷ m ∷ c) K →
+  pub deletions-sound : {F G : Formula} (h : ℕ) (l m : ℤ) (c : Clause) → Proper (l ∷ m ∷ c) → Up-to h (l ∷ m ∷ c) → Gone (l ∷ m ∷ c) G → Clear-all (l ∷ m ∷ c) K →
       Removes F (deletions-from h l (m ∷ c)) G → Sound G K xs H L → Sound F K (map deletion (deletions-from h l (m ∷ c)) ++ xs) H L
   unfolding trues count true-in
   deletions-sound h l m c a b g k r s =
@@ -152,14 +148,14 @@ module _ (k : Choice) (u : Well-formed k) where
       Removes F (deletions k) G → Sound G K xs H L → Sound F K (map deletion (deletions k) ++ xs) H L
   literals-deleted-sound {F} {G} {H} {K} {L} {xs} g q r s =
       let e = deletions-is w in
-      subst (λ (D : Formula). Sound F K (map deletion D ++ xs) H L) (sym e)
-      (deletions-sound (k .below) (w .one) (w .two) (w .others) (subst Proper (w .are) (u .proper)) (subst (Below (k .below)) (w .are) (λ x i. u .fit x i .1))
-      (subst (λ (c : Clause). Gone c G) (w .are) g) (subst (λ (c : Clause). Clear-all c K) (w .are) q) (subst (λ (D : Formula). Removes F D G) e r) s)
+      rw e
+      (deletions-sound (k .below) (w .one) (w .two) (w .others) (rw (w .are) at (u .proper)) (subst (Up-to (k .below)) (w .are) (λ x i. u .fit x i .1))
+      (rw (w .are) at g) (rw (w .are) at q) (rw e at r) s)
 
   pub deletions-absent : (x : ℤ) → natAbs x ≤ k .below → (List·Memᴰ x (k .literals) → ⊥) → (List·Memᴰ (negℤ x) (k .literals) → ⊥) → Absent x (deletions k)
   deletions-absent x b n p =
-      subst (Absent x) (sym (deletions-is w))
-      (deletions-from-absent (subst (λ (c : Clause). List·Memᴰ x c → ⊥) (w .are) n) (subst (λ (c : Clause). List·Memᴰ (negℤ x) c → ⊥) (w .are) p))
+      rw (deletions-is w)
+      (deletions-from-absent (rw (w .are) at n) (rw (w .are) at p))
     where
       deletions-from-absent : (List·Memᴰ x (w .one ∷ w .two ∷ w .others) → ⊥) → (List·Memᴰ (negℤ x) (w .one ∷ w .two ∷ w .others) → ⊥) →
           Absent x (deletions-from (k .below) (w .one) (w .two ∷ w .others))

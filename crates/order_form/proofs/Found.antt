@@ -12,23 +12,18 @@ use Rattle.definition.specs.Literals.{Clause, Formula}
 use Rattle.definition.specs.Clearing.{times}
 use Rattle.definition.specs.Events.{Choice}
 use Rattle.definition.specs.Counter.{last-new, counter}
-use Rattle.laws.proofs.Members.{Same, Proper, own, far, natAbs-neg, holds-false}
+use Rattle.laws.proofs.Members.{Same, Proper, pair-turned, own, far, natAbs-neg, holds-false}
+use Rattle.laws.proofs.Fitting.{Up-to}
 use Rattle.soundness.proofs.Times.{times-++, holds-same}
 use Rattle.soundness.proofs.Removals.{Removes, Spread, Found-all, found-mono, take-all, removes-exist}
 use Rattle.soundness.proofs.Without.{Stands}
 use Rattle.soundness.proofs.Written.{In-none, not-in, in-none}
-use Rattle.soundness.proofs.CounterClauses.{stage-2-from, stage-3-from, counter-from}
-use Rattle.order_form.proofs.Recursive.{Well-formed, Written, written, link-deletions, deletions-from, deletions, deletions-is, counter-is}
-use Rattle.order_form.proofs.Deletions.{Below, strange}
+use Rattle.soundness.proofs.CounterClauses.{stage-2-from, stage-3-from, counter-from, Written, written, counter-is}
+use Rattle.counter_form.proofs.Ready.{Well-formed}
+use Rattle.order_form.proofs.Recursive.{link-deletions, deletions-from, deletions, deletions-is}
+use Rattle.order_form.proofs.Deletions.{strange}
 
 -- ---- the same literals in another order
-swapped : (x y : ℤ) → Same (x ∷ y ∷ []) (y ∷ x ∷ [])
-swapped x y = (go x y, go y x)
-  where
-    go : (x y z : ℤ) → List·Memᴰ z (x ∷ y ∷ []) → List·Memᴰ z (y ∷ x ∷ [])
-    go x y z (here e) = there (here e)
-    go x y z (there (here e)) = here e
-
 rotated : (x y w : ℤ) → Same (x ∷ y ∷ w ∷ []) (y ∷ w ∷ x ∷ [])
 rotated x y w = (go, back)
   where
@@ -46,7 +41,7 @@ rotated x y w = (go, back)
 differs-by : (x : ℤ) (d : Clause) (D : Formula) → List·Memᴰ x d → In-none x D → (k : Clause) → List·Memᴰ k D → Same d k → ⊥
 differs-by x d D m n k i s = in-none x D n k i (s .0 x m)
 
-links-spread : (h : ℕ) (m : ℤ) (c : Clause) → Proper (m ∷ c) → Below h (m ∷ c) → Spread (link-deletions h (m ∷ c))
+links-spread : (h : ℕ) (m : ℤ) (c : Clause) → Proper (m ∷ c) → Up-to h (m ∷ c) → Spread (link-deletions h (m ∷ c))
 links-spread h m [] a b =
     let o = b m (here refl) in (
       differs-by m (m ∷ pos (suc h) ∷ []) ((negℤ m ∷ negsuc h ∷ []) ∷ []) (here refl) ((own m (a .0), (far m (negsuc h) (omega arith), tt)), tt),
@@ -73,10 +68,10 @@ links-spread h m (k ∷ c) a b =
         Same (negℤ m ∷ pos (suc (suc h)) ∷ []) d → ⊥
     second o n d (here e) s =
         not-in (pos (suc (suc h))) (negℤ m ∷ negsuc h ∷ []) (λ q. far (negℤ m) (pos (suc (suc h))) (omega arith) (sym q), (λ q. far (negsuc h) (pos (suc (suc h))) (omega arith) (sym q), tt))
-        (subst (λ (z : Clause). List·Memᴰ (pos (suc (suc h))) z) e (s .0 (pos (suc (suc h))) (there (here refl))))
+        (rw e at (s .0 (pos (suc (suc h))) (there (here refl))))
     second o n d (there i) s = differs-by (negℤ m) (negℤ m ∷ pos (suc (suc h)) ∷ []) (link-deletions (suc h) (k ∷ c)) (here refl) n d i s
 
-pub deletions-spread : (h : ℕ) (l m : ℤ) (c : Clause) → Proper (l ∷ m ∷ c) → Below h (l ∷ m ∷ c) → Spread (deletions-from h l (m ∷ c))
+pub deletions-spread : (h : ℕ) (l m : ℤ) (c : Clause) → Proper (l ∷ m ∷ c) → Up-to h (l ∷ m ∷ c) → Spread (deletions-from h l (m ∷ c))
 deletions-spread h l m c a b =
     let o = b l (here refl) in
     let o′ : natAbs (negℤ l) ≤ h = rw natAbs-neg o in
@@ -89,16 +84,16 @@ deletions-spread h l m c a b =
 -- ---- and each is of a counter clause
 links-found : (h : ℕ) (m : ℤ) (c : Clause) → Found-all (link-deletions h (m ∷ c)) (stage-2-from h (m ∷ c) ++ stage-3-from h (m ∷ c))
 links-found h m [] = (
-  (pos (suc h) ∷ m ∷ [], there (here refl), swapped m (pos (suc h))),
-  ((negsuc h ∷ negℤ m ∷ [], here refl, swapped (negℤ m) (negsuc h)), tt),
+  (pos (suc h) ∷ m ∷ [], there (here refl), pair-turned m (pos (suc h))),
+  ((negsuc h ∷ negℤ m ∷ [], here refl, pair-turned (negℤ m) (negsuc h)), tt),
 )
 links-found h m (k ∷ c) =
     let A = stage-2-from (suc h) (k ∷ c) in (
       (negsuc (suc h) ∷ pos (suc h) ∷ m ∷ [], here refl, rotated m (negsuc (suc h)) (pos (suc h))),
       (
-        (pos (suc (suc h)) ∷ negℤ m ∷ [], there (there (here refl)), swapped (negℤ m) (pos (suc (suc h)))),
+        (pos (suc (suc h)) ∷ negℤ m ∷ [], there (there (here refl)), pair-turned (negℤ m) (pos (suc (suc h)))),
         (
-          (negsuc h ∷ negℤ m ∷ [], there (there (there (Memᴰ·append-right A (here refl)))), swapped (negℤ m) (negsuc h)),
+          (negsuc h ∷ negℤ m ∷ [], there (there (there (Memᴰ·append-right A (here refl)))), pair-turned (negℤ m) (negsuc h)),
           found-mono (link-deletions (suc h) (k ∷ c)) (A ++ stage-3-from (suc h) (k ∷ c)) (stage-2-from h (m ∷ k ∷ c) ++ stage-3-from h (m ∷ k ∷ c))
               (λ e i. there (there (there (⊎-elim (λ j. Memᴰ·append-left (stage-3-from h (m ∷ k ∷ c)) j) (λ j. Memᴰ·append-right A (there j)) (List·Memᴰ·append-cases A i)))))
               (links-found (suc h) k c),
@@ -108,9 +103,9 @@ links-found h m (k ∷ c) =
 
 pub deletions-found : (h : ℕ) (l m : ℤ) (c : Clause) → Found-all (deletions-from h l (m ∷ c)) (counter-from h l (m ∷ c))
 deletions-found h l m c = (
-  (negsuc h ∷ l ∷ [], here refl, swapped l (negsuc h)),
+  (negsuc h ∷ l ∷ [], here refl, pair-turned l (negsuc h)),
   (
-    (pos (suc h) ∷ negℤ l ∷ [], there (here refl), swapped (negℤ l) (pos (suc h))),
+    (pos (suc h) ∷ negℤ l ∷ [], there (here refl), pair-turned (negℤ l) (pos (suc h))),
     found-mono (link-deletions h (m ∷ c)) (stage-2-from h (m ∷ c) ++ stage-3-from h (m ∷ c)) (counter-from h l (m ∷ c)) (λ e i. there (there i)) (links-found h m c),
   ),
 )
@@ -122,15 +117,15 @@ unfolding times count
 links-times x h m [] b =
     omega (
       arith,
-      holds-same x (m ∷ pos (suc h) ∷ []) (pos (suc h) ∷ m ∷ []) (swapped m (pos (suc h))),
-      holds-same x (negℤ m ∷ negsuc h ∷ []) (negsuc h ∷ negℤ m ∷ []) (swapped (negℤ m) (negsuc h)),
+      holds-same x (m ∷ pos (suc h) ∷ []) (pos (suc h) ∷ m ∷ []) (pair-turned m (pos (suc h))),
+      holds-same x (negℤ m ∷ negsuc h ∷ []) (negsuc h ∷ negℤ m ∷ []) (pair-turned (negℤ m) (negsuc h)),
     )
 links-times x h m (k ∷ c) b =
     omega (
       arith,
       holds-same x (m ∷ negsuc (suc h) ∷ pos (suc h) ∷ []) (negsuc (suc h) ∷ pos (suc h) ∷ m ∷ []) (rotated m (negsuc (suc h)) (pos (suc h))),
-      holds-same x (negℤ m ∷ pos (suc (suc h)) ∷ []) (pos (suc (suc h)) ∷ negℤ m ∷ []) (swapped (negℤ m) (pos (suc (suc h)))),
-      holds-same x (negℤ m ∷ negsuc h ∷ []) (negsuc h ∷ negℤ m ∷ []) (swapped (negℤ m) (negsuc h)),
+      holds-same x (negℤ m ∷ pos (suc (suc h)) ∷ []) (pos (suc (suc h)) ∷ negℤ m ∷ []) (pair-turned (negℤ m) (pos (suc (suc h)))),
+      holds-same x (negℤ m ∷ negsuc h ∷ []) (negsuc h ∷ negℤ m ∷ []) (pair-turned (negℤ m) (negsuc h)),
       ap bit (holds-false x (pos (suc (suc h)) ∷ negsuc h ∷ []) (not-in x (pos (suc (suc h)) ∷ negsuc h ∷ []) (far x (pos (suc (suc h))) (omega arith), (far x (negsuc h) (omega arith), tt)))),
       links-times x (suc h) k c (omega arith),
     )
@@ -140,8 +135,8 @@ unfolding times count
 deletions-times x h l m c b =
     omega (
       arith,
-      holds-same x (l ∷ negsuc h ∷ []) (negsuc h ∷ l ∷ []) (swapped l (negsuc h)),
-      holds-same x (negℤ l ∷ pos (suc h) ∷ []) (pos (suc h) ∷ negℤ l ∷ []) (swapped (negℤ l) (pos (suc h))),
+      holds-same x (l ∷ negsuc h ∷ []) (negsuc h ∷ l ∷ []) (pair-turned l (negsuc h)),
+      holds-same x (negℤ l ∷ pos (suc h) ∷ []) (pos (suc h) ∷ negℤ l ∷ []) (pair-turned (negℤ l) (pos (suc h))),
       times-++ x (stage-2-from h (m ∷ c)) (stage-3-from h (m ∷ c)),
       links-times x h m c b,
     )
@@ -163,7 +158,7 @@ module _ (k : Choice) (u : Well-formed k) where
   pub removes-deletions : (A B : Formula) → Removes (A ++ (counter k ++ B)) (deletions k) (take-all (A ++ (counter k ++ B)) (deletions k))
   removes-deletions A B =
       removes-exist (deletions k) (A ++ (counter k ++ B))
-      (subst Spread (sym (deletions-is w)) (deletions-spread (k .below) (w .one) (w .two) (w .others) (subst Proper (w .are) (u .proper)) (subst (Below (k .below)) (w .are) (λ x i. u .fit x i .1))))
+      (rw (deletions-is w) (deletions-spread (k .below) (w .one) (w .two) (w .others) (rw (w .are) at (u .proper)) (subst (Up-to (k .below)) (w .are) (λ x i. u .fit x i .1))))
       (found-mono (deletions k) (counter k) (A ++ (counter k ++ B)) (λ e i. Memᴰ·append-right A (Memᴰ·append-left B i))
       (rw (deletions-is w, counter-is w) (deletions-found (k .below) (w .one) (w .two) (w .others))))
 

@@ -1,5 +1,5 @@
 -- The order form of one choice, after its counter form, is sound; what stands after it.
-use mathlib.Core.Path.{_≡_, refl, sym, _∙_, ap, subst}
+use mathlib.Core.Path.{_≡_, refl, sym, _∙_, ap}
 use mathlib.Core.Logic.{_⊎_, inl, inr, ⊎-elim}
 use mathlib.Core.Bool.{false}
 use mathlib.Core.List.{List, [], _∷_, _++_, List·Memᴰ, List·Memᴰ·append-cases, List·Memᴰ·not-nil, Memᴰ·append-left, Memᴰ·append-right, append-assoc, append-nil, map}
@@ -15,20 +15,21 @@ use Rattle.definition.specs.Assignments.{trues}
 use Rattle.definition.specs.Events.{Choice, Event, literals-deleted}
 use Rattle.definition.specs.Clearing.{times}
 use Rattle.definition.specs.Counter.{last-new, counter}
-use Rattle.definition.specs.Order.{replaced, replace, order-events, literal-deletions}
+use Rattle.definition.specs.Order.{replace, order-events, literal-deletions}
 use Rattle.definition.specs.Reencoding.{Goes-into, later, lines-of, lines}
 use Rattle.laws.proofs.Tests.{differ}
-use Rattle.laws.proofs.Members.{Fit, Fits, natAbs-neg, mem-opposes, Absent}
+use Rattle.laws.proofs.Members.{Fits, natAbs-neg, mem-opposes, Absent}
 use Rattle.laws.proofs.Replay.{leads-after}
-use Rattle.soundness.proofs.Sound.{Into, Sound, nothing, sound-leads, weaken}
+use Rattle.soundness.proofs.Sound.{Into, into-none, Sound, nothing, sound-leads, weaken}
 use Rattle.soundness.proofs.Times.{times-++, times-none, none-times}
 use Rattle.soundness.proofs.Without.{Stands, Known, clear-absent}
 use Rattle.soundness.proofs.Removals.{Removes, take-all, times-removes, mem-removes, stay-in}
-use Rattle.order_form.proofs.Recursive.{Well-formed, deletions}
+use Rattle.counter_form.proofs.Ready.{Well-formed}
+use Rattle.order_form.proofs.Recursive.{deletions}
 use Rattle.laws.proofs.Loops.{for-each-++}
-use Rattle.laws.proofs.Fitting.{fit-up, fits-up, fits-++}
-use Rattle.counter_form.proofs.CounterLiterals.{counter-fits-own}
-use Rattle.order_form.proofs.Replace.{replaced-literal}
+use Rattle.laws.proofs.Fitting.{fits-up, fits-++}
+use Rattle.counter_form.proofs.CounterLiterals.{counter-fits}
+use Rattle.order_form.proofs.Replace.{replaced-literal, replaced-fit}
 use Rattle.order_form.proofs.Deletions.{Gone, literals-deleted-sound, deletions-absent}
 use Rattle.order_form.proofs.Found.{removes-deletions, counter-times, counter-stands}
 use Rattle.order_form.proofs.Pass.{kept, added, pass-sound, pass-times, pass-known, kept-mem, mem-kept, added-mem}
@@ -43,6 +44,13 @@ only-later k {K} P h c i = go (i .goes)
   where
     go : {j : Choice} {d : Clause} → Goes-into j (literals-deleted k ∷ K) d → P d
     go {j} {d} (later g) = h d (record { choice = j; goes = g })
+
+-- the clauses gone through are those before the counter clauses
+pub order-events-are : (k : Choice) (E : Formula) → order-events k (E ++ counter k) ≡ for-each E (replace k) ++ (literals-deleted k ∷ [])
+unfolding order-events
+order-events-are k E =
+    let l : length E ≡ length (E ++ counter k) - length (counter k) = omega (arith, length-append E (counter k)) in
+    rw (take-at E (counter k) (length (E ++ counter k) - length (counter k)) l)
 
 -- what stands before the counter clauses: no new variable, no literal of the choice
 pub record Before (E : Formula) (k : Choice) : Type 0 where
@@ -79,27 +87,16 @@ module _ (k : Choice) (E : Formula) (b : Before E k) where
       added-none : Absent (negℤ x) (added k E)
       added-none d j m =
           let y = added-mem k E d j in
-          ⊎-elim (λ p. p .1 x i refl) (λ p. no (p .0)) (replaced-literal k u (y .0) (negℤ x) (subst (List·Memᴰ (negℤ x)) (y .2) m))
-        where
-          no : k .below < natAbs (negℤ x) → ⊥
-          no q = omega (arith, natAbs-neg x, u .fit x i .1)
+          ⊎-elim (λ p. p .1 x i refl) (λ p. omega (arith, p .0, natAbs-neg x, u .fit x i .1)) (replaced-literal k u (y .0) (negℤ x) (rw (y .2) at m))
 
   -- ---- its literals
-  result-fits : (d : Clause) → List·Memᴰ d E → (x : ℤ) → List·Memᴰ x (replaced k d) → Fit (last-new k) x
-  unfolding last-new
-  result-fits d i x j =
-      ⊎-elim (λ p. fit-up (last-new k) (k .below) x (omega arith) (b .fits d i x (p .0))) (λ p. (λ e. no (p .0) (ap natAbs e), p .1)) (replaced-literal k u d x j)
-    where
-      no : k .below < natAbs x → natAbs x ≡ 0 → ⊥
-      no p q = omega arith
-
   pub ordered-fits : Fits (last-new k) (ordered E k)
   unfolding last-new
   ordered-fits d i =
       fits-++ (last-new k) (kept k E) (counter k ++ added k E)
       (λ y j. fits-up (last-new k) (k .below) E (omega arith) (b .fits) y (kept-mem k E y j .0))
-      (fits-++ (last-new k) (counter k) (added k E) (counter-fits-own k (u .long) (u .fit))
-      (λ y j x m. let w = added-mem k E y j in result-fits (w .0) (w .1) x (subst (List·Memᴰ x) (w .2) m)))
+      (fits-++ (last-new k) (counter k) (added k E) (counter-fits u)
+      (λ y j x m. let w = added-mem k E y j in replaced-fit k u (w .0) (b .fits (w .0) (w .1)) x (rw (w .2) at m)))
       d (mem-removes last i)
 
   -- a clause without negated choice literals that holds a literal of another variable is left
@@ -121,33 +118,26 @@ module _ (k : Choice) (E : Formula) (b : Before E k) where
           let y = added-mem k E (s .0) i in
           ⊎-elim (λ p. (y .0, Memᴰ·append-left (counter k) (y .1), s .2, p .0, s .4))
           (λ p. let r = counter-stands k u v (omega (arith, p .0, s .4)) (omega (arith, p .1, s .4)) in (r .0, Memᴰ·append-right E (r .1), r .2, r .3, r .4))
-          (replaced-literal k u (y .0) (s .2) (subst (List·Memᴰ (s .2)) (y .2) (s .3)))
+          (replaced-literal k u (y .0) (s .2) (rw (y .2) at (s .3)))
 
   -- ---- the events
-  events-are : order-events k (E ++ counter k) ≡ for-each E (replace k) ++ (literals-deleted k ∷ [])
-  unfolding order-events
-  events-are =
-      let l : length E ≡ length (E ++ counter k) - length (counter k) = omega (arith, length-append E (counter k)) in
-      rw (take-at E (counter k) (length (E ++ counter k) - length (counter k)) l)
-
   order-known : {K : List Event} → Known (last-new k) K (ordered E k) → Known (last-new k) (order-events k (E ++ counter k) ++ K) (E ++ counter k)
   order-known {K} w =
-      rw (events-are, append-assoc)
+      rw (order-events-are k E, append-assoc)
       (pass-known k (last-new k) (literals-deleted k ∷ K) (E ++ counter k) E (λ d i. Memᴰ·append-left (counter k) i)
       (only-later k (λ (c : Clause). (x : ℤ) → List·Memᴰ x c → Stands (natAbs x) (E ++ counter k) ⊎ (last-new k < natAbs x))
       (λ c i x m. ⊎-elim (λ s. inl (stood (natAbs x) s)) inr (w c i x m))))
 
   lines-are : lines (order-events k (E ++ counter k)) ≡ lines (for-each E (replace k)) ++ map deletion (deletions k)
   unfolding lines lines-of literal-deletions for-each
-  lines-are = rw (events-are, for-each-++ (for-each E (replace k)) (literals-deleted k ∷ []) lines-of, append-nil (map deletion (deletions k)))
+  lines-are = rw (order-events-are k E, for-each-++ (for-each E (replace k)) (literals-deleted k ∷ []) lines-of, append-nil (map deletion (deletions k)))
 
   order-lines-sound : {H : Formula} {K L : List Event} {xs : List Line} → Known (last-new k) K (ordered E k) → Sound (ordered E k) K xs H L →
       Sound (E ++ counter k) (order-events k (E ++ counter k) ++ K) (lines (order-events k (E ++ counter k)) ++ xs) H L
   unfolding last-new
   order-lines-sound {H} {K} {L} {xs} w s =
-      rw (lines-are, events-are, append-assoc (for-each E (replace k)) (literals-deleted k ∷ []) K, append-assoc (lines (for-each E (replace k))) (map deletion (deletions k)) xs)
-      (subst (λ (X : Formula). Sound (E ++ X) (for-each E (replace k) ++ (literals-deleted k ∷ K)) (lines (for-each E (replace k)) ++ (map deletion (deletions k) ++ xs)) H L) (append-nil (counter k))
-      (pass-sound k u H (literals-deleted k ∷ K) L (map deletion (deletions k) ++ xs) [] E [] (λ d i. absurd (List·Memᴰ·not-nil i)) (λ d i x j. result-fits d i x j .0)
+      rw (lines-are, order-events-are k E, append-assoc (for-each E (replace k)) (literals-deleted k ∷ []) K, append-assoc (lines (for-each E (replace k))) (map deletion (deletions k)) xs)
+      (rw (append-nil (counter k)) at (pass-sound k u H (literals-deleted k ∷ K) L (map deletion (deletions k) ++ xs) [] E [] (λ d i. absurd (List·Memᴰ·not-nil i)) (λ d i x j. replaced-fit k u d (b .fits d i) x j .0)
       (weaken (λ σ t o. only-later k (λ (c : Clause). trues σ c ≡ 1) o)
       (literals-deleted-sound k u ordered-gone
       (λ x i. clear-absent (last-new k) x K (ordered E k) w (omega (arith, u .fit x i .1)) (ordered-gone x i .0) (ordered-gone x i .1))
@@ -161,7 +151,4 @@ module _ (k : Choice) (E : Formula) (b : Before E k) where
   pub after-order : after (E ++ counter k) (lines (order-events k (E ++ counter k))) ≡ ordered E k
   after-order =
       ap (after (E ++ counter k)) (sym (append-nil (lines (order-events k (E ++ counter k)))))
-      ∙ leads-after (sound-leads (order-lines-sound {K = []} {L = []} (λ c i. absurd (no (i .goes))) (nothing (λ σ t o. o))))
-    where
-      no : {j : Choice} {d : Clause} → Goes-into j [] d → ⊥
-      no g = elim g [ ]
+      ∙ leads-after (sound-leads (order-lines-sound {K = []} {L = []} (λ c i. absurd (into-none i)) (nothing (λ σ t o. o))))

@@ -1,8 +1,8 @@
 -- The pass of the order form over the clauses before the counter clauses: what it leaves and adds, and that every line is sound.
-use mathlib.Core.Path.{_≡_, refl, sym, _∙_, subst}
-use mathlib.Core.Logic.{_≢_, _⊎_, inl, ⊎-elim}
+use mathlib.Core.Path.{_≡_, refl, sym, _∙_}
+use mathlib.Core.Logic.{_≢_, _⊎_, inl}
 use mathlib.Core.Bool.{Bool, true, false, cond, not}
-use mathlib.Core.List.{List, [], _∷_, _++_, List·Memᴰ, List·Memᴰ·head as here, List·Memᴰ·tail as there, append-assoc, append-nil, List·Memᴰ·append-cases, List·Memᴰ·eq-of-singleton}
+use mathlib.Core.List.{List, [], _∷_, _++_, List·Memᴰ, List·Memᴰ·head as here, List·Memᴰ·tail as there, append-assoc, append-nil, List·Memᴰ·eq-of-singleton}
 use Prim.Native.Nat.{ℕ, _+_, _≤_, _<_}
 use native.Mathlib.Omega.{arith}
 use lib.IntN.{ℤ, pos, negℤ, natAbs}
@@ -12,20 +12,21 @@ use Rattle.definition.specs.Standing.{Line, addition, deletion}
 use Rattle.definition.specs.Assignments.{Assignment, trues}
 use Rattle.definition.specs.Events.{Choice, Event, clause-replaced}
 use Rattle.definition.specs.Clearing.{times}
-use Rattle.definition.specs.Counter.{last-new, counter}
+use Rattle.definition.specs.Counter.{counter}
 use Rattle.definition.specs.Order.{replacement-lines, replaced, replace}
 use Rattle.definition.specs.Reencoding.{Goes-into, as-old, later, lines-of, lines}
-use Rattle.laws.proofs.Tests.{to-true, of-true, differ, to-false, not-true, of-false}
-use Rattle.laws.proofs.Members.{those-mem, mem-those, same-set-same, same-same-set, same-clause, opposes-mem, mem-opposes}
+use Rattle.laws.proofs.Tests.{of-true, differ, to-false, not-true, of-false}
+use Rattle.laws.proofs.Members.{those-mem, mem-those, same-set-same, same-clause, opposes-mem, mem-opposes}
+use Rattle.laws.proofs.Clauses.{members-snoc}
 use Rattle.laws.proofs.Trues.{Sat, sat-left, sat-right}
-use Rattle.laws.proofs.Removal.{Removed, found, later as further, removed-++, sat-less, sat-of}
+use Rattle.laws.proofs.Removal.{Removed, removed-at, removed-++, sat-less, sat-of}
 use Rattle.soundness.proofs.Sound.{Ones, Sound, weaken}
 use Rattle.soundness.proofs.Rules.{add-implied, del-implied}
 use Rattle.soundness.proofs.Times.{holds-bit, times-nil, times-cons}
 use Rattle.soundness.proofs.Without.{Stands, Known}
 use Rattle.laws.proofs.Loops.{for-each-mem, only-if-mem}
-use Rattle.order_form.proofs.Recursive.{Well-formed}
-use Rattle.order_form.proofs.Replace.{New, opposed-trues, replaced-trues, replaced-literal}
+use Rattle.counter_form.proofs.Ready.{Well-formed}
+use Rattle.order_form.proofs.Replace.{opposed-trues, replaced-trues, replaced-old}
 
 -- ---- one clause replaced by another that has as many true literals
 module _ {F G : Formula} {K : List Event} {d r : Clause} (e : Removed d F G) (q : (σ : Assignment) → Sat σ G → trues σ r ≡ trues σ d) where
@@ -42,7 +43,7 @@ module _ {F G : Formula} {K : List Event} {d r : Clause} (e : Removed d F G) (q 
   replacement-sound {H} {L} {xs} z s = weaken replaced-ones (go (opposed r) refl s)
     where
       go : (b : Bool) → opposed r ≡ b → Sound (G ++ only-if (not b) (r ∷ [])) K xs H L → Sound F K ((only-if (not b) (addition r ∷ []) ++ (deletion d ∷ [])) ++ xs) H L
-      go true o s = del-implied e (λ σ t. omega (arith, q σ t, opposed-trues σ r z o)) (subst (λ (X : Formula). Sound X K xs H L) (append-nil G) s)
+      go true o s = del-implied e (λ σ t. omega (arith, q σ t, opposed-trues σ r z o)) (rw (append-nil G) at s)
       go false o s =
           add-implied (λ σ t. omega (arith, q σ (sat-less σ e t), sat-of σ e t))
           (del-implied (removed-++ (r ∷ []) e) (λ σ t. omega (arith, q σ (sat-left σ G (r ∷ []) t), sat-right σ G (r ∷ []) t .0)) s)
@@ -51,13 +52,6 @@ module _ {F G : Formula} {K : List Event} {d r : Clause} (e : Removed d F G) (q 
 unlike-set : (c d k : Clause) → opposes c d ≡ true → opposes c k ≡ false → same-set d k ≡ false
 unlike-set c d k t f =
     to-false (λ s. let r = opposes-mem c d (of-true t) in differ (mem-opposes c k (r .0) (r .1) (same-set-same d k s .0 (negℤ (r .0)) (r .2))) f)
-
-reached : (c d : Clause) (X Y : Formula) → ((k : Clause) → List·Memᴰ k X → opposes c k ≡ false) → opposes c d ≡ true → Removed d (X ++ (d ∷ Y)) (X ++ Y)
-reached c d [] Y u t = found (to-true (same-same-set d d (same-clause d)))
-reached c d (k ∷ X) Y u t = further (unlike-set c d k t (u k (here refl))) (reached c d X Y (λ x m. u x (there m)) t)
-
-snoc : (P : Clause → Type 0) (X : Formula) (d : Clause) → ((k : Clause) → List·Memᴰ k X → P k) → P d → (k : Clause) → List·Memᴰ k (X ++ (d ∷ [])) → P k
-snoc P X d f g k i = ⊎-elim (f k) (λ j. subst P (sym (List·Memᴰ·eq-of-singleton j)) g) (List·Memᴰ·append-cases X i)
 
 -- ---- what the pass leaves of the clauses gone through, and what it adds
 module _ (k : Choice) where
@@ -80,7 +74,7 @@ module _ (k : Choice) where
     pub pass-sound : (X F R : Formula) → ((d : Clause) → List·Memᴰ d X → opposes (k .literals) d ≡ false) →
         ((d : Clause) → List·Memᴰ d F → (x : ℤ) → List·Memᴰ x (replaced k d) → x ≢ pos 0) → Pass-sound X F R
     unfolding those only-if for-each lines lines-of replace
-    pass-sound X [] R v z = λ s. subst (λ (Y : Formula). Sound ((X ++ []) ++ (counter k ++ Y)) K ys H L) (append-nil R) s
+    pass-sound X [] R v z = λ s. rw (append-nil R) at s
     pass-sound X (d ∷ F) R v z = go (opposes (k .literals) d) refl (λ Y S y. pass-sound Y F S y (λ e i. z e (there i)))
       where
         r : Clause
@@ -100,10 +94,10 @@ module _ (k : Choice) where
             Sound ((X ++ (d ∷ F)) ++ (counter k ++ R)) ((only-if t (clause-replaced d r ∷ []) ++ es) ++ K) (lines (only-if t (clause-replaced d r ∷ []) ++ es) ++ ys) H L
         go false t ih s =
             simp append-assoc
-            (simp append-assoc at (ih (X ++ (d ∷ [])) R (snoc (λ e. opposes (k .literals) e ≡ false) X d v t) (simp append-assoc (simp append-assoc at s))))
+            (simp append-assoc at (ih (X ++ (d ∷ [])) R (members-snoc (λ e. opposes (k .literals) e ≡ false) X d v t) (simp append-assoc (simp append-assoc at s))))
         go true t ih s =
             rw (append-assoc (replacement-lines d r) (lines es) ys)
-            (replacement-sound (removed-++ (counter k ++ R) (reached (k .literals) d X F v t)) as-many (z d (here refl))
+            (replacement-sound (removed-++ (counter k ++ R) (removed-at d d X F (same-clause d) (λ e i. unlike-set (k .literals) d e t (v e i)))) as-many (z d (here refl))
             (simp append-assoc (simp append-assoc at (ih X (R ++ N) v (simp append-assoc (simp append-assoc at s))))))
 
   -- ---- the clauses after the pass
@@ -124,17 +118,11 @@ module _ (k : Choice) where
   pass-times u x b [] = omega (arith, times-nil x)
   pass-times u x b (d ∷ F) = go (opposes (k .literals) d) (opposed (replaced k d)) (pass-times u x b F)
     where
-      old : List·Memᴰ x (replaced k d) → List·Memᴰ x d
-      old i = ⊎-elim (λ p. p .0) (λ p. absurd (no p)) (replaced-literal k u d x i)
-        where
-          no : New (k .below) (last-new k) x → ⊥
-          no p = omega (arith, p .0)
-
       go : (t q : Bool) → times x (kept F) + times x (added F) ≤ times x F →
           times x (cond (not t) (d ∷ kept F) (kept F)) + times x (only-if t (only-if (not q) (replaced k d ∷ [])) ++ added F) ≤ times x (d ∷ F)
       go false q ih = omega (arith, times-cons x d F, times-cons x d (kept F))
       go true true ih = omega (arith, times-cons x d F)
-      go true false ih = omega (arith, times-cons x d F, times-cons x (replaced k d) (added F), holds-bit x (replaced k d) d old)
+      go true false ih = omega (arith, times-cons x d F, times-cons x (replaced k d) (added F), holds-bit x (replaced k d) d (replaced-old k u d x b))
 
   -- the variables of clauses that are replaced stand
   pub pass-known : (h : ℕ) (K : List Event) (G F : Formula) → ((d : Clause) → List·Memᴰ d F → List·Memᴰ d G) → Known h K G → Known h (for-each F (replace k) ++ K) G

@@ -1,7 +1,7 @@
 -- The order form by recursion along the literals of a choice: `suc h` is the last counter variable before the literal.
 use mathlib.Core.Path.{_≡_, refl, _∙_, ap}
 use mathlib.Core.Bool.{Bool, true, false, cond}
-use mathlib.Core.List.{[], _∷_, _++_, List·Memᴰ}
+use mathlib.Core.List.{[], _∷_, _++_}
 use mathlib.Core.Option.{some, none}
 use Prim.Native.Nat.{ℕ, suc, _+_, _≤_, _<_}
 use native.Mathlib.Numerals.{add-one}
@@ -12,34 +12,9 @@ use borrow.Author.Tests.{lt-ltb, le-ltb}
 use Rattle.definition.specs.Lists.{only-if, for-each, for-from}
 use Rattle.definition.specs.Literals.{Clause, Formula, same}
 use Rattle.definition.specs.Events.{Choice}
-use Rattle.definition.specs.Counter.{counter, size, lit, new}
-use Rattle.laws.proofs.Members.{Proper, Fit}
-use Rattle.soundness.proofs.CounterClauses.{counter-from, counter-recursive, From, from-next, from-literal, from-new, from-previous, from-second, full-size}
+use Rattle.definition.specs.Counter.{size, lit, new}
+use Rattle.soundness.proofs.CounterClauses.{Written, From, from-next, from-literal, from-new, from-previous, from-second, full-size}
 use Rattle.definition.specs.Order.{place-from, previous, negated-new, instead-of, replaced, deletions-of}
-
--- a choice of two or more literals, all of its variables before the new ones
-pub record Well-formed (k : Choice) : Type 0 where
-  pub proper : Proper (k .literals)
-  pub long : 2 ≤ length (k .literals)
-  pub fit : (x : ℤ) → List·Memᴰ x (k .literals) → Fit (k .below) x
-
--- its first two literals and the others
-pub record Written (k : Choice) : Type 0 where
-  pub one : ℤ
-  pub two : ℤ
-  pub others : Clause
-  pub are : k .literals ≡ one ∷ two ∷ others
-
-pub written : (k : Choice) → 2 ≤ length (k .literals) → Written k
-written k b = go (k .literals) refl b
-  where
-    short : {n : ℕ} → 2 ≤ n → n < 2 → ⊥
-    short p q = omega arith
-
-    go : (s : Clause) → k .literals ≡ s → 2 ≤ length s → Written k
-    go [] e b = absurd (short b (omega arith))
-    go (l ∷ []) e b = absurd (short b (omega arith))
-    go (l ∷ m ∷ c) e b = record { one = l; two = m; others = c; are = e }
 
 -- ---- what stands for a literal
 abbrev pub link-instead : ℕ → Clause → ℤ → Clause
@@ -158,9 +133,6 @@ module _ (k : Choice) (l m : ℤ) (c : Clause) (e : k .literals ≡ l ∷ m ∷ 
 
 -- by the literals written out
 module _ {k : Choice} (w : Written k) where
-  pub counter-is : counter k ≡ counter-from (k .below) (w .one) (w .two ∷ w .others)
-  counter-is = counter-recursive k (w .one) (w .two) (w .others) (w .are)
-
   pub replaced-is : (d : Clause) → replaced k d ≡ replaced-from (k .below) (w .one) (w .two ∷ w .others) d
   replaced-is = replaced-recursive k (w .one) (w .two) (w .others) (w .are)
 

@@ -17,9 +17,10 @@ use Rattle.definition.specs.Counter.{size, lit, new, last-new}
 use Rattle.definition.specs.Order.{place-from, previous, negated-new, instead-of, replaced}
 use Rattle.laws.proofs.Tests.{to-true, of-true, to-false, or-cases, or-l, or-r}
 use Rattle.laws.proofs.Members.{holds-mem, mem-holds, same-eq, same-refl, unlike-false, Proper, proper-unopposed, opposes-mem, mem-opposes, natAbs-neg, turn, same-variable}
+use Rattle.laws.proofs.Fitting.{Up-to, Between}
 use Rattle.laws.proofs.Loops.{only-if-mem, for-each-mem, mem-for-each, getD-mem}
-use Rattle.order_form.proofs.Recursive.{Well-formed}
-use Rattle.order_form.proofs.Replace.{New, replaced-literal}
+use Rattle.counter_form.proofs.Ready.{Well-formed}
+use Rattle.order_form.proofs.Replace.{replaced-literal}
 
 -- ---- the place of a literal
 place-of : (i : ℕ) (m : ℤ) (c : Clause) (p : ℕ) → place-from i m c ≡ some p → (j : ℕ) × (p ≡ i + j) × (j < length c) × (getD c j (pos 0) ≡ m)
@@ -35,14 +36,19 @@ place-of i m (a ∷ c) p e = go (same m a) refl e (place-of (suc i) m c p)
 
 at-place : (i : ℕ) (c : Clause) → Proper c → (j : ℕ) → j < length c → place-from i (getD c j (pos 0)) c ≡ some (i + j)
 unfolding place-from
-at-place i [] a j b = absurd (no b)
-  where
-    no : j < 0 → ⊥
-    no b = omega arith
+at-place i [] a j b = absurd (omega arith)
 at-place i (l ∷ c) a zero b = let e : i ≡ i + 0 = omega arith in rw (to-true {b = same l l} (same-refl l)) (ap some e)
 at-place i (l ∷ c) a (suc j) b =
     let e : suc i + j ≡ i + suc j = omega arith in
     rw (unlike-false (getD c j (pos 0)) l (λ q. a .1 (Memᴰ·cast (sym q) (getD-mem c j (pos 0) (omega arith))))) (at-place (suc i) c (a .3) j (omega arith) ∙ ap some e)
+
+-- a literal's place in the choice
+pub placed : (k : Choice) (m : ℤ) (p : ℕ) → place-from 1 m (k .literals) ≡ some p → (1 ≤ p) × (p ≤ size k) × (lit k p ≡ m)
+unfolding lit size
+placed k m p e =
+    let r = place-of 1 m (k .literals) p e in
+    let q : p - 1 ≡ r .0 = omega (arith, r .1) in
+    (omega (arith, r .1), omega (arith, r .1, r .2), rw q (r .3))
 
 -- a literal is not the negation of another that is written without a sign
 clash : (a b : ℕ) → 0 < b → pos a ≡ negℤ (pos b) → ⊥
@@ -73,13 +79,6 @@ pub record Neighbours (k : Choice) (d : Clause) : Type 0 where
   pub next : List·Memᴰ (negℤ (lit k (place + 1))) d
 
 module _ (k : Choice) (u : Well-formed k) where
-  lit-of : (m : ℤ) (p : ℕ) → place-from 1 m (k .literals) ≡ some p → (0 < p) × (lit k p ≡ m)
-  unfolding lit
-  lit-of m p e =
-      let r = place-of 1 m (k .literals) p e in
-      let q : p - 1 ≡ r .0 = omega (arith, r .1) in
-      (omega (arith, r .1), rw q (r .3))
-
   of-lit : (p : ℕ) → 0 < p → p ≤ size k → place-from 1 (lit k p) (k .literals) ≡ some p
   unfolding lit size
   of-lit p h b = let q : 1 + (p - 1) ≡ p = omega arith in at-place 1 (k .literals) (u .proper) (p - 1) (omega arith) ∙ ap some q
@@ -91,13 +90,10 @@ module _ (k : Choice) (u : Well-formed k) where
   -- ---- which literal a counter literal stands for
   module _ (i : ℕ) (h : 0 < i) (m : ℤ) (b : natAbs m ≤ k .below) where
     too-high : {x : ℤ} → natAbs x ≡ k .below + i → x ≡ m → ⊥
-    too-high e q = no (sym e ∙ ap natAbs q)
-      where
-        no : k .below + i ≡ natAbs m → ⊥
-        no e = omega arith
+    too-high e q = omega (arith, e, ap natAbs q)
 
     negated-lit : {p : ℕ} → place-from 1 (negℤ m) (k .literals) ≡ some p → m ≡ negℤ (lit k p)
-    negated-lit {p} e = sym (negℤ-negℤ m) ∙ ap negℤ (sym (lit-of (negℤ m) p e .1))
+    negated-lit {p} e = sym (negℤ-negℤ m) ∙ ap negℤ (sym (placed k (negℤ m) p e .2))
 
     for-new : (o : Option ℕ) → place-from 1 (negℤ m) (k .literals) ≡ o → List·Memᴰ (new k i) (instead-of k m o) → m ≡ negℤ (lit k (i + 1))
     unfolding instead-of previous negated-new new
@@ -114,7 +110,7 @@ module _ (k : Choice) (u : Well-formed k) where
         after : List·Memᴰ (new k i) (negated-new k p) → m ≡ negℤ (lit k (i + 1))
         after j =
             let r = only-if-mem (ltb p (size k)) (negℤ (new k p) ∷ []) (new k i) j in
-            absurd (clash (k .below + i) (k .below + p) (omega (arith, lit-of (negℤ m) p e .0)) (List·Memᴰ·eq-of-singleton (r .1)))
+            absurd (clash (k .below + i) (k .below + p) (omega (arith, placed k (negℤ m) p e .0)) (List·Memᴰ·eq-of-singleton (r .1)))
 
     for-negated : (o : Option ℕ) → place-from 1 (negℤ m) (k .literals) ≡ o → List·Memᴰ (negℤ (new k i)) (instead-of k m o) → m ≡ negℤ (lit k i)
     unfolding instead-of previous negated-new new
@@ -134,7 +130,7 @@ module _ (k : Choice) (u : Well-formed k) where
             rw (← q) (negated-lit e)
 
   -- a new literal is a counter variable or its negation
-  by-new : {P : Type 0} (y : ℤ) → New (k .below) (last-new k) y → ((i : ℕ) → 0 < i → i < size k → (y ≡ new k i) ⊎ (y ≡ negℤ (new k i)) → P) → P
+  by-new : {P : Type 0} (y : ℤ) → Between (suc (k .below)) (last-new k) y → ((i : ℕ) → 0 < i → i < size k → (y ≡ new k i) ⊎ (y ≡ negℤ (new k i)) → P) → P
   unfolding new last-new size
   by-new y r g =
       let i = natAbs y - k .below in
@@ -142,17 +138,14 @@ module _ (k : Choice) (u : Well-formed k) where
       g i (omega (arith, r .0)) (omega (arith, r .0, r .1, u .long)) (same-variable y (new k i) e)
 
   -- ---- two literals are never replaced by the same
-  stands-for : (m y : ℤ) → List·Memᴰ y (instead m) → (y ≡ m) ⊎ New (k .below) (last-new k) y
+  stands-for : (m y : ℤ) → List·Memᴰ y (instead m) → (y ≡ m) ⊎ Between (suc (k .below)) (last-new k) y
   unfolding replaced for-each
   stands-for m y j = ⊎-elim (λ p. inl (List·Memᴰ·eq-of-singleton (p .0))) inr (replaced-literal k u (m ∷ []) y (Memᴰ·append-left [] j))
 
   module _ (m n y : ℤ) (a : natAbs m ≤ k .below) (b : natAbs n ≤ k .below) (p : List·Memᴰ y (instead m)) (q : List·Memᴰ y (instead n)) where
     same-origin : m ≡ n
-    same-origin = ⊎-elim (λ e. ⊎-elim (λ o. sym e ∙ o) (λ r. absurd (no (r .0) (ap natAbs e))) (stands-for n y q)) (λ r. by-new y r fresh) (stands-for m y p)
+    same-origin = ⊎-elim (λ e. ⊎-elim (λ o. sym e ∙ o) (λ r. absurd (omega (arith, r .0, ap natAbs e))) (stands-for n y q)) (λ r. by-new y r fresh) (stands-for m y p)
       where
-        no : k .below < natAbs y → natAbs y ≡ natAbs m → ⊥
-        no h e = omega arith
-
         fresh : (i : ℕ) → 0 < i → i < size k → (y ≡ new k i) ⊎ (y ≡ negℤ (new k i)) → m ≡ n
         fresh i h s (inl e) =
             for-new i h m a (place-from 1 (negℤ m) (k .literals)) refl (Memᴰ·cast (sym e) p)
@@ -166,17 +159,17 @@ module _ (k : Choice) (u : Well-formed k) where
   instead-distinct m none e = no-repeat-one true m
   instead-distinct m (some p) e =
       no-repeat-++ (previous k p) (negated-new k p) (no-repeat-one (ltb 1 p) (new k (p - 1))) (no-repeat-one (ltb p (size k)) (negℤ (new k p)))
-      (λ x i j. clash (k .below + (p - 1)) (k .below + p) (omega (arith, lit-of (negℤ m) p e .0))
+      (λ x i j. clash (k .below + (p - 1)) (k .below + p) (omega (arith, placed k (negℤ m) p e .0))
       (sym (List·Memᴰ·eq-of-singleton (only-if-mem (ltb 1 p) (new k (p - 1) ∷ []) x i .1)) ∙ List·Memᴰ·eq-of-singleton (only-if-mem (ltb p (size k)) (negℤ (new k p) ∷ []) x j .1)))
 
-  none-twice : (d : Clause) → Proper d → ((x : ℤ) → List·Memᴰ x d → natAbs x ≤ k .below) → T (repeated (replaced k d)) → ⊥
+  none-twice : (d : Clause) → Proper d → Up-to (k .below) d → T (repeated (replaced k d)) → ⊥
   unfolding replaced for-each repeated
   none-twice [] a f = λ t. t
   none-twice (x ∷ d) a f =
       no-repeat-++ (instead x) (replaced k d) (instead-distinct x (place-from 1 (negℤ x) (k .literals)) refl) (none-twice d (a .3) (λ y i. f y (there i)))
       (λ y i j. let r = for-each-mem d instead y j in a .1 (Memᴰ·cast (same-origin x (r .0) y (f x (here refl)) (f (r .0) (there (r .1))) i (r .2)) (r .1)))
 
-  pub replaced-distinct : (d : Clause) → Proper d → ((x : ℤ) → List·Memᴰ x d → natAbs x ≤ k .below) → repeated (replaced k d) ≡ false
+  pub replaced-distinct : (d : Clause) → Proper d → Up-to (k .below) d → repeated (replaced k d) ≡ false
   replaced-distinct d a f = to-false (none-twice d a f)
 
   -- ---- a literal and its negation
@@ -194,7 +187,7 @@ module _ (k : Choice) (u : Well-formed k) where
         mem-for-each d instead (negℤ (lit k (i + 1))) (new k i) j
         (rw (negℤ-negℤ, of-lit (i + 1) (omega arith) (omega arith)) (Memᴰ·append-left {s = previous k (i + 1)} (negated-new k (i + 1)) (rw (lt-ltb 1 (i + 1) (omega arith), q) (here refl))))
 
-    module _ (f : (x : ℤ) → List·Memᴰ x d → natAbs x ≤ k .below) where
+    module _ (f : Up-to (k .below) d) where
       both-from : (i : ℕ) → 0 < i → i < size k → List·Memᴰ (new k i) (replaced k d) → List·Memᴰ (negℤ (new k i)) (replaced k d) → Neighbours k d
       unfolding replaced
       both-from i h b p q =
@@ -212,12 +205,9 @@ module _ (k : Choice) (u : Well-formed k) where
       opposed-neighbours a x p q = ⊎-elim (λ r. absurd (old (r .0))) fresh (replaced-literal k u d x p)
         where
           old : List·Memᴰ x d → ⊥
-          old i = ⊎-elim (λ r. proper-unopposed d a x i (r .0)) (λ r. no (r .0) (f x i)) (replaced-literal k u d (negℤ x) q)
-            where
-              no : k .below < natAbs (negℤ x) → natAbs x ≤ k .below → ⊥
-              no h b = omega (arith, natAbs-neg x)
+          old i = ⊎-elim (λ r. proper-unopposed d a x i (r .0)) (λ r. omega (arith, r .0, f x i, natAbs-neg x)) (replaced-literal k u d (negℤ x) q)
 
-          fresh : New (k .below) (last-new k) x → Neighbours k d
+          fresh : Between (suc (k .below)) (last-new k) x → Neighbours k d
           fresh r =
               by-new x r (λ i h b. ⊎-elim
               (λ s. both-from i h b (Memᴰ·cast (sym s) p) (Memᴰ·cast (ap negℤ (sym s)) q))

@@ -14,12 +14,13 @@ use Rattle.definition.specs.Clearing.{resolvent, clash-lines, pure-lines}
 use Rattle.definition.specs.Counter.{pairs, missing-pairs, size, counter, take-choice}
 use Rattle.definition.specs.Order.{replacement-lines, replaced, deletions-of, literal-deletions}
 use Rattle.definition.specs.Reencoding.{lines-of}
-use Rattle.room.proofs.Extra.{sum-++, sum-≤, sum-those}
-use Rattle.room.proofs.Weights.{All-lines, weight, added, added-deletions}
-use Rattle.room.proofs.Variables.{Proper-to, count-length, proper-length}
+use Rattle.laws.proofs.Sums.{sum-++, sum-≤, sum-those, sum-map, sum-most, sum-least, count-length}
+use Rattle.laws.proofs.Fitting.{Proper-to, proper-length}
+use Rattle.laws.proofs.Replay.{All-lines}
+use Rattle.room.proofs.Weights.{weight, added, added-deletions}
 use Rattle.room.proofs.Replaced.{Weighs}
-use Rattle.room.proofs.Lines.{missing, Of-choice, taken, replacing, deleting}
-use Rattle.room.proofs.Cleared.{Clears, clash, pure-clause}
+use Rattle.room.proofs.Lines.{Of-choice, taken, replacing, deleting}
+use Rattle.room.proofs.Cleared.{Clearing, clash, pure-clause}
 use Rattle.room.proofs.Rises.{taken-changes, counter-weight}
 
 -- the numbers of a clause, its 0 counted
@@ -32,14 +33,14 @@ proper-numbers h c p = omega (arith, count-length c, proper-length h c p)
 
 -- an optional addition, and then deletions
 one-addition : (h : ℕ) (b : Bool) (c : Clause) (ds : List Clause) → All-lines (Proper-to h) (only-if b (addition c ∷ []) ++ map deletion ds) → added numbers (only-if b (addition c ∷ []) ++ map deletion ds) ≤ suc h
-unfolding only-if added literals
+unfolding only-if sum-of literals
 one-addition h true c ds p = omega (arith, proper-numbers h c (p (addition c) (here refl)), added-deletions numbers ds)
 one-addition h false c ds p = omega (arith, added-deletions numbers ds)
 
-pub clearing-adds : (h n : ℕ) (e : Event) → Clears n e → All-lines (Proper-to h) (lines-of e) → added numbers (lines-of e) ≤ suc h
+pub clearing-adds : (h : ℕ) (e : Event) → Clearing e → All-lines (Proper-to h) (lines-of e) → added numbers (lines-of e) ≤ suc h
 unfolding lines-of clash-lines pure-lines
-clearing-adds h n e (clash c i j x y) p = one-addition h (not (opposed (resolvent c))) (resolvent c) (with-first (c .v) (c .one) ∷ with-first (negℤ (c .v)) (c .other) ∷ []) p
-clearing-adds h n e (pure-clause l c i x) p = omega (arith, added-deletions numbers (with-first l c ∷ []))
+clearing-adds h e (clash c) p = one-addition h (not (opposed (resolvent c))) (resolvent c) (with-first (c .v) (c .one) ∷ with-first (negℤ (c .v)) (c .other) ∷ []) p
+clearing-adds h e (pure-clause l c) p = omega (arith, added-deletions numbers (with-first l c ∷ []))
 
 -- ---- the pairs of 64 literals at most
 triangle : ℕ → ℕ
@@ -49,23 +50,18 @@ triangle (suc n) = n + triangle n
 triangle-≤ : (m n : ℕ) → m ≤ n → triangle m ≤ triangle n
 unfolding triangle
 triangle-≤ zero n h = omega arith
-triangle-≤ (suc m) zero h = absurd (no h)
-  where
-    no : suc m ≤ 0 → ⊥
-    no h = omega arith
+triangle-≤ (suc m) zero h = absurd (omega arith)
 triangle-≤ (suc m) (suc n) h = omega (arith, triangle-≤ m n (omega arith))
 
 pairs-numbers : (l : Clause) → sum-of numbers (pairs l) ≡ 3 * triangle (length l)
 unfolding pairs sum-of triangle weight
 pairs-numbers [] = refl
-pairs-numbers (a ∷ l) = omega (arith, pairs-numbers l, sum-++ numbers (map (λ b. negℤ a ∷ negℤ b ∷ []) l) (pairs l), each l)
-  where
-    each : (l : Clause) → sum-of numbers (map (λ b. negℤ a ∷ negℤ b ∷ []) l) ≡ 3 * length l
-    each [] = refl
-    each (b ∷ l) = omega (arith, each l)
+pairs-numbers (a ∷ l) =
+    let pair : ℤ → Clause = λ b. negℤ a ∷ negℤ b ∷ [] in
+    omega (arith, pairs-numbers l, sum-++ numbers (map pair l) (pairs l), sum-map numbers pair l, sum-most 3 (λ _. 3) (λ _. omega arith) l, sum-least 3 (λ _. 3) (λ _. omega arith) l)
 
-missing-numbers : (c : Choice) (f : Formula) → size c ≤ 64 → sum-of numbers (missing c f) ≤ 6_048
-unfolding missing missing-pairs size triangle
+missing-numbers : (c : Choice) (f : Formula) → size c ≤ 64 → sum-of numbers (missing-pairs f (c .literals)) ≤ 6_048
+unfolding missing-pairs size triangle
 missing-numbers c f s =
     let t : triangle 64 ≡ 2_016 = refl in
     omega (arith, pairs-numbers (c .literals), triangle-≤ (length (c .literals)) 64 s, sum-those numbers (λ p. not (stands p f)) (pairs (c .literals)))

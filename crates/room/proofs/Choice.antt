@@ -1,207 +1,99 @@
 -- The clauses of one choice, its pairs and its counter clauses, are proper. Assumes that its literals are.
-use mathlib.Core.Path.{_≡_, refl, sym, _∙_, subst}
-use mathlib.Core.Logic.{_≢_, _⊎_, inl, inr, ⊎-elim}
-use mathlib.Core.Bool.{Bool, true, false, not}
-use mathlib.Core.List.{[], _∷_, _++_, map, List·Memᴰ, List·Memᴰ·head as here, List·Memᴰ·tail as there, Memᴰ·of-map, List·Memᴰ·append-cases, List·Memᴰ·not-nil, List·Memᴰ·eq-of-singleton}
-use Prim.Native.Nat.{ℕ, zero, suc, _-_, _≤_, _<_}
+use mathlib.Core.Path.{_≡_, sym, _∙_, ap}
+use mathlib.Core.Logic.{_≢_, ⊎-elim}
+use mathlib.Core.List.{[], _∷_, List·Memᴰ, Memᴰ·cast}
+use Prim.Native.Nat.{ℕ, _+_, suc, _-_, _≤_, _<_}
 use native.Mathlib.Omega.{arith}
-use lib.Dec.{ltb}
-use lib.IntN.{ℤ, pos, negℤ, natAbs}
-use lib.ListN.{replicate}
-use borrow.Author.Tests.{ltb-true}
-use Rattle.definition.specs.Lists.{count, for-from, only-if}
-use Rattle.definition.specs.Literals.{Clause, Formula, same-set}
-use Rattle.definition.specs.Standing.{literals, stands}
+use lib.ListN.{length}
+use lib.IntN.{ℤ, pos, negsuc, negℤ, natAbs}
+use Rattle.definition.specs.Literals.{Clause}
+use Rattle.definition.specs.Standing.{literals}
 use Rattle.definition.specs.Events.{Choice}
-use Rattle.definition.specs.Counter.{last-new, pairs, missing-pairs, size, lit, new, stage-2, stage-3, counter, copies}
-use Rattle.definition.specs.Order.{previous, negated-new, deletions-of}
-use Rattle.laws.proofs.Tests.{to-true}
-use Rattle.laws.proofs.Members.{Proper, those-mem, natAbs-neg}
-use Rattle.room.proofs.Extra.{only-if-mem, getD-mem, for-from-mem, for-each-mem}
-use Rattle.room.proofs.Weights.{All-clauses}
-use Rattle.room.proofs.Variables.{Proper-to, Between, literal-between, negated-between, one-to, two-to, three-to, apart}
+use Rattle.definition.specs.Counter.{last-new, pairs, size, lit, counter}
+use Rattle.laws.proofs.Members.{natAbs-neg, proper-unopposed, same-variable}
+use Rattle.laws.proofs.Loops.{getD-mem}
+use Rattle.laws.proofs.Fitting.{Proper-to, Between, fit-between, literal-between, negated-between, two-to, three-to}
+use Rattle.laws.proofs.Replay.{All-clauses}
+use Rattle.soundness.proofs.Written.{Each, each, of-each, each-++}
+use Rattle.soundness.proofs.CounterClauses.{stage-2-from, stage-3-from, counter-from, Written, written, counter-is}
+use Rattle.counter_form.proofs.Ready.{Well-formed}
+use Rattle.counter_form.proofs.Pairs.{pair-form}
+use Rattle.order_form.proofs.Recursive.{link-deletions, deletions-from, deletions, deletions-is}
 
 -- ---- the pairs
--- a pair is made of two literals of different variables
-pub pair-mem : (l : Clause) → Proper l → {p : Clause} → List·Memᴰ p (pairs l) →
-    (a : ℤ) × (b : ℤ) × List·Memᴰ a l × List·Memᴰ b l × (natAbs a ≢ natAbs b) × (p ≡ negℤ a ∷ negℤ b ∷ [])
-unfolding pairs
-pair-mem [] q m = absurd (List·Memᴰ·not-nil m)
-pair-mem (a ∷ l) q {p} m = go (List·Memᴰ·append-cases (map (λ b. negℤ a ∷ negℤ b ∷ []) l) m) (pair-mem l (q .3))
-  where
-    go : List·Memᴰ p (map (λ b. negℤ a ∷ negℤ b ∷ []) l) ⊎ List·Memᴰ p (pairs l) →
-        (List·Memᴰ p (pairs l) → (a : ℤ) × (b : ℤ) × List·Memᴰ a l × List·Memᴰ b l × (natAbs a ≢ natAbs b) × (p ≡ negℤ a ∷ negℤ b ∷ [])) →
-        (x : ℤ) × (y : ℤ) × List·Memᴰ x (a ∷ l) × List·Memᴰ y (a ∷ l) × (natAbs x ≢ natAbs y) × (p ≡ negℤ x ∷ negℤ y ∷ [])
-    go (inl m) ih =
-        let r = Memᴰ·of-map (λ b. negℤ a ∷ negℤ b ∷ []) l m in
-        (a, r .0, here refl, there (r .1), apart a l q (r .0) (r .1), sym (r .2))
-    go (inr m) ih = let r = ih m in (r .0, r .1, there (r .2), there (r .3), r .4, r .5)
-
 pub pairs-to : (h : ℕ) (l : Clause) → Proper-to h l → All-clauses (Proper-to h) (pairs l)
 pairs-to h l p d m =
-    let r = pair-mem l (p .0) m in
-    let a = r .0 in
-    let b = r .1 in
-    subst (Proper-to h) (sym (r .5))
-    (two-to h (negℤ a) (negℤ b) (negated-between 1 h a (literal-between p a (r .2))) (negated-between 1 h b (literal-between p b (r .3)))
-    (λ e. r .4 (sym (natAbs-neg a) ∙ e ∙ natAbs-neg b)))
-
-pub missing-pair : (f : Formula) (l : Clause) {d : Clause} → List·Memᴰ d (missing-pairs f l) → List·Memᴰ d (pairs l)
-unfolding missing-pairs
-missing-pair f l {d} m = those-mem (λ p. not (stands p f)) (pairs l) d m .0
-
-replicate-mem : (n : ℕ) (c d : Clause) → List·Memᴰ d (replicate n c) → d ≡ c
-replicate-mem zero c d m = absurd (List·Memᴰ·not-nil m)
-replicate-mem (suc n) c d (here e) = e
-replicate-mem (suc n) c d (there m) = replicate-mem n c d m
-
-pub copied-pair : (f : Formula) (l : Clause) {d : Clause} → List·Memᴰ d (copies f l) → List·Memᴰ d (pairs l)
-unfolding copies
-copied-pair f l {d} m =
-    let r = for-each-mem (pairs l) (λ p. replicate (count (same-set p) f) p) m in
-    subst (λ (z : Clause). List·Memᴰ z (pairs l)) (sym (replicate-mem (count (same-set (r .0)) f) (r .0) d (r .2))) (r .1)
+    let r = pair-form l (p .0) d m in
+    let a = literal-between p (r .one) (r .one-in) in
+    let b = literal-between p (r .two) (r .two-in) in
+    rw (r .is)
+    (two-to h (negℤ (r .one)) (negℤ (r .two)) (negated-between 1 h (r .one) a) (negated-between 1 h (r .two) b)
+    (λ e. other (r .one) (r .two) (r .one-in) (r .two-in) (r .differ) (sym (natAbs-neg (r .one)) ∙ e ∙ natAbs-neg (r .two))))
+  where
+    other : (x y : ℤ) → List·Memᴰ x l → List·Memᴰ y l → y ≢ x → natAbs x ≢ natAbs y
+    other x y i j n e = ⊎-elim (λ q. n (sym q)) (λ q. proper-unopposed l (p .0) y j (Memᴰ·cast (sym q) i)) (same-variable x y e)
 
 -- ---- the counter clauses
 pub lit-mem : (c : Choice) (i : ℕ) → 1 ≤ i → i ≤ size c → List·Memᴰ (lit c i) (c .literals)
 unfolding size lit
 lit-mem c i a b = getD-mem (c .literals) (i - 1) (pos 0) (omega arith)
 
-module _ (c : Choice) (s : 2 ≤ size c) (p : Proper-to (c .below) (c .literals)) where
-  abbrev Old : ℤ → Type 0
-  Old x = Between 1 (c .below) x
+-- clauses of a choice's literal, whose variable is up to h, and of counter literals
+module _ (g h : ℕ) where
+  two : (x y : ℤ) → 1 ≤ natAbs x → natAbs x < natAbs y → natAbs y ≤ g → Proper-to g (x ∷ y ∷ []) × Proper-to g (y ∷ x ∷ [])
+  two x y a b c = (two-to g x y (a, omega arith) (omega arith, c) (λ e. omega arith), two-to g y x (omega arith, c) (a, omega arith) (λ e. omega arith))
 
-  abbrev New : ℤ → Type 0
-  New x = Between (suc (c .below)) (last-new c) x
+  -- those of the counter, and those that the order form deletes
+  links-to : (n : ℕ) (m : ℤ) (c : Clause) → h ≤ n → n + length (m ∷ c) ≤ g → Each (Between 1 h) (m ∷ c) →
+      Each (Proper-to g) (stage-2-from n (m ∷ c)) × Each (Proper-to g) (stage-3-from n (m ∷ c)) × Each (Proper-to g) (link-deletions n (m ∷ c))
+  links-to n m [] a b f =
+      let o = f .0 in
+      let q = negated-between 1 h m o in
+      let p = two m (pos (suc n)) (o .0) (omega arith) (omega arith) in
+      let r = two (negℤ m) (negsuc n) (q .0) (omega arith) (omega arith) in
+      (tt, (r .1, (p .1, tt)), (p .0, (r .0, tt)))
+  links-to n m (k ∷ c) a b f =
+      let o = f .0 in
+      let q = negated-between 1 h m o in
+      let p = two (negℤ m) (pos (suc (suc n))) (q .0) (omega arith) (omega arith) in
+      let r = two (negℤ m) (negsuc n) (q .0) (omega arith) (omega arith) in
+      let t = two (negsuc n) (pos (suc (suc n))) (omega arith) (omega arith) (omega arith) in
+      let u = three-to g (negsuc (suc n)) (pos (suc n)) m (omega arith, omega arith) (omega arith, omega arith) (o .0, omega arith) (λ e. omega arith) (λ e. omega arith) (λ e. omega arith) in
+      let v = three-to g m (negsuc (suc n)) (pos (suc n)) (o .0, omega arith) (omega arith, omega arith) (omega arith, omega arith) (λ e. omega arith) (λ e. omega arith) (λ e. omega arith) in
+      let i = links-to (suc n) k c (omega arith) (omega arith) (f .1) in
+      ((u, (t .1, (p .1, i .0))), (r .1, i .1), (v, (p .0, (r .0, i .2))))
 
-  lit-old : (i : ℕ) → 1 ≤ i → i ≤ size c → Old (lit c i)
-  lit-old i a b = literal-between p (lit c i) (lit-mem c i a b)
+module _ (c : Choice) (u : Well-formed c) where
+  w : Written c
+  w = written c (u .long)
 
-  new-new : (i : ℕ) → 1 ≤ i → i < size c → New (new c i)
-  unfolding size new last-new
-  new-new i a b = (omega arith, omega arith)
+  g : ℕ
+  g = c .below + length (w .two ∷ w .others)
 
-  neg-old : (x : ℤ) → Old x → Old (negℤ x)
-  neg-old x o = negated-between 1 (c .below) x o
+  last-is : last-new c ≡ g
+  unfolding last-new g
+  last-is = omega (arith, ap length (w .are))
 
-  neg-new : (x : ℤ) → New x → New (negℤ x)
-  neg-new x n = negated-between (suc (c .below)) (last-new c) x n
+  old : Each (Between 1 (c .below)) (w .one ∷ w .two ∷ w .others)
+  old = rw (w .are) at (of-each (Between 1 (c .below)) (c .literals) (λ x i. fit-between (c .below) x (u .fit x i)))
 
-  -- a proper clause that holds a new variable
-  abbrev pub With-new : Clause → Type 0
-  With-new d = Proper-to (last-new c) d × (y : ℤ) × List·Memᴰ y d × (c .below < natAbs y)
+  pub counter-clause : All-clauses (Proper-to (last-new c)) (counter c)
+  unfolding g
+  counter-clause =
+      let n = c .below in
+      let o = old .0 in
+      let q = negated-between 1 n (w .one) o in
+      let r = links-to g n n (w .two) (w .others) (omega arith) (omega arith) (old .1) in
+      rw (last-is, counter-is w)
+      (each (Proper-to g) (counter-from n (w .one) (w .two ∷ w .others))
+      (two g n (w .one) (negsuc n) (o .0) (omega arith) (omega arith) .1, (two g n (negℤ (w .one)) (pos (suc n)) (q .0) (omega arith) (omega arith) .1, each-++ (Proper-to g) (stage-2-from n (w .two ∷ w .others)) (stage-3-from n (w .two ∷ w .others)) (r .0) (r .1))))
 
-  new-old : (x y : ℤ) → New x → Old y → With-new (x ∷ y ∷ [])
-  unfolding last-new
-  new-old x y n o = (two-to (last-new c) x y (omega arith, n .1) (o .0, omega arith) (λ e. omega arith), x, here refl, n .0)
-
-  old-new : (x y : ℤ) → Old x → New y → With-new (x ∷ y ∷ [])
-  unfolding last-new
-  old-new x y o n = (two-to (last-new c) x y (o .0, omega arith) (omega arith, n .1) (λ e. omega arith), y, there (here refl), n .0)
-
-  new-new-apart : (i : ℕ) → 2 ≤ i → i < size c → natAbs (new c i) ≢ natAbs (new c (i - 1))
-  unfolding new
-  new-new-apart i a b e = omega arith
-
-  -- -si s(i-1) li; si -s(i-1); si -li
-  middle-clause : (i : ℕ) → 2 ≤ i → i < size c → (d : Clause) →
-      List·Memᴰ d ((negℤ (new c i) ∷ new c (i - 1) ∷ lit c i ∷ []) ∷ (new c i ∷ negℤ (new c (i - 1)) ∷ []) ∷ (new c i ∷ negℤ (lit c i) ∷ []) ∷ []) → With-new d
-  unfolding last-new
-  middle-clause i a b d (here e) =
-      let n = neg-new (new c i) (new-new i (omega arith) b) in
-      let k = new-new (i - 1) (omega arith) (omega arith) in
-      let o = lit-old i (omega arith) (omega arith) in
-      subst With-new (sym e) (
-        three-to (last-new c) (negℤ (new c i)) (new c (i - 1)) (lit c i) (omega arith, n .1) (omega arith, k .1) (o .0, omega arith)
-            (λ q. new-new-apart i a b (sym (natAbs-neg (new c i)) ∙ q)) (λ q. omega arith) (λ q. omega arith),
-        negℤ (new c i),
-        here refl,
-        n .0,
-      )
-  middle-clause i a b d (there (here e)) =
-      let n = new-new i (omega arith) b in
-      let k = neg-new (new c (i - 1)) (new-new (i - 1) (omega arith) (omega arith)) in
-      subst With-new (sym e) (
-        two-to (last-new c) (new c i) (negℤ (new c (i - 1))) (omega arith, n .1) (omega arith, k .1)
-            (λ q. new-new-apart i a b (q ∙ natAbs-neg (new c (i - 1)))),
-        new c i,
-        here refl,
-        n .0,
-      )
-  middle-clause i a b d (there (there (here e))) =
-      subst With-new (sym e) (new-old (new c i) (negℤ (lit c i)) (new-new i (omega arith) b) (neg-old (lit c i) (lit-old i (omega arith) (omega arith))))
-
-  stage-2-clause : (d : Clause) → List·Memᴰ d (stage-2 c) → With-new d
-  unfolding stage-2
-  stage-2-clause d (here e) =
-      subst With-new (sym e) (new-old (negℤ (new c 1)) (lit c 1) (neg-new (new c 1) (new-new 1 (omega arith) s)) (lit-old 1 (omega arith) (omega arith)))
-  stage-2-clause d (there (here e)) =
-      subst With-new (sym e) (new-old (new c 1) (negℤ (lit c 1)) (new-new 1 (omega arith) s) (neg-old (lit c 1) (lit-old 1 (omega arith) (omega arith))))
-  stage-2-clause d (there (there m)) =
-      let r = for-from-mem 2 (size c - 2) (λ i. (negℤ (new c i) ∷ new c (i - 1) ∷ lit c i ∷ []) ∷ (new c i ∷ negℤ (new c (i - 1)) ∷ []) ∷ (new c i ∷ negℤ (lit c i) ∷ []) ∷ []) m in
-      let b = r .2 in
-      middle-clause (r .0) (r .1) (omega arith) d (r .3)
-
-  stage-3-clause : (d : Clause) → List·Memᴰ d (stage-3 c) → With-new d
-  unfolding stage-3
-  stage-3-clause d m = ⊎-elim each last (List·Memᴰ·append-cases (for-from 2 (size c - 1) (λ i. (negℤ (new c (i - 1)) ∷ negℤ (lit c i) ∷ []) ∷ [])) m)
-    where
-      each : List·Memᴰ d (for-from 2 (size c - 1) (λ i. (negℤ (new c (i - 1)) ∷ negℤ (lit c i) ∷ []) ∷ [])) → With-new d
-      each m =
-          let r = for-from-mem 2 (size c - 1) (λ i. (negℤ (new c (i - 1)) ∷ negℤ (lit c i) ∷ []) ∷ []) m in
-          let i = r .0 in
-          let a = r .1 in
-          let b = r .2 in
-          subst With-new (sym (List·Memᴰ·eq-of-singleton (r .3)))
-          (new-old (negℤ (new c (i - 1))) (negℤ (lit c i)) (neg-new (new c (i - 1)) (new-new (i - 1) (omega arith) (omega arith))) (neg-old (lit c i) (lit-old i (omega arith) (omega arith))))
-
-      last : List·Memᴰ d ((new c (size c - 1) ∷ lit c (size c) ∷ []) ∷ []) → With-new d
-      last m = subst With-new (sym (List·Memᴰ·eq-of-singleton m)) (new-old (new c (size c - 1)) (lit c (size c)) (new-new (size c - 1) (omega arith) (omega arith)) (lit-old (size c) (omega arith) (omega arith)))
-
-  pub counter-clause : (d : Clause) → List·Memᴰ d (counter c) → With-new d
-  unfolding counter
-  counter-clause d m = ⊎-elim (stage-2-clause d) (stage-3-clause d) (List·Memᴰ·append-cases (stage-2 c) m)
-
-  -- the clauses with a choice's literals that the order form deletes
-  main-deletion : (i : ℕ) → 1 ≤ i → i ≤ size c → Proper-to (last-new c) (lit c i ∷ negated-new c i ++ previous c i)
-  unfolding negated-new previous only-if last-new
-  main-deletion i a b = go (ltb i (size c)) refl (ltb 1 i) refl
-    where
-      go : (t : Bool) → ltb i (size c) ≡ t → (u : Bool) → ltb 1 i ≡ u → Proper-to (last-new c) (lit c i ∷ only-if t (negℤ (new c i) ∷ []) ++ only-if u (new c (i - 1) ∷ []))
-      go true e true q =
-          let t = ltb-true i (size c) e in
-          let u = ltb-true 1 i q in
-          let o = lit-old i a b in
-          let n = neg-new (new c i) (new-new i a t) in
-          let k = new-new (i - 1) (omega arith) (omega arith) in
-          three-to (last-new c) (lit c i) (negℤ (new c i)) (new c (i - 1)) (o .0, omega arith) (omega arith, n .1) (omega arith, k .1)
-          (λ q. omega arith) (λ q. omega arith) (λ q. new-new-apart i u t (sym (natAbs-neg (new c i)) ∙ q))
-      go true e false q = old-new (lit c i) (negℤ (new c i)) (lit-old i a b) (neg-new (new c i) (new-new i a (ltb-true i (size c) e))) .0
-      go false e true q =
-          let u = ltb-true 1 i q in
-          old-new (lit c i) (new c (i - 1)) (lit-old i a b) (new-new (i - 1) (omega arith) (omega arith)) .0
-      go false e false q = let o = lit-old i a b in one-to (last-new c) (lit c i) (o .0, omega arith)
-
-  pub deletions-clause : (d : Clause) → List·Memᴰ d (for-from 1 (size c) (deletions-of c)) → Proper-to (last-new c) d
-  unfolding deletions-of
-  deletions-clause d m =
-      let r = for-from-mem 1 (size c) (deletions-of c) m in
-      let b = r .2 in
-      at (r .0) (r .1) (omega arith) (r .3)
-    where
-      with-next : (i : ℕ) → 1 ≤ i → i ≤ size c → List·Memᴰ d (only-if (ltb i (size c)) ((negℤ (lit c i) ∷ new c i ∷ []) ∷ [])) → Proper-to (last-new c) d
-      with-next i a b m =
-          let r = only-if-mem (ltb i (size c)) ((negℤ (lit c i) ∷ new c i ∷ []) ∷ []) m in
-          subst (Proper-to (last-new c)) (sym (List·Memᴰ·eq-of-singleton (r .1)))
-          (old-new (negℤ (lit c i)) (new c i) (neg-old (lit c i) (lit-old i a b)) (new-new i a (ltb-true i (size c) (to-true (r .0)))) .0)
-
-      with-previous : (i : ℕ) → 1 ≤ i → i ≤ size c → List·Memᴰ d (only-if (ltb 1 i) ((negℤ (lit c i) ∷ negℤ (new c (i - 1)) ∷ []) ∷ [])) → Proper-to (last-new c) d
-      with-previous i a b m =
-          let r = only-if-mem (ltb 1 i) ((negℤ (lit c i) ∷ negℤ (new c (i - 1)) ∷ []) ∷ []) m in
-          let u = ltb-true 1 i (to-true (r .0)) in
-          subst (Proper-to (last-new c)) (sym (List·Memᴰ·eq-of-singleton (r .1)))
-          (old-new (negℤ (lit c i)) (negℤ (new c (i - 1))) (neg-old (lit c i) (lit-old i a b)) (neg-new (new c (i - 1)) (new-new (i - 1) (omega arith) (omega arith))) .0)
-
-      at : (i : ℕ) → 1 ≤ i → i ≤ size c → List·Memᴰ d (deletions-of c i) → Proper-to (last-new c) d
-      at i a b (here e) = subst (Proper-to (last-new c)) (sym e) (main-deletion i a b)
-      at i a b (there m) =
-          ⊎-elim (with-next i a b) (with-previous i a b) (List·Memᴰ·append-cases (only-if (ltb i (size c)) ((negℤ (lit c i) ∷ new c i ∷ []) ∷ [])) m)
+  pub deletions-clause : All-clauses (Proper-to (last-new c)) (deletions c)
+  unfolding g
+  deletions-clause =
+      let n = c .below in
+      let o = old .0 in
+      let q = negated-between 1 n (w .one) o in
+      rw (last-is, deletions-is w)
+      (each (Proper-to g) (deletions-from n (w .one) (w .two ∷ w .others))
+      (two g n (w .one) (negsuc n) (o .0) (omega arith) (omega arith) .0, (two g n (negℤ (w .one)) (pos (suc n)) (q .0) (omega arith) (omega arith) .0, links-to g n n (w .two) (w .others) (omega arith) (omega arith) (old .1) .2)))

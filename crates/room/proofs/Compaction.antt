@@ -1,6 +1,6 @@
 -- What stands before a choice, and all that its events add, fits into the workspace: clauses that are deleted in between need not be given back.
 -- Assumes what a run keeps (`Run`), and that no two choices have a variable in common.
-use mathlib.Core.Path.{_≡_, refl, sym, _∙_, ap, subst}
+use mathlib.Core.Path.{_≡_, refl, sym, _∙_, ap}
 use mathlib.Core.Logic.{_≢_}
 use mathlib.Core.Bool.{Bool, true, false, not, cond}
 use mathlib.Core.List.{List, [], _∷_, _++_, append-assoc, List·Memᴰ, List·Memᴰ·head as here, List·Memᴰ·tail as there, Memᴰ·append-left, Memᴰ·append-right}
@@ -11,7 +11,7 @@ use lib.IntN.{ℤ, negℤ, negℤ-negℤ, natAbs}
 use lib.ListN.{length}
 use Rattle.definition.specs.Lists.{bit, sum-of, only-if, for-from, for-each}
 use Rattle.definition.specs.Literals.{Clause, Formula, holds, opposes, opposed, literals-of}
-use Rattle.definition.specs.Standing.{Line, addition, deletion, after}
+use Rattle.definition.specs.Standing.{addition, deletion, after}
 use Rattle.definition.specs.Reading.{Input}
 use Rattle.definition.specs.Events.{Choice, Event, clause-replaced, literals-deleted}
 use Rattle.definition.specs.Counter.{last-new, size, counter, take-choice, below-new}
@@ -19,15 +19,18 @@ use Rattle.definition.specs.Order.{replacement-lines, replaced, replace, order-
 use Rattle.definition.specs.Reencoding.{lines-of, lines, Form, counter-form, order-form, Settings, choice-events, choices-events, cleared, chosen, events, result}
 use Rattle.definition.specs.Calls.{workspace-need, numbers-of}
 use Rattle.laws.proofs.Tests.{to-true, of-true, to-false}
-use Rattle.laws.proofs.Members.{opposes-mem, mem-opposes, mem-holds, holds-false, natAbs-neg}
-use Rattle.laws.proofs.Replay.{Leads, leads-split, after-++}
-use Rattle.room.proofs.Extra.{sum-++, sum-≤, sum-at, sum-none, sum-for-each}
-use Rattle.room.proofs.Weights.{All-clauses, All-lines, lines-++, weight, Of-set, weight-of-set, added, added-++, added-deletions, deleted, balance, Raises, raised}
-use Rattle.room.proofs.Variables.{Proper-to, proper-to-more}
-use Rattle.room.proofs.Replaced.{Weighs, replaced-weight, replaced-old}
-use Rattle.room.proofs.Lines.{before-counter, taken-lines, after-taken, order-events-are, Of-choice, Arranges, new-variables, as-choice, ordered-length, ordered-size, ordered-proper, ordered-new, others, choices-lines-to, choices-standing-to, From-choices, from-choice, events-of-choices}
-use Rattle.room.proofs.Cleared.{clearing, clearing-clears}
-use Rattle.room.proofs.Runs.{Run, order-of, choosing, events-are, input-to, cleared-to, cleared-after, chosen-size, arranges, parts-lead, run-raises, weight-after, few-new-variables, literal-weight, literal-most, literal-least, weighs, weight-most, weight-least}
+use Rattle.laws.proofs.Members.{Disjoint, Parted, opposes-same, opposes-mem, mem-opposes, holds-false, natAbs-neg}
+use Rattle.laws.proofs.Replay.{Leads, leads-split, after-++, lines-++, All-clauses, All-lines}
+use Rattle.laws.proofs.Sums.{sum-++, sum-≤, sum-at, sum-none, sum-for-each}
+use Rattle.laws.proofs.Fitting.{Up-to, Proper-to}
+use Rattle.counter_form.proofs.Ready.{Well-formed}
+use Rattle.soundness.proofs.Times.{holds-yes}
+use Rattle.order_form.proofs.Replace.{replaced-old}
+use Rattle.room.proofs.Weights.{weight, Of-set, weight-of-set, gained, added, added-deletions, deleted, balance, Raises, raised}
+use Rattle.room.proofs.Replaced.{Weighs, replaced-weight}
+use Rattle.room.proofs.Lines.{before-counter, taken-lines, after-taken, order-gone-through, Of-choice, Arranges, new-variables, as-choice, ordered-length, ordered-size, ordered-proper, ordered-formed, ordered-new, others, choices-lines-to, choices-standing-to, From-choices, from-choice, events-of-choices}
+use Rattle.room.proofs.Cleared.{clearing, clearing-event, cleared-after}
+use Rattle.room.proofs.Runs.{Run, order-of, choosing, events-are, standing-to, chosen-mem, arranges, parts-lead, run-raises, weight-after, few-new-variables, literal-weight, literal-most, literal-least, weighs, weight-most, weight-least}
 use Rattle.room.proofs.Additions.{numbers, numbers-least, taken-adds}
 use Rattle.room.proofs.Rises.{risen, clearing-risen, added-only-if, taken-changes, missing-copies, counter-weight, choice-raises, choices-risen}
 
@@ -43,24 +46,13 @@ touched-≤ l g d = go (opposes l d)
     go true = omega arith
     go false = omega arith
 
-opposes-within : (l d e : Clause) → ((x : ℤ) → List·Memᴰ x d → List·Memᴰ x e) → T (opposes l d) → T (opposes l e)
-opposes-within l d e h t = let r = opposes-mem l d t in mem-opposes l e (r .0) (r .1) (h (negℤ (r .0)) (r .2))
-
-both : {a b : Bool} → (T a → T b) → (T b → T a) → a ≡ b
-both {a = true} {b = true} f g = refl
-both {a = true} {b = false} f g = absurd (f tt)
-both {a = false} {b = true} f g = absurd (g tt)
-both {a = false} {b = false} f g = refl
-
 touched-of-set : (l : Clause) (g : Clause → ℕ) → Of-set g → Of-set (touched l g)
 unfolding touched
 touched-of-set l g i c d p q s =
-    let e : opposes l c ≡ opposes l d = both (opposes-within l c d (s .0)) (opposes-within l d c (s .1)) in
-    let k : g c ≡ g d = i c d p q s in
-    ap (λ (b : Bool). cond b (g c) 0) e ∙ ap (λ (n : ℕ). cond (opposes l d) n 0) k
+    ap (λ (b : Bool). cond b (g c) 0) (opposes-same l c d s) ∙ ap (λ (n : ℕ). cond (opposes l d) n 0) (i c d p q s)
 
 -- ---- a choice whose variables are not those of l
-module _ (l : Clause) (c : Choice) (low : (x : ℤ) → List·Memᴰ x l → natAbs x ≤ c .below) (foreign : (x : ℤ) → List·Memᴰ x l → (y : ℤ) → List·Memᴰ y (c .literals) → natAbs x ≢ natAbs y) where
+module _ (l : Clause) (c : Choice) (u : Well-formed c) (low : Up-to (c .below) l) (foreign : Disjoint l (c .literals)) where
   -- 1 for the negation of a literal of l
   against : ℤ → ℕ
   against x = bit (holds (negℤ x) l)
@@ -78,20 +70,18 @@ module _ (l : Clause) (c : Choice) (low : (x : ℤ) → List·Memᴰ x l → nat
 
   against-own : (x : ℤ) → List·Memᴰ x l → against (negℤ x) ≡ 1
   unfolding against
-  against-own x m =
-      let e : holds x l ≡ true = to-true (mem-holds x l m) in
-      ap (λ (y : ℤ). bit (holds y l)) (negℤ-negℤ x) ∙ ap bit e
+  against-own x m = rw (negℤ-negℤ x, holds-yes x l m)
 
-  counter-untouched : 2 ≤ size c → (d : Clause) → List·Memᴰ d (counter c) → opposes l d ≡ false
-  unfolding weight
-  counter-untouched s d m =
+  counter-untouched : (d : Clause) → List·Memᴰ d (counter c) → opposes l d ≡ false
+  unfolding weight size
+  counter-untouched d m =
       to-false (λ t.
       let r = opposes-mem l d t in
-      omega (arith, counter-weight 0 0 against c weighs-nothing s, sum-at (weight 0 against) m, sum-at against (r .2), against-own (r .0) (r .1)))
+      omega (arith, counter-weight 0 0 against c weighs-nothing (u .long), sum-at (weight 0 against) m, sum-at against (r .2), against-own (r .0) (r .1)))
 
-  counter-touched : (g : Clause → ℕ) → 2 ≤ size c → sum-of (touched l g) (counter c) ≡ 0
+  counter-touched : (g : Clause → ℕ) → sum-of (touched l g) (counter c) ≡ 0
   unfolding touched
-  counter-touched g s = sum-none (touched l g) (counter c) (λ d m. ap (λ (b : Bool). cond b (g d) 0) (counter-untouched s d m))
+  counter-touched g = sum-none (touched l g) (counter c) (λ d m. rw (counter-untouched d m))
 
   replaced-touched : (g : Clause → ℕ) → ((d : Clause) → g (replaced c d) ≤ g d) → (d : Clause) → touched l g (replaced c d) ≤ touched l g d
   unfolding touched
@@ -100,70 +90,66 @@ module _ (l : Clause) (c : Choice) (low : (x : ℤ) → List·Memᴰ x l → nat
       old : T (opposes l (replaced c d)) → opposes l d ≡ true
       old t =
           let r = opposes-mem l (replaced c d) t in
-          to-true (mem-opposes l d (r .0) (r .1) (replaced-old c d (negℤ (r .0)) (omega (arith, natAbs-neg (r .0), low (r .0) (r .1))) (r .2)))
+          to-true (mem-opposes l d (r .0) (r .1) (replaced-old c u d (negℤ (r .0)) (omega (arith, natAbs-neg (r .0), low (r .0) (r .1))) (r .2)))
 
       go : (b : Bool) → opposes l (replaced c d) ≡ b → cond b (g (replaced c d)) 0 ≤ cond (opposes l d) (g d) 0
       go true e = let q : cond (opposes l d) (g d) 0 ≡ g d = ap (λ (b : Bool). cond b (g d) 0) (old (of-true e)) in omega (arith, h d)
       go false e = omega arith
 
   -- none of its events raises the weight of the clauses that hold a negated literal of l
-  foreign-raises : (g : Clause → ℕ) → ((d : Clause) → g (replaced c d) ≤ g d) → 2 ≤ size c → (f : Formula) (e : Event) → Of-choice c f e →
+  foreign-raises : (g : Clause → ℕ) → ((d : Clause) → g (replaced c d) ≤ g d) → (f : Formula) (e : Event) → Of-choice c f e →
       added (touched l g) (lines-of e) ≤ deleted (touched l g) (lines-of e) + risen 0 e
-  foreign-raises g h s f e o = choice-raises (touched l g) 0 c (omega (arith, counter-touched g s)) (replaced-touched g h) f e o
+  foreign-raises g h f e o = choice-raises (touched l g) 0 c (omega (arith, counter-touched g)) (replaced-touched g h) f e o
 
 -- ---- what the order form adds for a choice
-added-lines : (g : Clause → ℕ) (es : List Event) → added g (lines es) ≡ sum-of (λ e. added g (lines-of e)) es
-unfolding lines for-each sum-of added
-added-lines g [] = refl
-added-lines g (e ∷ es) = omega (arith, added-++ g (lines-of e) (lines es), added-lines g es)
-
 -- only clauses that hold a negated literal of the choice are replaced
 replacement-adds : (v g : Clause → ℕ) (c : Choice) → ((d : Clause) → v (replaced c d) ≤ g d) → (d : Clause) → sum-of (λ e. added v (lines-of e)) (replace c d) ≤ touched (c .literals) g d
-unfolding replace touched only-if sum-of lines-of replacement-lines added
+unfolding replace touched only-if sum-of lines-of replacement-lines
 replacement-adds v g c h d = go (opposes (c .literals) d)
   where
     go : (b : Bool) → sum-of (λ e. added v (lines-of e)) (only-if b (clause-replaced d (replaced c d) ∷ [])) ≤ cond b (g d) 0
     go true =
         let b = not (opposed (replaced c d)) in
-        omega (arith, added-++ v (only-if b (addition (replaced c d) ∷ [])) (deletion d ∷ []), added-only-if v b (replaced c d), h d)
+        omega (arith, sum-++ (gained v) (only-if b (addition (replaced c d) ∷ [])) (deletion d ∷ []), added-only-if v b (replaced c d), h d)
     go false = omega arith
 
-module _ (c : Choice) (s : 2 ≤ size c) (p : Proper-to (c .below) (c .literals)) (f : Formula) (a : All-clauses (Proper-to (c .below)) f)
+module _ (c : Choice) (u : Well-formed c) (f : Formula) (a : All-clauses (Proper-to (c .below)) f)
     (t : Leads f (lines-of (take-choice f c)) (after f (lines-of (take-choice f c)))) where
   -- what stands before the counter clauses weighs no more than what stood before the choice
   before-counter-weight : (g : Clause → ℕ) → Of-set g → sum-of g (before-counter c f) ≤ sum-of g f
   before-counter-weight g i =
       omega (
         arith,
-        balance g i t (λ d m. a d m .0) (λ x m. taken-lines c s p f a x m .0),
+        balance g i t (λ d m. a d m .0) (λ x m. taken-lines c u f a x m .0),
         taken-changes g c f .0,
         taken-changes g c f .1,
         missing-copies g c f,
-        ap (sum-of g) (after-taken c s p f a),
+        ap (sum-of g) (after-taken c u f a),
         sum-++ g (before-counter c f) (counter c),
       )
 
   order-adds : (v g : Clause → ℕ) → Of-set g → ((d : Clause) → v (replaced c d) ≤ g d) → added v (lines (order-events c (after f (lines-of (take-choice f c))))) ≤ sum-of (touched (c .literals) g) f
-  unfolding sum-of lines-of literal-deletions
+  unfolding sum-of lines lines-of literal-deletions
   order-adds v g i h =
       let G = before-counter c f in
       let n : Event → ℕ = λ e. added v (lines-of e) in
       omega (
         arith,
-        added-lines v (order-events c (after f (lines-of (take-choice f c)))),
-        ap (sum-of n) (order-events-are c s p f a),
+        sum-for-each (gained v) (order-events c (after f (lines-of (take-choice f c)))) lines-of,
+        ap (sum-of n) (order-gone-through c u f a),
         sum-++ n (for-each G (replace c)) (literals-deleted c ∷ []),
-        sum-for-each (touched (c .literals) g) n G (replace c) (λ d _. replacement-adds v g c h d),
+        sum-for-each n G (replace c),
+        sum-≤ (λ d. sum-of n (replace c d)) (touched (c .literals) g) G (λ d _. replacement-adds v g c h d),
         added-deletions v (for-from 1 (size c) (deletions-of c)),
         before-counter-weight (touched (c .literals) g) (touched-of-set (c .literals) g i),
       )
 
   events-add : (v g : Clause → ℕ) → Of-set g → ((d : Clause) → v (replaced c d) ≤ g d) → (form : Form) →
       added v (lines (choice-events form f c)) ≤ added v (lines-of (take-choice f c)) + sum-of (touched (c .literals) g) f
-  unfolding choice-events lines for-each added
-  events-add v g i h counter-form = omega (arith, added-++ v (lines-of (take-choice f c)) [])
+  unfolding choice-events lines for-each sum-of
+  events-add v g i h counter-form = omega (arith, sum-++ (gained v) (lines-of (take-choice f c)) [])
   events-add v g i h order-form =
-      omega (arith, added-++ v (lines-of (take-choice f c)) (lines (order-events c (after f (lines-of (take-choice f c))))), order-adds v g i h)
+      omega (arith, sum-++ (gained v) (lines-of (take-choice f c)) (lines (order-events c (after f (lines-of (take-choice f c))))), order-adds v g i h)
 
 -- ---- the events of the first choices, and those of the others
 choices-split : (form : Form) (order : Clause → Clause) (n : ℕ) (f : Formula) (cs ds : List Clause) → Arranges n order cs →
@@ -183,14 +169,9 @@ choices-split form order n f (c ∷ cs) ds h =
     ∙ ap (λ (X : Formula). es ++ xs ++ choices-events form order (n + new-variables (c ∷ cs)) X ds) (sym (ap (after f) (lines-++ es xs) ∙ after-++ f (lines es) (lines xs)))
 
 -- ---- the choices of a run
--- no two have a variable in common
-abbrev pub Disjoint : List Clause → Type 0
-Disjoint [] = Unit {0}
-Disjoint (c ∷ cs) = ((d : Clause) → List·Memᴰ d cs → (x : ℤ) → List·Memᴰ x c → (y : ℤ) → List·Memᴰ y d → natAbs x ≢ natAbs y) × Disjoint cs
-
-disjoint-first : (cs ds : List Clause) (c : Clause) → Disjoint (cs ++ (c ∷ ds)) → (d : Clause) → List·Memᴰ d cs → (x : ℤ) → List·Memᴰ x d → (y : ℤ) → List·Memᴰ y c → natAbs x ≢ natAbs y
-disjoint-first (b ∷ cs) ds c q d (here e) x k y l = q .0 c (Memᴰ·append-right cs (here refl)) x (subst (λ (z : Clause). List·Memᴰ x z) e k) y l
-disjoint-first (b ∷ cs) ds c q d (there m) x k y l = disjoint-first cs ds c (q .1) d m x k y l
+parted-first : (cs ds : List Clause) (c : Clause) → Parted (cs ++ (c ∷ ds)) → (d : Clause) → List·Memᴰ d cs → Disjoint d c
+parted-first (b ∷ cs) ds c q d (here e) x k y l = q .0 c (Memᴰ·append-right cs (here refl)) x (rw e at k) y l
+parted-first (b ∷ cs) ds c q d (there m) x k y l = parted-first cs ds c (q .1) d m x k y l
 
 -- the events of the first choices, and what stands after them
 unfoldable pub events-of-first : Settings → Input → List Clause → List Event
@@ -208,12 +189,12 @@ unfolding lines for-each choice-events
 taken-leads counter-form f c es l = leads-split (lines-of (take-choice f c)) (lines es) l .0
 taken-leads order-form f c es l = leads-split (lines-of (take-choice f c)) (lines (order-events c (after f (lines-of (take-choice f c))) ++ es)) l .0
 
-module _ (s : Settings) (i : Input) (h : Run s i) (disjoint : Disjoint (chosen s i)) (cs ds : List Clause) (c : Clause) (e : chosen s i ≡ cs ++ (c ∷ ds)) where
+module _ (s : Settings) (i : Input) (h : Run s i) (disjoint : Parted (chosen s i)) (cs ds : List Clause) (c : Clause) (e : chosen s i ≡ cs ++ (c ∷ ds)) where
   mem-first : (d : Clause) → List·Memᴰ d cs → List·Memᴰ d (chosen s i)
-  mem-first d m = subst (λ (zs : List Clause). List·Memᴰ d zs) (sym e) (Memᴰ·append-left (c ∷ ds) m)
+  mem-first d m = rw e (Memᴰ·append-left (c ∷ ds) m)
 
   mem-next : List·Memᴰ c (chosen s i)
-  mem-next = subst (λ (zs : List Clause). List·Memᴰ c zs) (sym e) (Memᴰ·append-right cs (here refl))
+  mem-next = rw e (Memᴰ·append-right cs (here refl))
 
   arranges-first : Arranges (i .variables) (order-of s i) cs
   arranges-first d m = arranges s i h d (mem-first d m)
@@ -235,16 +216,16 @@ module _ (s : Settings) (i : Input) (h : Run s i) (disjoint : Disjoint (chosen s
       let xs = events-of-first s i cs in
       let ys = choice-events (s .form) (standing-after-first s i cs) (next-choice s i cs c) ++ events-after in
       let l = parts-lead s i h (clearing (i .formula)) (choosing s i) (events-are s i) .1 in
-      let k : Leads (cleared (i .formula)) (lines (choosing s i)) (result s i) = subst (λ (X : Formula). Leads X (lines (choosing s i)) (result s i)) (sym (cleared-after s i h)) l in
-      leads-split (lines xs) (lines ys) (subst (λ (zs : List Line). Leads (cleared (i .formula)) zs (result s i)) (ap lines choosing-split ∙ lines-++ xs ys) k)
+      let k : Leads (cleared (i .formula)) (lines (choosing s i)) (result s i) = rw (cleared-after (i .formula)) l in
+      leads-split (lines xs) (lines ys) (rw (ap lines choosing-split ∙ lines-++ xs ys) at k)
 
   first-lines : All-lines (Proper-to (i .variables + new-variables cs)) (lines (events-of-first s i cs))
   unfolding events-of-first
-  first-lines = choices-lines-to (s .form) (order-of s i) (i .variables) (cleared (i .formula)) cs (cleared-to s i h) arranges-first
+  first-lines = choices-lines-to (s .form) (order-of s i) (i .variables) (cleared (i .formula)) cs (standing-to s i h) arranges-first
 
   first-to : All-clauses (Proper-to (i .variables + new-variables cs)) (standing-after-first s i cs)
   unfolding standing-after-first events-of-first
-  first-to = choices-standing-to (s .form) (order-of s i) (i .variables) (cleared (i .formula)) cs (cleared-to s i h) arranges-first
+  first-to = choices-standing-to (s .form) (order-of s i) (i .variables) (cleared (i .formula)) cs (standing-to s i h) arranges-first
 
   heavier : Clause → ℕ
   heavier = weight 1 (literal-weight 1 (chosen s i))
@@ -256,15 +237,15 @@ module _ (s : Settings) (i : Input) (h : Run s i) (disjoint : Disjoint (chosen s
       omega (
         arith,
         weight-after s i h 1 1 (clearing f) (choosing s i) (events-are s i),
-        clearing-risen 16 (i .variables) (clearing f) (clearing-clears (i .variables) f (λ d l. input-to s i h d l .1)),
-        ap (sum-of heavier) (cleared-after s i h),
+        clearing-risen 16 (clearing f) (clearing-event f),
+        ap (sum-of heavier) (cleared-after f),
         weight-most 1 2 (literal-weight 1 (chosen s i)) (literal-most 1 (chosen s i)) f,
       )
 
   first-event : (d : Event) → List·Memᴰ d (events-of-first s i cs) → List·Memᴰ d (events s i)
   first-event d m =
       let rest = choice-events (s .form) (standing-after-first s i cs) (next-choice s i cs c) ++ events-after in
-      subst (λ (zs : List Event). List·Memᴰ d zs) (sym (events-are s i ∙ ap (λ (zs : List Event). clearing (i .formula) ++ zs) choosing-split))
+      rw (events-are s i ∙ ap (λ (zs : List Event). clearing (i .formula) ++ zs) choosing-split)
       (Memᴰ·append-right (clearing (i .formula)) (Memᴰ·append-left rest m))
 
   -- the earlier choices raise the weight of what stands by their counter clauses,
@@ -274,14 +255,14 @@ module _ (s : Settings) (i : Input) (h : Run s i) (disjoint : Disjoint (chosen s
   first-raised g r o q =
       omega (
         arith,
-        raised g (risen r) o (events-of-first s i cs) (first-leads .0) (λ d m. cleared-to s i h d m .0) (λ x m. first-lines x m .0) q,
+        raised g (risen r) o (events-of-first s i cs) (first-leads .0) (λ d m. standing-to s i h d m .0) (λ x m. first-lines x m .0) q,
         choices-risen r (s .form) (order-of s i) (i .variables) (cleared (i .formula)) cs arranges-first,
       )
 
   -- and that of the clauses with a negated literal of the choice not at all
   first-foreign : Raises (touched (order-of s i c) heavier) (risen 0) (events-of-first s i cs)
   unfolding events-of-first heavier below-new
-  first-foreign d m = by-choice (events-of-choices (s .form) (order-of s i) (i .variables) (cleared (i .formula)) cs (cleared-to s i h) arranges-first d m)
+  first-foreign d m = by-choice (events-of-choices (s .form) (order-of s i) (i .variables) (cleared (i .formula)) cs (standing-to s i h) arranges-first d m)
     where
       w : ℤ → ℕ
       w = literal-weight 1 (chosen s i)
@@ -289,15 +270,14 @@ module _ (s : Settings) (i : Input) (h : Run s i) (disjoint : Disjoint (chosen s
       by-choice : From-choices (i .variables) (order-of s i) cs d → added (touched (order-of s i c) heavier) (lines-of d) ≤ deleted (touched (order-of s i c) heavier) (lines-of d) + risen 0 d
       by-choice (from-choice n b f j k o) =
           let z = as-choice n (order-of s i) b in
-          foreign-raises (order-of s i c) z
+          foreign-raises (order-of s i c) z (ordered-formed (i .variables) (order-of s i) cs arranges-first b k n j)
           (λ x l. omega (arith, ordered-proper (i .variables) (order-of s i) (chosen s i) (arranges s i h) c mem-next .1 x l))
-          (λ x l y t q. disjoint-first cs ds c (subst Disjoint e disjoint) b k y (arranges-first b k .3 .0 y t) x (arranges s i h c mem-next .3 .0 x l) (sym q))
-          heavier (replaced-weight 1 w z (weighs 1 (i .variables) n (order-of s i) (chosen s i) (arranges s i h) b (mem-first b k) j) 1)
-          (ordered-size (i .variables) (order-of s i) cs arranges-first b k n) f d o
+          (λ x l y t q. parted-first cs ds c (rw e at disjoint) b k y (arranges-first b k .3 .0 y t) x (arranges s i h c mem-next .3 .0 x l) (sym q))
+          heavier (replaced-weight 1 w z (weighs 1 (i .variables) n (order-of s i) (chosen s i) (arranges s i h) b (mem-first b k) j) 1) f d o
 
   next-size : size (next-choice s i cs c) ≤ 64
   unfolding size
-  next-size = omega (arith, ordered-length (i .variables) (order-of s i) (chosen s i) (arranges s i h) c mem-next, chosen-size s i h c mem-next .2)
+  next-size = omega (arith, ordered-length (i .variables) (order-of s i) (chosen s i) (arranges s i h) c mem-next, chosen-mem s i c mem-next .2)
 
   next-new : new-variables cs + (size (next-choice s i cs c) - 1) ≤ new-variables (chosen s i)
   unfolding size new-variables sum-of
@@ -321,14 +301,14 @@ module _ (s : Settings) (i : Input) (h : Run s i) (disjoint : Disjoint (chosen s
       let least = literal-least 1 (chosen s i) in
       let q : Weighs 1 w k = weighs 1 (i .variables) n (order-of s i) (chosen s i) (arranges s i h) c mem-next (omega arith) in
       let two = ordered-size (i .variables) (order-of s i) (chosen s i) (arranges s i h) c mem-next n in
-      let p = proper-to-more (i .variables) n (omega arith) l (ordered-proper (i .variables) (order-of s i) (chosen s i) (arranges s i h) c mem-next) in
+      let u = ordered-formed (i .variables) (order-of s i) (chosen s i) (arranges s i h) c mem-next n (omega arith) in
       let t = taken-leads (s .form) F k events-after (first-leads .1) in
       omega (
         arith,
         weight-least 1 1 w least F,
         first-raised heavier 16 (weight-of-set 1 w) (λ d m. run-raises s i h 1 1 d (first-event d m)),
         cleared-weight,
-        events-add k two p F first-to t numbers heavier (weight-of-set 1 w) (λ d. omega (arith, numbers-least w least (replaced k d), replaced-weight 1 w k q 1 d)) (s .form),
+        events-add k u F first-to t numbers heavier (weight-of-set 1 w) (λ d. omega (arith, numbers-least w least (replaced k d), replaced-weight 1 w k q 1 d)) (s .form),
         taken-adds w least k q two next-size F,
         first-raised (touched l heavier) 0 (touched-of-set l heavier (weight-of-set 1 w)) first-foreign,
         sum-≤ (touched l heavier) heavier (cleared (i .formula)) (λ d _. touched-≤ l heavier d),

@@ -1,6 +1,4 @@
-pub mod Extra
 pub mod Weights
-pub mod Variables
 pub mod Choice
 pub mod Replaced
 pub mod Lines

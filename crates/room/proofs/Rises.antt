@@ -11,16 +11,18 @@ use Rattle.definition.specs.Literals.{Clause, Formula, same-set, without, with-
 use Rattle.definition.specs.Standing.{addition, deletion, stands, after}
 use Rattle.definition.specs.Events.{Choice, Event, clash-cleared, pure-deleted, choice-taken, clause-replaced, literals-deleted}
 use Rattle.definition.specs.Clearing.{resolvent, clash-lines, pure-lines}
-use Rattle.definition.specs.Counter.{last-new, pairs, missing-pairs, size, lit, new, stage-2, stage-3, counter, copies, take-choice, choice-lines}
+use Rattle.definition.specs.Counter.{last-new, pairs, missing-pairs, size, lit, new, stage-2, stage-3, counter, copies, take-choice}
 use Rattle.definition.specs.Order.{replacement-lines, replaced, replace, order-events, deletions-of, literal-deletions}
 use Rattle.definition.specs.Reencoding.{lines-of, lines, Form, counter-form, order-form, choice-events, choices-events}
+use Rattle.laws.proofs.Loops.{only-if-mem, for-each-mem, count-mem}
+use Rattle.laws.proofs.Sums.{sum-++, sum-none, sum-for-from, sum-copies}
+use Rattle.counter_form.proofs.Front.{taken-lines-are, paired, pair-copies}
 use Rattle.laws.proofs.Members.{mem-those, same-same-set, same-clause}
-use Rattle.room.proofs.Extra.{only-if-mem, for-each-mem, sum-++, sum-none, sum-for-from, sum-copies, count-mem}
-use Rattle.room.proofs.Weights.{weight, added, deleted, added-++, deleted-++, added-additions, added-deletions, deleted-additions, deleted-deletions}
+use Rattle.room.proofs.Weights.{weight, gained, lost, added, deleted, added-additions, added-deletions, deleted-additions, deleted-deletions}
 use Rattle.room.proofs.Choice.{lit-mem}
 use Rattle.room.proofs.Replaced.{Weighs, new-weight, negated-new-weight}
-use Rattle.room.proofs.Lines.{Arranges, as-choice, ordered-length, others, new-variables, missing, standing-copies, Of-choice, taken, replacing, deleting}
-use Rattle.room.proofs.Cleared.{Clears, clash, pure-clause}
+use Rattle.room.proofs.Lines.{Arranges, as-choice, ordered-length, others, new-variables, Of-choice, taken, replacing, deleting}
+use Rattle.room.proofs.Cleared.{Clearing, clash, pure-clause}
 
 -- the rise of an event: r for each new variable
 unfoldable pub risen : ℕ → Event → ℕ
@@ -36,65 +38,46 @@ risen-taken r c f = refl
 
 -- an optional addition
 pub added-only-if : (g : Clause → ℕ) (b : Bool) (c : Clause) → added g (only-if b (addition c ∷ [])) ≤ g c
-unfolding added only-if
+unfolding only-if sum-of
 added-only-if g true c = omega arith
 added-only-if g false c = omega arith
 
 -- ---- clearing raises no weight
-pub clearing-raises : (u : ℕ) (w : ℤ → ℕ) (r n : ℕ) (e : Event) → Clears n e → added (weight u w) (lines-of e) ≤ deleted (weight u w) (lines-of e) + risen r e
-unfolding lines-of clash-lines pure-lines risen resolvent with-first weight added deleted sum-of
-clearing-raises u w r n e (clash c i j x y) =
+pub clearing-raises : (u : ℕ) (w : ℤ → ℕ) (r : ℕ) (e : Event) → Clearing e → added (weight u w) (lines-of e) ≤ deleted (weight u w) (lines-of e) + risen r e
+unfolding lines-of clash-lines pure-lines risen resolvent with-first weight sum-of
+clearing-raises u w r e (clash c) =
     let g = weight u w in
     let xs = only-if (not (opposed (resolvent c))) (addition (resolvent c) ∷ []) in
     let ys = deletion (with-first (c .v) (c .one)) ∷ deletion (with-first (negℤ (c .v)) (c .other)) ∷ [] in
     omega (
       arith,
-      added-++ g xs ys,
-      deleted-++ g xs ys,
+      sum-++ (gained g) xs ys,
+      sum-++ (lost g) xs ys,
       added-only-if g (not (opposed (resolvent c))) (resolvent c),
       sum-++ w (without (c .v) (c .one)) (without (negℤ (c .v)) (c .other)),
     )
-clearing-raises u w r n e (pure-clause l c i x) = omega arith
+clearing-raises u w r e (pure-clause l c) = omega arith
 
 -- ---- a choice
 -- the missing pairs stand among the copies that are deleted
-pub missing-copies : (g : Clause → ℕ) (c : Choice) (f : Formula) → sum-of g (missing c f) ≤ sum-of g (standing-copies c f)
-unfolding missing standing-copies missing-pairs copies
+pub missing-copies : (g : Clause → ℕ) (c : Choice) (f : Formula) → sum-of g (missing-pairs f (c .literals)) ≤ sum-of g (pair-copies f c)
+unfolding missing-pairs copies
 missing-copies g c f =
-    let F = f ++ missing c f ++ counter c in
+    let F = paired f c ++ counter c in
     sum-copies g (λ p. not (stands p f)) (λ p. count (same-set p) F) (pairs (c .literals))
-    (λ p m t. count-mem (same-set p) F (Memᴰ·append-left (counter c) (Memᴰ·append-right f (mem-those (λ p. not (stands p f)) (pairs (c .literals)) p m t))) (same-same-set p p (same-clause p)))
+    (λ p m t. count-mem (same-set p) F p (Memᴰ·append-left (counter c) (Memᴰ·append-right f (mem-those (λ p. not (stands p f)) (pairs (c .literals)) p m t))) (same-same-set p p (same-clause p)))
 
 -- what taking a choice adds and deletes
 pub taken-changes : (g : Clause → ℕ) (c : Choice) (f : Formula) → let xs = lines-of (take-choice f c) in
-    (added g xs ≡ sum-of g (missing c f) + sum-of g (counter c)) × (deleted g xs ≡ g (c .literals) + sum-of g (standing-copies c f))
-unfolding lines-of take-choice choice-lines missing standing-copies counter sum-of
+    (added g xs ≡ sum-of g (missing-pairs f (c .literals)) + sum-of g (counter c)) × (deleted g xs ≡ g (c .literals) + sum-of g (pair-copies f c))
+unfolding sum-of
 taken-changes g c f =
-    let xs = map addition (missing c f) in
-    let ys = map addition (stage-2 c) in
-    let zs = map addition (stage-3 c) in
-    let ds = c .literals ∷ standing-copies c f in (
-      omega (
-        arith,
-        added-++ g (xs ++ ys ++ zs) (map deletion ds),
-        added-++ g (xs ++ ys) zs,
-        added-++ g xs ys,
-        added-additions g (missing c f),
-        added-additions g (stage-2 c),
-        added-additions g (stage-3 c),
-        added-deletions g ds,
-        sum-++ g (stage-2 c) (stage-3 c),
-      ),
-      omega (
-        arith,
-        deleted-++ g (xs ++ ys ++ zs) (map deletion ds),
-        deleted-++ g (xs ++ ys) zs,
-        deleted-++ g xs ys,
-        deleted-additions g (missing c f),
-        deleted-additions g (stage-2 c),
-        deleted-additions g (stage-3 c),
-        deleted-deletions g ds,
-      ),
+    let ds = c .literals ∷ pair-copies f c in
+    let new = missing-pairs f (c .literals) ++ counter c in
+    let xs = map addition new in
+    let e = taken-lines-are f c in (
+      omega (arith, ap (added g) e, sum-++ (gained g) xs (map deletion ds), added-additions g new, added-deletions g ds, sum-++ g (missing-pairs f (c .literals)) (counter c)),
+      omega (arith, ap (deleted g) e, sum-++ (lost g) xs (map deletion ds), deleted-additions g new, deleted-deletions g ds),
     )
 
 -- the most that a counter clause of two literals weighs
@@ -163,38 +146,38 @@ module _ (u a : ℕ) (w : ℤ → ℕ) (c : Choice) (h : Weighs a w c) where
 -- where the counter clauses weigh no more than r for each new variable, and a replaced clause no more than the old one
 pub choice-raises : (g : Clause → ℕ) (r : ℕ) (c : Choice) → sum-of g (counter c) ≤ (size c - 1) * r → ((d : Clause) → g (replaced c d) ≤ g d) →
     (f : Formula) (e : Event) → Of-choice c f e → added g (lines-of e) ≤ deleted g (lines-of e) + risen r e
-unfolding lines-of replacement-lines literal-deletions risen added deleted
+unfolding lines-of replacement-lines literal-deletions risen sum-of
 choice-raises g r c h k f e taken = omega (arith, taken-changes g c f .0, taken-changes g c f .1, missing-copies g c f, risen-taken r c f)
 choice-raises g r c h k f e (replacing d m) =
     let b = not (opposed (replaced c d)) in
     let xs = only-if b (addition (replaced c d) ∷ []) in
     omega (
       arith,
-      added-++ g xs (deletion d ∷ []),
-      deleted-++ g xs (deletion d ∷ []),
+      sum-++ (gained g) xs (deletion d ∷ []),
+      sum-++ (lost g) xs (deletion d ∷ []),
       added-only-if g b (replaced c d),
       k d,
     )
 choice-raises g r c h k f e deleting = omega (arith, added-deletions g (for-from 1 (size c) (deletions-of c)))
 
 -- ---- the rises of a run
-pub clearing-risen : (r n : ℕ) (es : List Event) → ((e : Event) → List·Memᴰ e es → Clears n e) → sum-of (risen r) es ≡ 0
+pub clearing-risen : (r : ℕ) (es : List Event) → ((e : Event) → List·Memᴰ e es → Clearing e) → sum-of (risen r) es ≡ 0
 unfolding risen
-clearing-risen r n es h = sum-none (risen r) es (λ e m. by-event e (h e m))
+clearing-risen r es h = sum-none (risen r) es (λ e m. by-event e (h e m))
   where
-    by-event : (e : Event) → Clears n e → risen r e ≡ 0
-    by-event e (clash c i j x y) = refl
-    by-event e (pure-clause l c i x) = refl
+    by-event : (e : Event) → Clearing e → risen r e ≡ 0
+    by-event e (clash c) = refl
+    by-event e (pure-clause l c) = refl
 
 order-risen : (r : ℕ) (c : Choice) (f : Formula) → sum-of (risen r) (order-events c f) ≡ 0
 unfolding order-events replace risen sum-of
 order-risen r c f =
     let ds = take (length f - length (counter c)) f in
-    let q = sum-none (risen r) (for-each ds (replace c)) (λ e m. let t = for-each-mem ds (replace c) m in by-clause e (t .0) (t .2)) in
+    let q = sum-none (risen r) (for-each ds (replace c)) (λ e m. let t = for-each-mem ds (replace c) e m in by-clause e (t .0) (t .2)) in
     omega (arith, sum-++ (risen r) (for-each ds (replace c)) (literals-deleted c ∷ []))
   where
     by-clause : (e : Event) (d : Clause) → List·Memᴰ e (replace c d) → risen r e ≡ 0
-    by-clause e d m = ap (risen r) (List·Memᴰ·eq-of-singleton (only-if-mem (opposes (c .literals) d) (clause-replaced d (replaced c d) ∷ []) m .1))
+    by-clause e d m = ap (risen r) (List·Memᴰ·eq-of-singleton (only-if-mem (opposes (c .literals) d) (clause-replaced d (replaced c d) ∷ []) e m .1))
 
 choice-risen : (r : ℕ) (form : Form) (f : Formula) (c : Choice) → sum-of (risen r) (choice-events form f c) ≡ (size c - 1) * r
 unfolding choice-events sum-of

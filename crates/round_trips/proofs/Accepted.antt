@@ -64,7 +64,7 @@ module _ (most : Limits) (v c : ℕ) where
       go (read .0) (leb-false c (length (r .done)) (room .0)) (eqb 0 (natAbs (read .0))) refl (read .2)
     where
       go : (n : ℤ) → length (r .done) < c → (b : Bool) → eqb 0 (natAbs n) ≡ b → cond b (value (end-clause r)) (read-literal most v r n) ≡ value s → Reads most v c s
-      go n h true q f = subst (Reads most v c) (value-same (end-clause r) s f) (reads-end r h p)
+      go n h true q f = rw (value-same (end-clause r) s f) at (reads-end r h p)
       go n h false q f = reads-literal r n s (λ z. eqb-false 0 (natAbs n) q (ap natAbs (sym z))) p f
 
   reads-start : Reads most v c (record { done = []; here = [] })
@@ -129,7 +129,7 @@ clauses-accepted most h i few e =
     let er = bind-value (through (read-word most v c) start (h .after)) _ i e in
     let ef = bind-value (end-text c (er .0)) _ i (er .2) in
     let p = through-keeps (read-word most v c) (Reads most v c) (reads-word most v c) start (h .after) (er .0) (reads-start most v c) (er .1) in
-    subst (Accepted most) (value-same _ i (ef .2)) (of v c (er .0) (ef .0) few p (end-text-done c (er .0) (ef .0) (ef .1)))
+    rw (value-same _ i (ef .2)) at (of v c (er .0) (ef .0) few p (end-text-done c (er .0) (ef .0) (ef .1)))
   where
     of : (v c : ℕ) (r : Reader) (f : Formula) → (v ≤ most .variables) × (c ≤ most .clauses) → Reads most v c r → r .done ≡ f → Accepted most (record { variables = v; formula = f })
     of v c r f few p q = subst (λ (g : Formula). Accepted most (record { variables = v; formula = g })) q (record {

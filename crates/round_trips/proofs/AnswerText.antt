@@ -1,7 +1,7 @@
 -- The `v` line of an assignment, read as an answer, names that assignment.
 use mathlib.Core.Path.{_≡_, refl, sym, _∙_, ap}
 use mathlib.Core.Bool.{Bool, true, false, cond}
-use mathlib.Core.List.{[], _∷_, _++_, append-assoc, List·Memᴰ, List·Memᴰ·head as here, List·Memᴰ·tail as there, List·Memᴰ·not-nil}
+use mathlib.Core.List.{[], _∷_, _++_, append-assoc, List·Memᴰ, List·Memᴰ·head as here, List·Memᴰ·tail as there}
 use Prim.Native.Nat.{ℕ, zero, suc, _+_, _≤_, _<_}
 use Prim.Native.Char.{code}
 use native.Mathlib.Omega.{arith}
@@ -57,7 +57,7 @@ answer-text-line : (v : ℕ) (a : Assignment) → answer-text v a ≡ answer-lin
 unfolding answer-text answer-line chosen-literal bytes
 answer-text-line v a =
     let numbers = for-from 1 v (λ x. bytes " " ++ literal-text (chosen-literal a x)) in
-    ap (λ (t : Bytes). 118 ∷ t) (sym (append-assoc numbers (32 ∷ 48 ∷ []) (10 ∷ [])) ∙ ap (λ (t : Bytes). t ++ (10 ∷ [])) (named-text a 1 v))
+    rw (sym (append-assoc numbers (32 ∷ 48 ∷ []) (10 ∷ [])) ∙ ap (λ (t : Bytes). t ++ (10 ∷ [])) (named-text a 1 v))
 
 answer-line-free : (p : ℕ → Bool) → p (code "v") ≡ false → p (code " ") ≡ false → Outside p → (c : Clause) → Free p (answer-line c)
 unfolding answer-line bytes
@@ -116,7 +116,6 @@ module _ (x : ℕ) (c : Clause) (proper : Proper c) (fit : (l : ℤ) → List·M
 -- ---- the literals named
 named-range : (a : Assignment) (i n : ℕ) (l : ℤ) → List·Memᴰ l (named-from a i n) → (i ≤ natAbs l) × (natAbs l < i + n)
 unfolding named-from for-from
-named-range a i zero l m = absurd (List·Memᴰ·not-nil m)
 named-range a i (suc n) l (here e) = let k : natAbs l ≡ i = ap natAbs e ∙ variable-of-chosen a i in (omega arith, omega arith)
 named-range a i (suc n) l (there m) = let r = named-range a (suc i) n l m in (omega (arith, r .0), omega (arith, r .1))
 

@@ -1,5 +1,5 @@
 -- The words and fields of a clause's line: its literals and `0`.
-use mathlib.Core.Path.{_≡_, refl, sym, ap}
+use mathlib.Core.Path.{_≡_, refl, sym}
 use mathlib.Core.Bool.{Bool, true, false}
 use mathlib.Core.List.{List, [], _∷_, _++_, append-assoc, append-nil, List·Memᴰ, List·Memᴰ·head as here, List·Memᴰ·tail as there}
 use Prim.Native.Nat.{ℕ, _≤_, _<_}
@@ -79,7 +79,7 @@ unfolding literals-text literal-words for-each bytes
 split-literals split h [] t = refl
 split-literals split h (l ∷ c) t =
     rw (append-assoc (literal-text l ++ (32 ∷ [])) (literals-text c) t, append-assoc (literal-text l) (32 ∷ []) (literals-text c ++ t), h l (literals-text c ++ t))
-    (ap (λ (ws : List Bytes). literal-text l ∷ ws) (split-literals split h c t))
+    (rw (split-literals split h c t))
 
 module _ (separates : ℕ → Bool) (at-blank : separates (code " ") ≡ true) (outside : Outside separates) where
   words-literals : (c : Clause) (t : Bytes) → words-by separates (literals-text c ++ t) ≡ literal-words c ++ words-by separates t

@@ -34,7 +34,7 @@ fuel-enough (suc d) (suc e) n f g = go (ltb n 10) refl (fuel-enough d e (n / 10)
   where
     go : (b : Bool) → ltb n 10 ≡ b → (n / 10 < d → n / 10 < e → digits-up-to d (n / 10) ≡ digits-up-to e (n / 10)) → digits-next (digits-up-to d) n b ≡ digits-next (digits-up-to e) n b
     go true q ih = refl
-    go false q ih = ap (λ (t : Bytes). t ++ ((code "0" + n % 10) ∷ [])) (ih (tenth-less n d (ltb-false n 10 q) f) (tenth-less n e (ltb-false n 10 q) g))
+    go false q ih = rw (ih (tenth-less n d (ltb-false n 10 q) f) (tenth-less n e (ltb-false n 10 q) g))
 
 pub digits-enough : (d n : ℕ) → n < d → digits-up-to d n ≡ digits n
 unfolding digits
@@ -47,7 +47,7 @@ digits-one n h = rw (lt-ltb n 10 h)
 pub digits-more : (n : ℕ) → 10 ≤ n → digits n ≡ digits (n / 10) ++ ((code "0" + n % 10) ∷ [])
 unfolding digits digits-up-to digits-next
 digits-more n h =
-    rw (le-ltb n 10 h) (ap (λ (t : Bytes). t ++ ((code "0" + n % 10) ∷ [])) (digits-enough n (n / 10) (tenth-less n n h (omega arith))))
+    rw (le-ltb n 10 h) (rw (digits-enough n (n / 10) (tenth-less n n h (omega arith))))
 
 -- ---- digits are read as their number
 value-++ : (n : ℕ) (s t : Bytes) → value-from n (s ++ t) ≡ value-from (value-from n s) t
@@ -66,7 +66,6 @@ numeral-one n h = ((omega arith, omega arith, tt), omega arith, λ p. omega arit
 
 numeral-more : (m k : ℕ) (t : Bytes) → 1 ≤ m → k < 10 → Numeral m t → Numeral (m * 10 + k) (t ++ ((code "0" + k) ∷ []))
 unfolding value-from digit-value
-numeral-more m k [] h l f = absurd f
 numeral-more m k (b ∷ t) h l f = (
   between-++ 48 57 (b ∷ t) ((code "0" + k) ∷ []) (f .0) (omega arith, omega arith, tt),
   rw (value-++ 0 (b ∷ t) ((code "0" + k) ∷ []), f .1) (omega arith),
@@ -99,7 +98,6 @@ all-digits (b ∷ t) f = rw (is-digit b (f .0) (f .1), all-digits t (f .2))
 
 natural-numeral : (n : ℕ) (t : Bytes) → Numeral n t → natural t ≡ some n
 unfolding natural is value-from digit-value
-natural-numeral n [] f = absurd f
 natural-numeral n (b ∷ []) f = rw (is-digit b (f .0 .0) (f .0 .1)) (ap some (omega (arith, f .1)))
 natural-numeral n (b ∷ c ∷ t) f =
     let h : 1 ≤ n = f .3 (omega arith) in
@@ -111,7 +109,6 @@ natural-digits n = natural-numeral n (digits n) (numeral-digits n)
 
 number-numeral : (n : ℕ) (t : Bytes) → Numeral n t → number t ≡ some (pos n)
 unfolding number is not-negated
-number-numeral n [] f = absurd f
 number-numeral n (b ∷ t) f = rw (ne-eqb b 45 (λ e. omega (arith, f .0 .0)), natural-numeral n (b ∷ t) f)
 
 pub number-literal : (l : ℤ) → number (literal-text l) ≡ some l
@@ -121,7 +118,6 @@ number-literal (negsuc n) = rw (natural-digits (suc n))
 
 -- ---- the bytes of a number: digits, `-` before them, at least one byte
 between-digits : (n : ℕ) (t : Bytes) → Numeral n t → Between 48 57 t
-between-digits n [] f = absurd f
 between-digits n (b ∷ t) f = f .0
 
 between-wider : (t : Bytes) → Between 48 57 t → Between 45 57 t
@@ -137,7 +133,6 @@ literal-between (pos n) = between-wider (digits n) (digits-between n)
 literal-between (negsuc n) = (omega arith, omega arith, between-wider (digits (suc n)) (digits-between (suc n)))
 
 numeral-some : (n : ℕ) (t : Bytes) → Numeral n t → 1 ≤ length t
-numeral-some n [] f = absurd f
 numeral-some n (b ∷ t) f = omega arith
 
 pub digits-some : (n : ℕ) → 1 ≤ length (digits n)

@@ -1,5 +1,5 @@
 -- The text of log lines, read, is those lines.
-use mathlib.Core.Path.{_≡_, refl, sym, _∙_, ap}
+use mathlib.Core.Path.{_≡_, refl, sym, _∙_}
 use mathlib.Core.Bool.{true, false}
 use mathlib.Core.List.{List, [], _∷_, _++_, append-nil, append-assoc, List·Memᴰ, List·Memᴰ·head as here, List·Memᴰ·tail as there}
 use mathlib.Core.Option.{some}
@@ -17,6 +17,7 @@ use Rattle.definition.specs.Standing.{Line, addition, deletion, literals}
 use Rattle.definition.specs.Log.{log-line-text, log-text}
 use Rattle.definition.specs.LogReading.{with-literal, read-line-clause, line-clause-allowed, allowed-clause, read-line-fields, read-line, read-log}
 use Rattle.laws.proofs.Members.{Proper}
+use Rattle.laws.proofs.Fitting.{Line-fits}
 use Rattle.laws.proofs.Clauses.{natAbs-zero, proper-unrepeated, proper-not-opposed}
 use Rattle.round_trips.proofs.Digits.{Between, number-literal, literal-between}
 use Rattle.round_trips.proofs.Words.{Free, first-field, first-line}
@@ -71,16 +72,12 @@ unfolding line-body bytes is
 line-body-free (addition c) = clause-line-free (is "\n") newline-outside refl c
 line-body-free (deletion c) = (refl, (refl, clause-line-free (is "\n") newline-outside refl c))
 
--- what a line of a log must be to be read
-abbrev pub Readable : Line → Type 0
-Readable s = Proper (literals s) × (highest (literals s) ≤ 70_000)
-
-fields-read : (s : Line) → Readable s → read-line-fields (fields (line-body s)) ≡ value s
+fields-read : (s : Line) → Line-fits 70_000 s → read-line-fields (fields (line-body s)) ≡ value s
 unfolding line-body literals bytes is
 fields-read (addition c) r = rw (fields-clause-line c) (addition-read c (r .0) (r .1))
 fields-read (deletion c) r = rw (first-field (100 ∷ []) (clause-line c) (refl, tt), fields-clause-line c) (deletion-read c (r .0) (r .1))
 
-line-read : (ss : List Line) (s : Line) → Readable s → read-line ss (text-line s) ≡ value (ss ++ (s ∷ []))
+line-read : (ss : List Line) (s : Line) → Line-fits 70_000 s → read-line ss (text-line s) ≡ value (ss ++ (s ∷ []))
 unfolding read-line text-line refuse-if _>>=_
 line-read ss s r = rw (fields-read s r)
 
@@ -90,9 +87,9 @@ unfolding log-text for-each text-line bytes text-lines
 log-text-lines [] = refl
 log-text-lines (s ∷ ss) =
     rw (line-body-text s, append-snoc (line-body s) 10 (log-text ss), first-line (line-body s) (log-text ss) (line-body-free s))
-    (ap (λ (ls : List TextLine). text-line s ∷ ls) (log-text-lines ss))
+    (rw (log-text-lines ss))
 
-lines-read : (j : ℕ) (before ss : List Line) → ((s : Line) → List·Memᴰ s ss → Readable s) → through read-line before (take j (for-each ss (λ s. text-line s ∷ []))) ≡ value (before ++ take j ss)
+lines-read : (j : ℕ) (before ss : List Line) → ((s : Line) → List·Memᴰ s ss → Line-fits 70_000 s) → through read-line before (take j (for-each ss (λ s. text-line s ∷ []))) ≡ value (before ++ take j ss)
 unfolding through for-each _>>=_
 lines-read zero before ss r = rw (append-nil before)
 lines-read (suc j) before [] r = rw (append-nil before)
@@ -100,6 +97,6 @@ lines-read (suc j) before (s ∷ ss) r =
     rw (line-read before s (r s (here refl)))
     (rw (append-snoc before s (take j ss)) at (lines-read j (before ++ (s ∷ [])) ss (λ x i. r x (there i))))
 
-pub log-read : (ss : List Line) (j : ℕ) → j ≤ length ss → ((s : Line) → List·Memᴰ s ss → Readable s) → read-log j (log-text ss) ≡ value (take j ss)
+pub log-read : (ss : List Line) (j : ℕ) → j ≤ length ss → ((s : Line) → List·Memᴰ s ss → Line-fits 70_000 s) → read-log j (log-text ss) ≡ value (take j ss)
 unfolding read-log refuse-if _>>=_
 log-read ss j h r = rw (log-text-lines ss, lines-read j [] ss r, length-take-le j ss h, le-ltb j j (omega arith))

@@ -1,5 +1,5 @@
 -- The words, fields and lines of a text that begins with one of them.
-use mathlib.Core.Path.{_≡_, refl, ap}
+use mathlib.Core.Path.{_≡_, refl}
 use mathlib.Core.Bool.{Bool, true, false}
 use mathlib.Core.List.{List, [], _∷_, _++_, append-nil}
 use Prim.Native.Nat.{ℕ, suc, _≤_}
@@ -74,7 +74,7 @@ pub no-last-cr : (u : Bytes) → Free (is "\r") u → without-last-cr u ≡ u
 unfolding without-last-cr
 no-last-cr [] f = refl
 no-last-cr (b ∷ []) f = rw (f .0)
-no-last-cr (b ∷ c ∷ u) f = ap (λ (t : Bytes). b ∷ t) (no-last-cr (c ∷ u) (f .1))
+no-last-cr (b ∷ c ∷ u) f = rw (no-last-cr (c ∷ u) (f .1))
 
 -- what follows the first line
 pub past-line : (u : Bytes) (b : ℕ) (t : Bytes) → drop (suc (length u)) (u ++ b ∷ t) ≡ t

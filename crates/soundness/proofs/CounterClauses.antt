@@ -1,7 +1,7 @@
 -- The counter clauses by recursion along the literals of a choice: `suc h` is the last counter variable given, which says that one of the literals so far is true.
 use mathlib.Core.Path.{_≡_, refl, ap}
 use mathlib.Core.List.{[], _∷_, _++_}
-use Prim.Native.Nat.{ℕ, suc, _+_, _-_, _<_}
+use Prim.Native.Nat.{ℕ, suc, _+_, _-_, _≤_, _<_}
 use native.Mathlib.Nat.{add-zero, add-suc, suc-add}
 use native.Mathlib.Numerals.{add-one}
 use native.Mathlib.Omega.{arith}
@@ -100,3 +100,21 @@ module _ (k : Choice) (l m : ℤ) (c : Clause) (e : k .literals ≡ l ∷ m ∷ 
   pub counter-recursive : counter k ≡ counter-from (k .below) l (m ∷ c)
   unfolding counter
   counter-recursive = rw (stage-2-recursive, stage-3-recursive)
+
+-- ---- a choice of two literals or more, written out: the first two and the others
+pub record Written (k : Choice) : Type 0 where
+  pub one : ℤ
+  pub two : ℤ
+  pub others : Clause
+  pub are : k .literals ≡ one ∷ two ∷ others
+
+pub written : (k : Choice) → 2 ≤ length (k .literals) → Written k
+written k b = go (k .literals) refl b
+  where
+    go : (s : Clause) → k .literals ≡ s → 2 ≤ length s → Written k
+    go [] e b = absurd (omega arith)
+    go (l ∷ []) e b = absurd (omega arith)
+    go (l ∷ m ∷ c) e b = record { one = l; two = m; others = c; are = e }
+
+pub counter-is : {k : Choice} (w : Written k) → counter k ≡ counter-from (k .below) (w .one) (w .two ∷ w .others)
+counter-is {k} w = counter-recursive k (w .one) (w .two) (w .others) (w .are)

@@ -1,7 +1,7 @@
 -- Deletions one after the other: what they take out, what stays, and when they are sound.
 use mathlib.Core.Path.{_≡_, refl}
 use mathlib.Core.Logic.{_⊎_, inl, inr, ⊎-elim}
-use mathlib.Core.List.{List, [], _∷_, _++_, map, List·Memᴰ, List·Memᴰ·head as here, List·Memᴰ·tail as there}
+use mathlib.Core.List.{List, [], _∷_, _++_, map, List·Memᴰ, List·Memᴰ·head as here, List·Memᴰ·tail as there, List·Memᴰ·append-cases}
 use Prim.Native.Nat.{_+_}
 use native.Mathlib.Omega.{arith}
 use lib.IntN.{ℤ}
@@ -74,6 +74,13 @@ absent-before l r = each-of (λ d. List·Memᴰ l d → ⊥) (λ c d s n m. n (s
 abbrev pub Spread : Formula → Type 0
 Spread [] = Unit {0}
 Spread (d ∷ D) = ((k : Clause) → List·Memᴰ k D → Same d k → ⊥) × Spread D
+
+pub spread-++ : (A B : Formula) → Spread A → Spread B → ((a b : Clause) → List·Memᴰ a A → List·Memᴰ b B → Same a b → ⊥) → Spread (A ++ B)
+spread-++ [] B s t n = t
+spread-++ (a ∷ A) B s t n = (
+  λ k i. ⊎-elim (s .0 k) (n a k (here refl)) (List·Memᴰ·append-cases A i),
+  spread-++ A B (s .1) t (λ x y i. n x y (there i)),
+)
 
 abbrev pub Found-all : Formula → Formula → Type 0
 Found-all [] F = Unit {0}

@@ -1,5 +1,5 @@
 -- What makes a line sound.
-use mathlib.Core.Path.{_≡_, refl, sym, _∙_, subst}
+use mathlib.Core.Path.{_≡_, refl, sym, _∙_}
 use mathlib.Core.Logic.{_≢_}
 use mathlib.Core.Bool.{Bool, true, false, cond}
 use mathlib.Core.List.{List, [], _∷_, _++_, List·Memᴰ, append-assoc, append-nil, map, Memᴰ·cast}
@@ -33,10 +33,7 @@ by-repaired P l c σ f g = go (has-true σ (l ∷ c)) refl
 pub repaired-holds : (c : Clause) (σ : Assignment) → 1 ≤ trues σ c → repaired c σ ≡ σ
 unfolding repaired
 repaired-holds [] σ h = refl
-repaired-holds (l ∷ c) σ h = by-repaired (λ τ. τ ≡ σ) l c σ (λ g. refl) (λ g. absurd (off h g))
-  where
-    off : 1 ≤ trues σ (l ∷ c) → trues σ (l ∷ c) ≡ 0 → ⊥
-    off h g = omega arith
+repaired-holds (l ∷ c) σ h = by-repaired (λ τ. τ ≡ σ) l c σ (λ g. refl) (λ g. absurd (omega arith))
 
 pub first-true : (l : ℤ) (c : Clause) (σ : Assignment) → 1 ≤ trues (make-true l σ) (l ∷ c)
 unfolding trues count
@@ -103,7 +100,7 @@ module _ {F G H : Formula} {K L : List Event} {xs : List Line} where
 -- clauses that follow may be added one by one
 pub add-all : {F H : Formula} {K L : List Event} {xs : List Line} (S : Formula) → ((σ : Assignment) → Sat σ F → Sat σ S) →
     Sound (F ++ S) K xs H L → Sound F K (map addition S ++ xs) H L
-add-all {F} {H} {K} {L} {xs} [] h s = subst (λ (X : Formula). Sound X K xs H L) (append-nil F) s
+add-all {F} {H} {K} {L} {xs} [] h s = rw (append-nil F) at s
 add-all {F} {H} {K} {L} {xs} (c ∷ S) h s =
     add-implied (λ σ t. h σ t .0)
-    (add-all S (λ σ t. h σ (sat-left σ F (c ∷ []) t) .1) (subst (λ (X : Formula). Sound X K xs H L) (sym (append-assoc F (c ∷ []) S)) s))
+    (add-all S (λ σ t. h σ (sat-left σ F (c ∷ []) t) .1) (rw (append-assoc F (c ∷ []) S) s))

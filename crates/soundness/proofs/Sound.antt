@@ -18,6 +18,12 @@ pub record Into (es : List Event) (c : Clause) : Type 0 where
   pub choice : Choice
   pub goes : Goes-into choice es c
 
+pub into-none : {c : Clause} → Into [] c → ⊥
+into-none {c} i = no (i .goes)
+  where
+    no : {k : Choice} → Goes-into k [] c → ⊥
+    no g = elim g [ ]
+
 -- exactly one literal is true in each clause that goes into a choice
 abbrev pub Ones : Assignment → List Event → Type 0
 Ones σ es = (c : Clause) → Into es c → trues σ c ≡ 1
@@ -87,13 +93,8 @@ exactly-one (nothing h) σ t o = h σ t o
 exactly-one (adding h s) σ t o = exactly-one s σ t o
 exactly-one (deleting r d q s) σ t o = q _ (whole s σ t) (exactly-one s σ t o)
 
--- one log after another
+-- less is asked of the assignment
 pub weaken : {F G : Formula} {K L M : List Event} {ys : List Line} → ((σ : Assignment) → Sat σ F → Ones σ L → Ones σ K) → Sound F L ys G M → Sound F K ys G M
 weaken h (nothing g) = nothing (λ σ t o. h σ t (g σ t o))
 weaken {F} h (adding {c = c} a s) = adding a (weaken (λ σ t o. h σ (sat-left σ F (c ∷ []) t) o) s)
 weaken h (deleting r d o s) = deleting r d (λ σ t p. h _ (d σ t) (o σ t p)) s
-
-pub join : {F G H : Formula} {K L M : List Event} {xs ys : List Line} → Sound F K xs G L → Sound G L ys H M → Sound F K (xs ++ ys) H M
-join (nothing h) t = weaken h t
-join (adding h s) t = adding h (join s t)
-join (deleting r d o s) t = deleting r d o (join s t)

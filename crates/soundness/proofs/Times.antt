@@ -13,6 +13,7 @@ use Rattle.definition.specs.Lists.{bit, count}
 use Rattle.definition.specs.Literals.{Clause, Formula, holds}
 use Rattle.definition.specs.Clearing.{times, unique}
 use Rattle.laws.proofs.Tests.{to-true, of-true, bit≤1, and-l, and-r, and-i}
+use Rattle.laws.proofs.Loops.{count-++}
 use Rattle.laws.proofs.Members.{holds-mem, mem-holds, holds-false, all-at, all-of, Same, same-set-same, Absent}
 use Rattle.laws.proofs.Removal.{Removed, found, later, split}
 
@@ -38,9 +39,8 @@ unfolding times count
 times-cons x d F = refl
 
 pub times-++ : (x : ℤ) (F G : Formula) → times x (F ++ G) ≡ times x F + times x G
-unfolding times count
-times-++ x [] G = omega arith
-times-++ x (d ∷ F) G = omega (arith, times-++ x F G)
+unfolding times
+times-++ x F G = count-++ (holds x) F G
 
 pub times-none : (x : ℤ) (F : Formula) → Absent x F → times x F ≡ 0
 unfolding times count
@@ -53,10 +53,7 @@ times-at x {d} (here {x = k} {xs = F} e) m = rw (← e, holds-yes x d m) (omega 
 times-at x (there i) m = omega (arith, times-at x i m)
 
 pub none-times : (x : ℤ) (F : Formula) → times x F ≡ 0 → Absent x F
-none-times x F e d i m = no (times-at x i m)
-  where
-    no : 1 ≤ times x F → ⊥
-    no h = omega arith
+none-times x F e d i m = omega (arith, times-at x i m)
 
 pub times-removed : (x : ℤ) {c : Clause} {F G : Formula} → Removed c F G → times x F ≡ bit (holds x c) + times x G
 unfolding times count

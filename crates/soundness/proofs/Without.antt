@@ -1,17 +1,19 @@
 -- A clause without one of its literals; literals in another order; a variable that stands nowhere.
-use mathlib.Core.Path.{_≡_, refl, sym, _∙_, ap}
+use mathlib.Core.Path.{_≡_, refl, sym, _∙_}
 use mathlib.Core.Logic.{_≢_, _⊎_, inl, inr, ⊎-elim}
 use mathlib.Core.Bool.{Bool, true, false, cond, not}
 use mathlib.Core.List.{List, [], _∷_, _++_, List·Memᴰ, List·Memᴰ·head as here, List·Memᴰ·tail as there, Memᴰ·cast, List·Memᴰ·append-cases}
 use Prim.Native.Nat.{ℕ, _≤_, _<_}
 use native.Mathlib.Omega.{arith}
 use lib.IntN.{ℤ, negℤ, natAbs}
-use Rattle.definition.specs.Lists.{bit, count, those}
+use Rattle.definition.specs.Lists.{bit, those}
 use Rattle.definition.specs.Literals.{Clause, Formula, same, without, with-first}
 use Rattle.definition.specs.Assignments.{Assignment, true-in, trues}
 use Rattle.definition.specs.Events.{Event}
 use Rattle.laws.proofs.Tests.{of-true, not-true, of-false, by-test}
-use Rattle.laws.proofs.Members.{same-eq, unlike, those-mem, mem-those, Within, Same, Proper, proper-literal, proper-unopposed, same-variable, Absent}
+use Rattle.laws.proofs.Members.{same-eq, unlike, those-mem, mem-those, Same, Proper, proper-literal, proper-unopposed, same-variable, Absent}
+use Rattle.laws.proofs.Sums.{count-sum}
+use Rattle.laws.proofs.Clauses.{same-sum}
 use Rattle.soundness.proofs.Sound.{Into}
 use Rattle.soundness.proofs.Rules.{Clear}
 
@@ -56,37 +58,10 @@ first-proper v c a i = (
 )
 
 -- ---- the number of true literals does not depend on the order
-without-trues : (σ : Assignment) (v : ℤ) (c : Clause) → trues σ (without v c) ≤ trues σ c
-unfolding without those trues count
-without-trues σ v [] = omega arith
-without-trues σ v (x ∷ c) = go (same v x) (without-trues σ v c)
-  where
-    go : (b : Bool) → trues σ (without v c) ≤ trues σ c → trues σ (cond (not b) (x ∷ without v c) (without v c)) ≤ trues σ (x ∷ c)
-    go true h = omega arith
-    go false h = omega arith
-
-more-trues : (σ : Assignment) (v : ℤ) (c : Clause) → List·Memᴰ v c → trues σ (v ∷ without v c) ≤ trues σ c
-unfolding without those trues count
-more-trues σ v (x ∷ c) i = go (same v x) refl i (more-trues σ v c) (without-trues σ v c)
-  where
-    go : (b : Bool) → same v x ≡ b → List·Memᴰ v (x ∷ c) → (List·Memᴰ v c → trues σ (v ∷ without v c) ≤ trues σ c) → trues σ (without v c) ≤ trues σ c →
-        trues σ (v ∷ cond (not b) (x ∷ without v c) (without v c)) ≤ trues σ (x ∷ c)
-    go true e j ih h = omega (arith, ap (λ (z : ℤ). bit (true-in σ z)) (same-eq v x (of-true e)))
-    go false e (here q) ih h = absurd (unlike v x e q)
-    go false e (there j) ih h = omega (arith, ih j)
-
-trues-within : (σ : Assignment) (c d : Clause) → Proper c → Within c d → trues σ c ≤ trues σ d
-unfolding trues count
-trues-within σ [] d a w = omega arith
-trues-within σ (l ∷ c) d a w =
-    omega (
-      arith,
-      more-trues σ l d (w l (here refl)),
-      trues-within σ c (without l d) (a .3) (λ x i. ⊎-elim (λ e. absurd (a .1 (Memᴰ·cast (sym e) i))) (λ j. j) (mem-without l d x (w x (there i)))),
-    )
-
 pub trues-order : (σ : Assignment) (c d : Clause) → Proper c → Proper d → Same c d → trues σ c ≡ trues σ d
-trues-order σ c d a b s = omega (arith, trues-within σ c d a (s .0), trues-within σ d c b (s .1))
+unfolding trues
+trues-order σ c d a b s =
+    omega (arith, count-sum (true-in σ) c, count-sum (true-in σ) d, same-sum (λ l. bit (true-in σ l)) c d a b s)
 
 -- ---- a variable that stands nowhere
 
@@ -103,10 +78,7 @@ clear-absent h v K F w b p n c i x j e =
     ⊎-elim
     (λ r.
     ⊎-elim (λ q. p (r .0) (r .1) (Memᴰ·cast (sym q) (r .3))) (λ q. n (r .0) (r .1) (Memᴰ·cast (sym q) (r .3))) (same-variable (r .2) v (r .4 ∙ e)))
-    (λ r. no r) (w c i x j)
-  where
-    no : h < natAbs x → ⊥
-    no r = omega arith
+    (λ r. omega arith) (w c i x j)
 
 -- ---- two clauses in one
 pub proper-++ : (c d : Clause) → Proper c → Proper d → ((x : ℤ) → List·Memᴰ x c → List·Memᴰ x d → ⊥) → ((x : ℤ) → List·Memᴰ x c → List·Memᴰ (negℤ x) d → ⊥) → Proper (c ++ d)

@@ -1,11 +1,10 @@
 -- All choices, in either form: every line is sound.
 use mathlib.Core.Path.{_≡_, refl, sym, _∙_, subst}
-use mathlib.Core.Logic.{_≢_}
 use mathlib.Core.Bool.{false}
 use mathlib.Core.List.{List, [], _∷_, _++_, append-assoc, append-nil, List·Memᴰ, List·Memᴰ·head as here, List·Memᴰ·tail as there, Memᴰ·append-left}
 use Prim.Native.Nat.{ℕ, _≤_}
 use native.Mathlib.Omega.{arith}
-use lib.IntN.{ℤ, negℤ, natAbs}
+use lib.IntN.{ℤ, negℤ}
 use lib.ListN.{length}
 use Rattle.definition.specs.Lists.{for-each}
 use Rattle.definition.specs.Literals.{Clause, Formula, opposes}
@@ -14,40 +13,24 @@ use Rattle.definition.specs.Events.{Choice, Event}
 use Rattle.definition.specs.Clearing.{times}
 use Rattle.definition.specs.Counter.{below-new, last-new, counter, take-choice}
 use Rattle.definition.specs.Order.{order-events}
-use Rattle.definition.specs.Reencoding.{lines-of, lines, Form, counter-form, order-form, choice-events, choices-events, Goes-into}
+use Rattle.definition.specs.Reencoding.{lines-of, lines, Form, counter-form, order-form, choice-events, choices-events}
 use Rattle.laws.proofs.Tests.{to-false}
-use Rattle.laws.proofs.Members.{Same, Proper, Fits, natAbs-neg, opposes-mem}
-use Rattle.laws.proofs.Loops.{for-each-++}
-use Rattle.laws.proofs.Replay.{after-++}
-use Rattle.soundness.proofs.Sound.{Sound, nothing}
+use Rattle.laws.proofs.Members.{Disjoint, Parted, Same, Fits, natAbs-neg, opposes-mem}
+use Rattle.laws.proofs.Replay.{after-++, lines-++}
+use Rattle.soundness.proofs.Sound.{into-none, Sound, nothing}
 use Rattle.soundness.proofs.Times.{times-++, times-none, times-at}
 use Rattle.soundness.proofs.Without.{Known}
 use Rattle.counter_form.proofs.Ready.{Ready, Other}
 use Rattle.laws.proofs.Fitting.{fits-up, fits-++}
-use Rattle.counter_form.proofs.CounterLiterals.{counter-absent}
-use Rattle.counter_form.proofs.Front.{front, own-fit, front-own, front-other, front-kept, front-fits, counter-fits}
+use Rattle.counter_form.proofs.CounterLiterals.{counter-absent, counter-fits}
+use Rattle.counter_form.proofs.Front.{front, well-formed, front-own, front-other, front-kept, front-fits}
 use Rattle.counter_form.proofs.Counter.{counter-sound, after-choice, counter-known}
+use Rattle.room.proofs.Lines.{as-choice}
 use Rattle.order_form.proofs.Order.{Before, ordered, order-sound, after-order, ordered-times, ordered-fits, ordered-mem}
-
--- the events of two phases one after the other
-pub lines-++ : (es fs : List Event) → lines (es ++ fs) ≡ lines es ++ lines fs
-unfolding lines
-lines-++ es fs = for-each-++ es fs lines-of
-
--- no event takes a clause into a choice where there is none
-pub no-events : (n : ℕ) (F : Formula) → Known n [] F
-no-events n F c i = absurd (no (i .goes))
-  where
-    no : {k : Choice} {d : Clause} → Goes-into k [] d → ⊥
-    no g = elim g [ ]
 
 none-written : (F : Formula) → Sound F [] (lines []) (after F (lines [])) []
 unfolding lines for-each after
 none-written F = nothing (λ σ s o. o)
-
--- no variable in common
-abbrev pub Disjoint : Clause → Clause → Type 0
-Disjoint c d = (x : ℤ) → List·Memᴰ x c → (y : ℤ) → List·Memᴰ y d → natAbs x ≢ natAbs y
 
 -- what stands after a choice
 unfoldable pub after-form : Form → Formula → Choice → Formula
@@ -57,7 +40,7 @@ after-form order-form F k = ordered (front F k) k
 -- ---- one choice
 module _ (F : Formula) (k : Choice) (f : Fits (k .below) F) (r : Ready F k) where
   before-order : Before (front F k) k
-  before-order = record { well-formed = record { proper = r .proper; long = r .long; fit = own-fit F k f r }; fits = front-fits F k f r; absent = front-own F k f r }
+  before-order = record { well-formed = well-formed F k f r; fits = front-fits F k f r; absent = front-own F k f r }
 
   -- every line is sound, and clauses that go into a choice are known
   pub choice-sound : (form : Form) {H : Formula} {K L : List Event} {xs : List Line} → Known (last-new k) K (after-form form F k) → Sound (after-form form F k) K xs H L →
@@ -77,7 +60,7 @@ module _ (F : Formula) (k : Choice) (f : Fits (k .below) F) (r : Ready F k) wher
 
   pub after-fits : (form : Form) → Fits (last-new k) (after-form form F k)
   unfolding after-form last-new
-  after-fits counter-form = fits-++ (last-new k) (front F k) (counter k) (fits-up (last-new k) (k .below) (front F k) (omega arith) (front-fits F k f r)) (counter-fits F k f r)
+  after-fits counter-form = fits-++ (last-new k) (front F k) (counter k) (fits-up (last-new k) (k .below) (front F k) (omega arith) (front-fits F k f r)) (counter-fits (well-formed F k f r))
   after-fits order-form = ordered-fits k (front F k) before-order
 
   -- a clause with no variable in common stays, and its literals stand as often as before
@@ -111,38 +94,22 @@ module _ (F : Formula) (k : Choice) (f : Fits (k .below) F) (r : Ready F k) wher
 
 -- ---- all choices
 
--- a clause that can be taken where F stands, its literals in the order given
-pub record Choosable (order : Clause → Clause) (F : Formula) (c : Clause) : Type 0 where
-  pub proper : Proper c
-  pub order-proper : Proper (order c)
-  pub long : 2 ≤ length (order c)
-  pub standing : List·Memᴰ c F
-  pub same : Same (order c) c
-  pub alone : (x : ℤ) → List·Memᴰ x c → times x F ≡ 1
-
-abbrev pub Parted : List Clause → Type 0
-Parted [] = Unit {0}
-Parted (c ∷ cs) = ((d : Clause) → List·Memᴰ d cs → Disjoint c d) × Parted cs
-
 some-literal : (c d : Clause) → 2 ≤ length d → Same d c → (y : ℤ) × List·Memᴰ y c
-some-literal c [] h s = absurd (no h)
-  where
-    no : 2 ≤ 0 → ⊥
-    no h = omega arith
+some-literal c [] h s = absurd (omega arith)
 some-literal c (y ∷ d) h s = (y, s .0 y (here refl))
 
 module _ (form : Form) (order : Clause → Clause) where
-  pub choices-sound : (n : ℕ) (F : Formula) (cs : List Clause) → Fits n F → ((c : Clause) → List·Memᴰ c cs → Choosable order F c) → Parted cs →
+  pub choices-sound : (n : ℕ) (F : Formula) (cs : List Clause) → Fits n F → ((c : Clause) → List·Memᴰ c cs → (m : ℕ) → Ready F (as-choice m order c)) → Parted cs →
       Sound F (choices-events form order n F cs) (lines (choices-events form order n F cs)) (after F (lines (choices-events form order n F cs))) [] × Known n (choices-events form order n F cs) F
   unfolding choices-events below-new
-  choices-sound n F [] f q p = (none-written F, no-events n F)
+  choices-sound n F [] f q p = (none-written F, λ c i. absurd (into-none i))
   choices-sound n F (c ∷ cs) f q p =
       let ih = choices-sound (last-new k) E cs (after-fits F k f r form) next (p .1) in
       let t = subst (λ (X : Formula). Sound F (es ++ more X) (lines es ++ lines (more X)) (after X (lines (more X))) [] × Known n (es ++ more X) F) (sym (after-events F k f r form)) (choice-sound F k f r form (ih .1) (ih .0)) in
       rw (lines-++ es (more (after F (lines es))), after-++ F (lines es) (lines (more (after F (lines es))))) t
     where
       k : Choice
-      k = record { clause = c; literals = order c; below = n }
+      k = as-choice n order c
 
       es : List Event
       es = choice-events form F k
@@ -150,25 +117,22 @@ module _ (form : Form) (order : Clause → Clause) where
       more : Formula → List Event
       more X = choices-events form order (last-new k) X cs
 
-      w : Choosable order F c
-      w = q c (here refl)
-
       r : Ready F k
-      r = record { proper = w .order-proper; proper-clause = w .proper; long = w .long; standing = w .standing; same = w .same; alone = λ x i. w .alone x (w .same .0 x i) }
+      r = q c (here refl) n
 
       E : Formula
       E = after-form form F k
 
-      next : (d : Clause) → List·Memᴰ d cs → Choosable order E d
-      next d i =
-          let v = q d (there i) in
+      next : (d : Clause) → List·Memᴰ d cs → (m : ℕ) → Ready E (as-choice m order d)
+      next d i m =
+          let v = q d (there i) m in
           let y = some-literal d (order d) (v .long) (v .same) in
-          let apart : Disjoint (order c) d = λ x m z o. p .0 d i x (w .same .0 x m) z o in
+          let apart : Disjoint (order c) d = λ x j. p .0 d i x (r .same .0 x j) in
           record {
             proper = v .proper;
-            order-proper = v .order-proper;
+            proper-clause = v .proper-clause;
             long = v .long;
             standing = after-stands F k f r d (v .standing) (y .0) (y .1) apart form;
             same = v .same;
-            alone = λ x m. after-alone F k f r d (v .standing) (y .0) (y .1) apart form x m (v .alone x m);
+            alone = λ x j. after-alone F k f r d (v .standing) (y .0) (y .1) apart form x (v .same .0 x j) (v .alone x j);
           }

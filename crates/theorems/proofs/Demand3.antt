@@ -1,14 +1,13 @@
 -- Demand 3 holds.
 use mathlib.Core.List.{[]}
 use lib.ListN.{take}
-use Rattle.definition.specs.Literals.{Clause, Formula}
+use Rattle.definition.specs.Literals.{Formula}
 use Rattle.definition.specs.Reading.{input-limits}
 use Rattle.definition.specs.Assignments.{Satisfiable, Exactly-one, carried-back}
-use Rattle.definition.specs.Events.{Choice}
-use Rattle.definition.specs.Reencoding.{Goes-into, input, events, log, result}
+use Rattle.definition.specs.Reencoding.{input, events, log, result}
 use Rattle.laws.proofs.Trues.{sat-satisfies, satisfies-sat}
 use Rattle.laws.proofs.Replay.{leads-cut, leads-replay}
-use Rattle.soundness.proofs.Sound.{Sound, sound-leads, Can, cut, exactly-one}
+use Rattle.soundness.proofs.Sound.{into-none, Sound, sound-leads, Can, cut, exactly-one}
 use Rattle.round_trips.proofs.Accepted.{accepted}
 use Rattle.theorems.specs.Demand3.{standing, Demand-3-holds}
 use Rattle.theorems.proofs.Log.{log-sound}
@@ -29,11 +28,8 @@ demand-3 t i e s = record {
         λ q. can-satisfiable _ (c .1 (satisfiable-can (input s i) q)),
       );
   back = λ j a q. sat-satisfies (carried-back a (take j (log s i))) (input s i) (cut sound j .back a (satisfies-sat a _ q));
-  exactly-one = λ a q c m k g. exactly-one sound a (satisfies-sat a (result s i) q) (λ d o. absurd (no (o .goes))) c (record { choice = k; goes = g });
+  exactly-one = λ a q c m k g. exactly-one sound a (satisfies-sat a (result s i) q) (λ d o. absurd (into-none o)) c (record { choice = k; goes = g });
 }
   where
     sound : Sound (input s i) (events s i) (log s i) (result s i) []
     sound = let a = accepted input-limits t i e in log-sound s i (a .proper) (a .fits)
-
-    no : {k : Choice} {d : Clause} → Goes-into k [] d → ⊥
-    no g = elim g [ ]

@@ -1,13 +1,10 @@
 -- Both texts, read back, say what was written, and what stands fits the workspace.
-use mathlib.Core.List.{Memᴰ·append-left, Memᴰ·append-right}
 use Prim.Native.Nat.{_≤_}
 use lib.ListN.{length}
 use Rattle.definition.specs.Literals.{literals-of}
 use Rattle.definition.specs.Reading.{Input, input-limits, read-back-limits}
-use Rattle.definition.specs.Clearing.{clear-clashes, clear-pure}
-use Rattle.definition.specs.Reencoding.{Settings, lines, unclashed, input, log, result, highest-used}
+use Rattle.definition.specs.Reencoding.{Settings, input, log, result, highest-used}
 use Rattle.soundness.proofs.Sound.{sound-leads}
-use Rattle.clearing.proofs.Cleared.{clearing-lines-proper}
 use Rattle.round_trips.proofs.Accepted.{Accepted, accepted}
 use Rattle.round_trips.proofs.FormulaText.{formula-read-back}
 use Rattle.round_trips.proofs.LogText as LogText
@@ -16,19 +13,12 @@ use Rattle.room.proofs.Room.{room}
 use Rattle.room.proofs.Limits.{result-proper, result-fits, log-line-limit, highest-limit, clauses-limit, literals-limit}
 use Rattle.theorems.specs.Demand3.{standing}
 use Rattle.theorems.specs.Texts.{Texts-hold}
-use Rattle.theorems.proofs.Log.{log-sound, choosable}
+use Rattle.theorems.proofs.Log.{log-sound}
 
 -- what the bounds ask of a run holds where the formula was accepted
-accepted-run : (s : Settings) (i : Input) → Accepted input-limits i → Run s i
+pub accepted-run : (s : Settings) (i : Input) → Accepted input-limits i → Run s i
 unfolding input
-accepted-run s i a = record {
-  proper = a .proper;
-  fits = a .fits;
-  leads = sound-leads (log-sound s i (a .proper) (a .fits));
-  clashes-proper = λ x m. clearing-lines-proper (a .proper) (a .fits) x (Memᴰ·append-left (lines (clear-pure (unclashed (i .formula)))) m) .0;
-  pure-proper = λ x m. clearing-lines-proper (a .proper) (a .fits) x (Memᴰ·append-right (lines (clear-clashes (i .formula))) m) .0;
-  ordered = λ c m. let r = choosable s i (a .proper) (a .fits) c m in (r .order-proper, r .same);
-}
+accepted-run s i a = record { proper = a .proper; fits = a .fits; leads = sound-leads (log-sound s i (a .proper) (a .fits)) }
 
 pub texts : Texts-hold
 unfolding Texts-hold standing input-limits read-back-limits

@@ -1,5 +1,5 @@
 -- The loop closed: our own log's way back is never refused, and its line is a plan for the formula handed in.
-use mathlib.Core.Path.{_≡_, sym, subst}
+use mathlib.Core.Path.{_≡_}
 use mathlib.Core.Bool.{true}
 use mathlib.Core.List.{List}
 use Prim.Native.Nat.{ℕ, _≤_}
@@ -52,7 +52,7 @@ walked s t i workspace room j u named w = record {
       (w .workspace-enough) found (carried-line room i kept (standing s i j) (assigned named) (w .satisfied) satisfied (w .room-enough));
   plan = answered .named;
   readable = answered .reads;
-  satisfying = subst T (sym (answered .satisfying (i .formula) (accepted input-limits t i (w .accepted) .fits))) satisfied;
+  satisfying = rw (answered .satisfying (i .formula) (accepted input-limits t i (w .accepted) .fits)) satisfied;
 }
   where
     kept : List Line

@@ -1,0 +1,4 @@
+pub mod Table
+pub mod Lines
+pub mod Reading
+pub mod Output

@@ -1,0 +1,68 @@
+//! Clearing clashes, then pure literals.
+
+use crate::encoding::Encoding;
+use crate::standing::{holds_opposites, Standing};
+
+/// A clause written with one of its literals first, the others in order.
+pub fn written_first(literal: i32, clause: &[i32]) -> Vec<i32> {
+    let mut written = vec![literal];
+    written.extend(without(literal, clause));
+    written
+}
+
+fn without(literal: i32, clause: &[i32]) -> Vec<i32> {
+    clause
+        .iter()
+        .copied()
+        .filter(|&other| other != literal)
+        .collect()
+}
+
+/// The lowest variable that stands in one unique literal clause while its
+/// negation stands in another, with the places of both clauses.
+fn lowest_clash(standing: &Standing, variables: i32) -> Option<(i32, usize, usize)> {
+    (1..=variables).find_map(|variable| {
+        let a = standing.unique_literal_clause_with(variable)?;
+        let b = standing.unique_literal_clause_with(-variable)?;
+        (a != b).then_some((variable, a, b))
+    })
+}
+
+pub fn clear_clashes(encoding: &mut Encoding, variables: i32) {
+    while let Some((variable, place_a, place_b)) = lowest_clash(&encoding.standing, variables) {
+        let a = encoding.clause(place_a);
+        let b = encoding.clause(place_b);
+        let mut resolvent = without(variable, &a);
+        resolvent.extend(without(-variable, &b));
+        encoding.tally.clashes += 1;
+        if place_a.max(place_b) >= encoding.input_clauses {
+            encoding.tally.chained_clashes += 1;
+        }
+        if holds_opposites(&resolvent) {
+            encoding.tally.double_clashes += 1;
+        } else {
+            if resolvent.is_empty() {
+                encoding.tally.empty_resolvents += 1;
+            }
+            encoding.add(resolvent, &[place_a, place_b]);
+        }
+        encoding.delete(written_first(variable, &a));
+        encoding.delete(written_first(-variable, &b));
+    }
+}
+
+pub fn delete_pure(encoding: &mut Encoding) {
+    for place in encoding.standing.all_places() {
+        if !encoding.standing.is_unique_literal_clause(place) {
+            continue;
+        }
+        let clause = encoding.clause(place);
+        let pure = clause
+            .iter()
+            .find(|&&literal| encoding.standing.count_holding(-literal) == 0);
+        if let Some(&literal) = pure {
+            encoding.tally.pure += 1;
+            encoding.delete(written_first(literal, &clause));
+        }
+    }
+}

@@ -1,0 +1,71 @@
+//! Counter form.
+
+use crate::encoding::Encoding;
+use crate::standing::Standing;
+
+/// The unique literal clauses of 5 to 64 literals, as places, in list order.
+pub fn choice_places(standing: &Standing) -> Vec<usize> {
+    standing
+        .all_places()
+        .into_iter()
+        .filter(|&place| {
+            let size = standing.clause(place).map_or(0, <[i32]>::len);
+            (5..=64).contains(&size) && standing.is_unique_literal_clause(place)
+        })
+        .collect()
+}
+
+/// The pairs -li -lj, by i then j.
+fn pairs(choice: &[i32]) -> Vec<Vec<i32>> {
+    let mut pairs = Vec::new();
+    for (i, &first) in choice.iter().enumerate() {
+        for &second in &choice[i + 1..] {
+            pairs.push(vec![-first, -second]);
+        }
+    }
+    pairs
+}
+
+/// The 4(k-1) clauses of stages 2 and 3, in order. Here l1..lk are
+/// choice[0]..choice[k-1] and s1..s(k-1) are steps[0]..steps[k-2].
+fn counter_clauses(choice: &[i32], steps: &[i32]) -> Vec<Vec<i32>> {
+    let k = choice.len();
+    let l = |i: usize| choice[i - 1];
+    let s = |i: usize| steps[i - 1];
+    let mut clauses = vec![vec![-s(1), l(1)], vec![s(1), -l(1)]];
+    for i in 2..k {
+        clauses.push(vec![-s(i), s(i - 1), l(i)]);
+        clauses.push(vec![s(i), -s(i - 1)]);
+        clauses.push(vec![s(i), -l(i)]);
+    }
+    for i in 2..=k {
+        clauses.push(vec![-s(i - 1), -l(i)]);
+    }
+    clauses.push(vec![s(k - 1), l(k)]);
+    clauses
+}
+
+/// Takes one choice. The answer is the places of its counter clauses.
+pub fn take_choice(encoding: &mut Encoding, choice: &[i32], steps: &[i32]) -> Vec<usize> {
+    for pair in pairs(choice) {
+        if encoding.standing.find(&pair).is_none() {
+            encoding.add(pair, &[]);
+        }
+    }
+    let own: Vec<usize> = counter_clauses(choice, steps)
+        .into_iter()
+        .map(|clause| encoding.add(clause, &[]))
+        .collect();
+    encoding.delete(choice.to_vec());
+    for pair in pairs(choice) {
+        let mut copies = 0;
+        while encoding.standing.find(&pair).is_some() {
+            encoding.delete(pair.clone());
+            copies += 1;
+        }
+        if copies > 1 {
+            encoding.tally.repeated_pairs += 1;
+        }
+    }
+    own
+}

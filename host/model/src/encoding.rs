@@ -1,0 +1,127 @@
+//! One reencoding under way: what stands, the log so far, and where clauses went.
+
+use crate::alignment::{align, Outcome};
+use crate::clearing::{clear_clashes, delete_pure};
+use crate::counter::{choice_places, take_choice};
+use crate::order::put_in_order;
+use crate::reading::Formula;
+use crate::standing::Standing;
+use crate::texts::Line;
+use crate::{Form, Wish};
+
+/// How often the remarkable cases occurred.
+#[derive(Debug, Clone, Default, PartialEq, Eq)]
+pub struct Tally {
+    pub clashes: usize,
+    /// A clash with a clause that a clash before it added.
+    pub chained_clashes: usize,
+    /// A clash whose resolvent holds a literal and its negation.
+    pub double_clashes: usize,
+    pub empty_resolvents: usize,
+    pub pure: usize,
+    /// A pair of which stage 4 deleted several copies.
+    pub repeated_pairs: usize,
+    /// A clause with several negated literals of one choice.
+    pub several_negated: usize,
+    /// An order-form result that holds a literal and its negation.
+    pub replaced_by_nothing: usize,
+    pub aligned: usize,
+    /// Aligned, with links that chain.
+    pub chained_links: usize,
+    pub unalignable: usize,
+}
+
+pub struct Encoding {
+    pub standing: Standing,
+    pub log: Vec<Line>,
+    pub input_clauses: usize,
+    /// For each place: the places that its clause came from.
+    parents: Vec<Vec<usize>>,
+    /// The choices as they were taken, and the places they stood at.
+    pub choices: Vec<(usize, Vec<i32>)>,
+    /// The highest variable used, at least V.
+    pub highest: i32,
+    pub tally: Tally,
+}
+
+impl Encoding {
+    pub fn run(formula: &Formula, form: Form, wish: Wish) -> Encoding {
+        let mut encoding = Encoding {
+            standing: Standing::new(&formula.clauses),
+            log: Vec::new(),
+            input_clauses: formula.clauses.len(),
+            parents: vec![Vec::new(); formula.clauses.len()],
+            choices: Vec::new(),
+            highest: formula.variables,
+            tally: Tally::default(),
+        };
+        clear_clashes(&mut encoding, formula.variables);
+        delete_pure(&mut encoding);
+
+        let places = choice_places(&encoding.standing);
+        let mut choices: Vec<Vec<i32>> = places.iter().map(|&p| encoding.clause(p)).collect();
+        if wish == Wish::Align {
+            match align(&mut choices, &encoding.standing.clauses()) {
+                Outcome::Aligned { chained } => {
+                    encoding.tally.aligned += 1;
+                    encoding.tally.chained_links += usize::from(chained);
+                }
+                Outcome::Unalignable => encoding.tally.unalignable += 1,
+                Outcome::Unlinked => {}
+            }
+        }
+        encoding.choices = places.into_iter().zip(choices.iter().cloned()).collect();
+
+        for choice in choices {
+            let first = encoding.highest + 1;
+            let steps: Vec<i32> = (first..).take(choice.len() - 1).collect();
+            encoding.highest += steps.len() as i32;
+            let own = take_choice(&mut encoding, &choice, &steps);
+            if form == Form::Order {
+                put_in_order(&mut encoding, &choice, &steps, &own);
+            }
+        }
+        encoding
+    }
+
+    /// Writes an addition and does it; the answer is the new clause's place.
+    pub fn add(&mut self, literals: Vec<i32>, parents: &[usize]) -> usize {
+        self.log.push(Line {
+            deletion: false,
+            literals: literals.clone(),
+        });
+        self.parents.push(parents.to_vec());
+        self.standing.add(literals)
+    }
+
+    /// Writes a deletion and does it.
+    pub fn delete(&mut self, literals: Vec<i32>) {
+        let taken = self.standing.delete(&literals);
+        assert!(taken.is_some(), "{literals:?} does not stand");
+        self.log.push(Line {
+            deletion: true,
+            literals,
+        });
+    }
+
+    /// The standing clause at a place.
+    pub fn clause(&self, place: usize) -> Vec<i32> {
+        self.standing
+            .clause(place)
+            .expect("a clause stands here")
+            .to_vec()
+    }
+
+    /// The input clauses (by index) that go into some choice.
+    pub fn input_clauses_in_choices(&self) -> Vec<usize> {
+        let mut reached = vec![false; self.parents.len()];
+        let mut open: Vec<usize> = self.choices.iter().map(|&(place, _)| place).collect();
+        while let Some(place) = open.pop() {
+            if !reached[place] {
+                reached[place] = true;
+                open.extend(&self.parents[place]);
+            }
+        }
+        (0..self.input_clauses).filter(|&p| reached[p]).collect()
+    }
+}

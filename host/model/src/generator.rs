@@ -1,0 +1,345 @@
+//! Seeded random formulas, made so that the remarkable cases occur often, and
+//! random damage for texts.
+
+use crate::reading::Formula;
+use crate::texts::{formula_text, Line};
+
+/// An xorshift generator.
+pub struct Random(u64);
+
+impl Random {
+    pub fn new(seed: u64) -> Self {
+        Random(seed.wrapping_mul(0x9E37_79B9_7F4A_7C15) | 1)
+    }
+
+    fn next(&mut self) -> u64 {
+        self.0 ^= self.0 << 13;
+        self.0 ^= self.0 >> 7;
+        self.0 ^= self.0 << 17;
+        self.0
+    }
+
+    /// A number from 0 to limit - 1.
+    pub fn below(&mut self, limit: usize) -> usize {
+        ((self.next() >> 16) % limit.max(1) as u64) as usize
+    }
+
+    pub fn between(&mut self, low: usize, high: usize) -> usize {
+        low + self.below(high + 1 - low)
+    }
+
+    pub fn chance(&mut self, percent: usize) -> bool {
+        self.below(100) < percent
+    }
+
+    pub fn one_of<'a, T>(&mut self, list: &'a [T]) -> &'a T {
+        &list[self.below(list.len())]
+    }
+
+    pub fn shuffle<T>(&mut self, list: &mut [T]) {
+        for last in (1..list.len()).rev() {
+            list.swap(last, self.below(last + 1));
+        }
+    }
+
+    fn sign(&mut self, variable: i32) -> i32 {
+        if self.chance(50) {
+            variable
+        } else {
+            -variable
+        }
+    }
+}
+
+/// Adds a literal to a clause unless its variable is there.
+fn put(clause: &mut Vec<i32>, literal: i32) {
+    if !clause.iter().any(|other| other.abs() == literal.abs()) {
+        clause.push(literal);
+    }
+}
+
+/// Clauses without any plan.
+pub fn noise(random: &mut Random, variables: usize, clause_count: usize) -> Formula {
+    let mut clauses = Vec::new();
+    for _ in 0..clause_count {
+        let mut clause = Vec::new();
+        for _ in 0..random.below(5) {
+            if variables > 0 {
+                let variable = random.between(1, variables) as i32;
+                let literal = random.sign(variable);
+                put(&mut clause, literal);
+            }
+        }
+        clauses.push(clause);
+    }
+    Formula {
+        variables: variables as i32,
+        clauses,
+    }
+}
+
+/// Sizes of the clauses that are meant to be unique, before clashes join them.
+fn unique_sizes(random: &mut Random, variables: usize) -> Vec<usize> {
+    let mut sizes = match random.below(8) {
+        0 | 1 => vec![random.between(5, 7)],
+        2 | 3 => vec![5, random.between(5, 6)],
+        4 => vec![5, 5, 5],
+        5 => (0..random.between(2, 5)).map(|_| random.below(4)).collect(),
+        6 => vec![random.below(2); random.between(2, 4)],
+        _ => vec![random.between(2, 4), random.between(2, 4)],
+    };
+    while sizes.iter().sum::<usize>() > variables {
+        sizes.pop();
+    }
+    sizes
+}
+
+/// Unique literal clauses, some of them clashing, among clauses that hold
+/// their literals' negations.
+pub fn planned(random: &mut Random, variables: usize, clause_limit: usize) -> Formula {
+    let mut literals: Vec<i32> = Vec::new();
+    for variable in 1..=variables as i32 {
+        let negated = random.chance(30);
+        literals.push(if negated { -variable } else { variable });
+    }
+    random.shuffle(&mut literals);
+
+    let mut unique: Vec<Vec<i32>> = Vec::new();
+    for size in unique_sizes(random, variables) {
+        unique.push(literals.drain(..size).collect());
+    }
+    let chosen: Vec<Vec<i32>> = unique.clone();
+    let clashes = if random.chance(40) {
+        0
+    } else {
+        random.between(1, 5)
+    };
+    if clashes > 0 && unique.len() < 3 && random.chance(70) {
+        unique.push(Vec::new());
+    }
+    let in_a_row = random.chance(50);
+    for number in 0..clashes {
+        if literals.is_empty() || unique.len() < 2 {
+            break;
+        }
+        let (first, second) = if in_a_row {
+            (number % unique.len(), (number + 1) % unique.len())
+        } else {
+            (random.below(unique.len()), random.below(unique.len()))
+        };
+        if first != second {
+            let literal = literals.remove(0);
+            unique[first].push(literal);
+            unique[second].push(-literal);
+        }
+    }
+
+    let fillers = literals;
+    let mut others = other_clauses(
+        random,
+        &chosen,
+        &fillers,
+        clause_limit.saturating_sub(unique.len()),
+    );
+    cover(random, &chosen, &mut others);
+    for clause in &mut unique {
+        random.shuffle(clause);
+    }
+
+    let mut clauses = unique;
+    clauses.append(&mut others);
+    if random.chance(70) {
+        random.shuffle(&mut clauses);
+    }
+    if random.chance(5) {
+        let place = random.below(clauses.len() + 1);
+        clauses.insert(place, Vec::new());
+    }
+    clauses.truncate(clause_limit);
+    Formula {
+        variables: variables as i32,
+        clauses,
+    }
+}
+
+/// Clauses of negated chosen literals and fillers: pairs (also repeated, in both
+/// orders), links, clauses with several negated literals.
+fn other_clauses(
+    random: &mut Random,
+    chosen: &[Vec<i32>],
+    fillers: &[i32],
+    limit: usize,
+) -> Vec<Vec<i32>> {
+    let chosen: Vec<&Vec<i32>> = chosen.iter().filter(|clause| clause.len() > 1).collect();
+    let mut others: Vec<Vec<i32>> = Vec::new();
+    let wanted = random.between(limit / 2, limit);
+    while others.len() < wanted {
+        let mut clause = Vec::new();
+        if !chosen.is_empty() {
+            let one = *random.one_of(&chosen);
+            let other = *random.one_of(&chosen);
+            let negated: Vec<i32> = match random.below(6) {
+                0 => vec![-random.one_of(one)],
+                1 => vec![-random.one_of(one), -random.one_of(one)],
+                2 | 3 => vec![-random.one_of(one), -random.one_of(other)],
+                4 => (0..3).map(|_| -random.one_of(one)).collect(),
+                _ => vec![
+                    -random.one_of(one),
+                    -random.one_of(other),
+                    -random.one_of(other),
+                ],
+            };
+            for literal in negated {
+                put(&mut clause, literal);
+            }
+        }
+        if !fillers.is_empty() && (clause.len() != 2 || random.chance(25)) {
+            let filler = *random.one_of(fillers);
+            let literal = random.sign(filler);
+            put(&mut clause, literal);
+        }
+        random.shuffle(&mut clause);
+        if random.chance(20) {
+            let mut copy = clause.clone();
+            copy.reverse();
+            others.push(copy);
+        }
+        others.push(clause);
+    }
+    others
+}
+
+/// Sees to it that most negations of chosen literals stand, in clauses that
+/// are not unique.
+fn cover(random: &mut Random, chosen: &[Vec<i32>], others: &mut [Vec<i32>]) {
+    if others.is_empty() {
+        return;
+    }
+    let leave_out = random.chance(15);
+    for literal in chosen.iter().flatten() {
+        let mut count = others.iter().filter(|c| c.contains(&-literal)).count();
+        for _ in 0..40 {
+            if count >= 2 || (leave_out && random.chance(10)) {
+                break;
+            }
+            let place = random.below(others.len());
+            let before = others[place].len();
+            put(&mut others[place], -literal);
+            count += others[place].len() - before;
+        }
+    }
+}
+
+pub fn text_of(formula: &Formula) -> Vec<u8> {
+    formula_text(formula.variables, &formula.clauses)
+}
+
+/// One random change of a text.
+pub fn damage(random: &mut Random, text: &[u8]) -> Vec<u8> {
+    const BYTES: &[u8] = b"0123456789-- \t\r\n\ncdpsvx";
+    const WORDS: &[&[u8]] = &[
+        b" 0 ",
+        b" 1 ",
+        b" -1 ",
+        b" 1 1 ",
+        b" 2 -2 ",
+        b" 99999999999999999999 ",
+        b" -0 ",
+        b" 00 ",
+        b"\n\n",
+        b"\r\n",
+        b" x ",
+        b" 8001 ",
+        b" 70001 ",
+        b"90000",
+        b"d 1 0\n",
+        b"c\n",
+        b"v \n",
+    ];
+    let mut damaged = text.to_vec();
+    let place = random.below(text.len() + 1);
+    match random.below(7) {
+        0 if place < text.len() => {
+            damaged.remove(place);
+        }
+        1 => damaged.insert(place, *random.one_of(BYTES)),
+        2 if place < text.len() => damaged[place] = *random.one_of(BYTES),
+        3 => damaged.truncate(place),
+        4 => {
+            let end = random.between(place, text.len());
+            damaged.drain(place..end.min(place + 8));
+        }
+        5 => {
+            let end = random.between(place, text.len()).min(place + 8);
+            let copy = text[place..end].to_vec();
+            damaged.splice(place..place, copy);
+        }
+        _ => {
+            damaged.splice(place..place, random.one_of(WORDS).iter().copied());
+        }
+    }
+    damaged
+}
+
+/// One random change of a log that keeps its layout: a line dropped, repeated,
+/// moved, or with its literals or its `d` changed.
+pub fn damage_log(random: &mut Random, lines: &[Line]) -> Vec<Line> {
+    let mut damaged = lines.to_vec();
+    if lines.is_empty() {
+        return damaged;
+    }
+    let place = random.below(lines.len());
+    let other = random.below(lines.len());
+    let size = lines[place].literals.len();
+    match random.below(6) {
+        0 => {
+            damaged.remove(place);
+        }
+        1 => damaged.insert(other, lines[place].clone()),
+        2 => damaged.swap(place, other),
+        3 if size > 0 => {
+            let (first, second) = (random.below(size), random.below(size));
+            damaged[place].literals.swap(first, second);
+        }
+        4 if size > 0 => {
+            let index = random.below(size);
+            damaged[place].literals[index] *= -1;
+        }
+        _ => damaged[place].deletion = !lines[place].deletion,
+    }
+    damaged
+}
+
+/// An answer with these values, at the variables' indices, in one of the
+/// layouts that are allowed.
+pub fn answer_for(random: &mut Random, values: &[bool]) -> Vec<u8> {
+    let end = if random.chance(20) { "\r\n" } else { "\n" };
+    let mut text = String::new();
+    if random.chance(20) {
+        text += &format!("c before\rit{end}");
+    }
+    text += &format!("s SATISFIABLE{end}v ");
+    let mut variables: Vec<usize> = (1..values.len()).collect();
+    if random.chance(50) {
+        random.shuffle(&mut variables);
+    }
+    for variable in variables {
+        if !values[variable] && random.chance(30) {
+            continue;
+        }
+        if random.chance(12) {
+            text += end;
+            if random.chance(30) {
+                text += &format!("c v 1{end}");
+            }
+            text += if random.chance(20) { "v  \t" } else { "v " };
+        }
+        text += &format!("{}{variable} ", if values[variable] { "" } else { "-" });
+    }
+    text += if random.chance(15) { "0 \t " } else { "0" };
+    if random.chance(85) {
+        text += end;
+        text += if random.chance(20) { "c after" } else { "" };
+    }
+    text.into_bytes()
+}

@@ -1,0 +1,90 @@
+//! Walk-back: replay, test, carry back.
+
+use crate::answer::read_answer;
+use crate::log_reading::read_kept_lines;
+use crate::reading::{read_formula, INPUT_LIMITS};
+use crate::standing::Standing;
+use crate::texts::{answer_text, Line};
+
+/// The values of variables, at their indices.
+pub type Assignment = Vec<bool>;
+
+pub fn is_true(literal: i32, values: &Assignment) -> bool {
+    values[literal.unsigned_abs() as usize] == (literal > 0)
+}
+
+pub fn satisfies(values: &Assignment, clauses: &[Vec<i32>]) -> bool {
+    clauses
+        .iter()
+        .all(|clause| clause.iter().any(|&literal| is_true(literal, values)))
+}
+
+/// The clauses that stand after the lines, or number 32.
+pub fn replay(input: &[Vec<i32>], lines: &[Line]) -> Result<Vec<Vec<i32>>, u8> {
+    let mut standing = Standing::new(input);
+    for line in lines {
+        if line.deletion {
+            standing.delete(&line.literals).ok_or(32)?;
+        } else {
+            standing.add(line.literals.clone());
+        }
+    }
+    Ok(standing.clauses())
+}
+
+/// Goes through the lines, last first.
+pub fn carry_back(lines: &[Line], values: &mut Assignment) {
+    for line in lines.iter().rev().filter(|line| line.deletion) {
+        if line
+            .literals
+            .iter()
+            .any(|&literal| is_true(literal, values))
+        {
+            continue;
+        }
+        if let Some(&first) = line.literals.first() {
+            values[first.unsigned_abs() as usize] = first > 0;
+        }
+    }
+}
+
+pub fn walk_back(
+    formula: &[u8],
+    log: &[u8],
+    keep: usize,
+    answer: &[u8],
+    workspace: u64,
+    room: usize,
+) -> Result<Vec<u8>, u8> {
+    let formula = read_formula(formula, &INPUT_LIMITS)?;
+    let lines = read_kept_lines(log, keep)?;
+    let highest = lines
+        .iter()
+        .flat_map(|line| &line.literals)
+        .map(|literal| literal.abs())
+        .fold(formula.variables, i32::max);
+    let mut values = read_answer(answer, highest)?;
+
+    let formula_numbers = formula.literal_count() + formula.clauses.len() as u64;
+    let line_numbers: u64 = lines
+        .iter()
+        .map(|line| line.literals.len() as u64 + 1)
+        .sum();
+    if workspace < 4 * (formula_numbers + line_numbers) + 4 * highest as u64 + 64 {
+        return Err(11);
+    }
+
+    let standing = replay(&formula.clauses, &lines)?;
+    if !satisfies(&values, &standing) {
+        return Err(44);
+    }
+    carry_back(&lines, &mut values);
+    if !satisfies(&values, &formula.clauses) {
+        return Err(33);
+    }
+    let line = answer_text(formula.variables, |variable| is_true(variable, &values));
+    if line.len() > room {
+        return Err(14);
+    }
+    Ok(line)
+}

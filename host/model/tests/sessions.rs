@@ -1,0 +1,385 @@
+//! The sessions listed in document 01, and the example vectors of its readings.
+
+use model::{read_back, reencode, walk_back, Form, Reencoded, Wish};
+
+const PLENTY: usize = 1 << 30;
+const F: &str = "p cnf 6 7\n1 2 3 4 5 0\n-1 -2 0\n-1 6 0\n-2 6 0\n-3 6 0\n-4 -6 0\n-5 -6 0\n";
+const G_OUT: &str = "p cnf 10 8\n8 -7 0\n9 -8 0\n10 -9 0\n-7 6 0\n7 -8 6 0\n8 -9 6 0\n\
+                     9 -10 -6 0\n10 -6 0\n";
+
+fn encode(text: &str, form: Form) -> Reencoded {
+    reencode(text.as_bytes(), form, Wish::None, 1 << 40, PLENTY, PLENTY).unwrap()
+}
+
+fn refusal(text: &str) -> u8 {
+    reencode(
+        text.as_bytes(),
+        Form::Counter,
+        Wish::None,
+        1 << 40,
+        PLENTY,
+        PLENTY,
+    )
+    .unwrap_err()
+}
+
+fn expect(text: &str, log: &str, formula: &str) {
+    for form in [Form::Counter, Form::Order] {
+        let result = encode(text, form);
+        assert_eq!(String::from_utf8_lossy(&result.log), log);
+        assert_eq!(String::from_utf8_lossy(&result.formula), formula);
+        assert_eq!(result.lines, log.lines().count());
+        assert_eq!(result.choices, 0);
+    }
+}
+
+fn walk(formula: &str, log: &[u8], keep: usize, answer: &str) -> Result<String, u8> {
+    walk_back(
+        formula.as_bytes(),
+        log,
+        keep,
+        answer.as_bytes(),
+        1 << 40,
+        PLENTY,
+    )
+    .map(|line| String::from_utf8(line).unwrap())
+}
+
+#[test]
+fn sessions_a_to_e() {
+    expect("p cnf 0 0", "", "p cnf 0 0\n");
+    expect("p cnf 0 1\n0\n", "", "p cnf 0 1\n0\n");
+    expect(
+        "p cnf 1 2\n1 0\n-1 0\n",
+        "0\nd 1 0\nd -1 0\n",
+        "p cnf 1 1\n0\n",
+    );
+    expect(
+        "p cnf 2 2\n1 2 0\n-1 -2 0\n",
+        "d 1 2 0\nd -1 -2 0\n",
+        "p cnf 2 0\n",
+    );
+    let e = "p cnf 3 2\n1 2 0\n-1 3 0\n";
+    let log = "2 3 0\nd 1 2 0\nd -1 3 0\nd 2 3 0\n";
+    expect(e, log, "p cnf 3 0\n");
+    for answer in ["s SATISFIABLE\nv -1 -2 -3 0\n", "s SATISFIABLE\nv 0"] {
+        assert_eq!(
+            walk(e, log.as_bytes(), 4, answer),
+            Ok("v -1 2 -3 0\n".into())
+        );
+    }
+}
+
+#[test]
+fn session_f_counter_form() {
+    let f = encode(F, Form::Counter);
+    assert_eq!((f.choices, f.highest, f.clauses, f.lines), (1, 10, 21, 36));
+}
+
+#[test]
+fn sessions_g_and_h_order_form() {
+    let g = encode(F, Form::Order);
+    assert_eq!((g.choices, g.highest, g.clauses, g.lines), (1, 10, 8, 59));
+    assert_eq!(String::from_utf8_lossy(&g.formula), G_OUT);
+    let (variables, clauses) = read_back(&g.formula, 1 << 40).unwrap();
+    assert_eq!((variables, clauses.len()), (10, 8));
+    assert_eq!(clauses[3], vec![-7, 6]);
+
+    let answer = "s SATISFIABLE\nv 1 2 3 4 5 -6 -7 -8 -9 10 0\n";
+    let line = walk(F, &g.log, 59, answer).unwrap();
+    assert_eq!(line, "v -1 -2 -3 4 -5 -6 0\n");
+}
+
+#[test]
+fn the_six_refusals() {
+    let cases = [
+        ("1 1 0", 5),
+        ("1 -1 0", 6),
+        ("2 0", 4),
+        ("-0", 3),
+        ("1", 7),
+        ("1 0 1 0", 8),
+    ];
+    for (body, number) in cases {
+        assert_eq!(refusal(&format!("p cnf 1 1\n{body}\n")), number, "{body}");
+    }
+}
+
+/// A clause of the given size, its literals' negations in clauses that are not unique.
+fn one_choice(size: usize) -> String {
+    let mut text = format!("p cnf {} {}\n", size, 2 * size + 1);
+    for literal in 1..=size {
+        text += &format!("{literal} ");
+    }
+    text += "0\n";
+    for literal in 1..=size {
+        text += &format!("-{literal} 0\n-{literal} 0\n");
+    }
+    text
+}
+
+#[test]
+fn sizes_4_5_64_65() {
+    for size in [4, 65] {
+        let text = one_choice(size);
+        let result = encode(&text, Form::Counter);
+        assert_eq!((result.choices, result.lines), (0, 0));
+        assert_eq!(String::from_utf8_lossy(&result.formula), text);
+    }
+    for size in [5, 64] {
+        let result = encode(&one_choice(size), Form::Counter);
+        assert_eq!(result.choices, 1);
+        assert_eq!(result.highest as usize, 2 * size - 1);
+        assert_eq!(result.clauses, 2 * size + 4 * (size - 1));
+    }
+}
+
+/// 1..5 and 6..10 with the given links; each negated literal stands twice.
+fn two_choices(links: &[&str]) -> String {
+    let mut text = format!("p cnf 10 {}\n", 22 + links.len());
+    text += "1 2 3 4 5 0\n6 7 8 9 10 0\n";
+    for link in links {
+        text += &format!("{link} 0\n");
+    }
+    for literal in 1..=10 {
+        text += &format!("-{literal} 0\n-{literal} 0\n");
+    }
+    text
+}
+
+fn log_with(wish: Wish, form: Form, text: &str) -> String {
+    let result = reencode(text.as_bytes(), form, wish, 1 << 40, PLENTY, PLENTY).unwrap();
+    assert_eq!(result.choices, 2);
+    String::from_utf8(result.log).unwrap()
+}
+
+#[test]
+fn alignment_example() {
+    let text = two_choices(&["-1 -8", "-2 -6"]);
+    for form in [Form::Counter, Form::Order] {
+        let plain = log_with(Wish::None, form, &text);
+        assert!(plain.contains("\nd 1 2 3 4 5 0\n"));
+        assert!(plain.contains("\nd 6 7 8 9 10 0\n"));
+        let aligned = log_with(Wish::Align, form, &text);
+        assert!(aligned.contains("\nd 1 2 3 4 5 0\n"));
+        assert!(aligned.contains("\nd 8 6 7 9 10 0\n"));
+    }
+}
+
+#[test]
+fn unalignable_choices_keep_their_orders() {
+    let text = two_choices(&["-1 -8", "-8 -2", "-6 -5"]);
+    for form in [Form::Counter, Form::Order] {
+        assert_eq!(
+            log_with(Wish::None, form, &text),
+            log_with(Wish::Align, form, &text)
+        );
+    }
+}
+
+#[test]
+fn copies_of_pairs_are_all_deleted() {
+    let text = "p cnf 5 9\n1 2 3 4 5 0\n-1 -2 0\n-1 -3 0\n-2 -1 0\n-3 -1 0\n\
+                -4 0\n-4 0\n-5 0\n-5 0\n";
+    let result = encode(text, Form::Counter);
+    assert_eq!((result.lines, result.log.len()), (37, 319));
+    let log = String::from_utf8(result.log).unwrap();
+    assert!(log.contains("d 1 2 3 4 5 0\nd -1 -2 0\nd -1 -2 0\nd -1 -3 0\nd -1 -3 0\nd -1 -4 0\n"));
+}
+
+#[test]
+fn short_workspace_and_buffers_of_reencoding() {
+    let needed = 20 * 17 + 2 * 7 + 6 * 6 + 8_192;
+    for form in [Form::Counter, Form::Order] {
+        let whole = encode(F, form);
+        let (log, formula) = (whole.log.len(), whole.formula.len());
+        let call = |workspace, log_room, formula_room| {
+            reencode(
+                F.as_bytes(),
+                form,
+                Wish::None,
+                workspace,
+                log_room,
+                formula_room,
+            )
+        };
+        assert_eq!(call(needed, log, formula), Ok(whole));
+        assert_eq!(call(needed - 1, log - 1, formula - 1), Err(11));
+        assert_eq!(call(needed, log - 1, formula - 1), Err(12));
+        assert_eq!(call(needed, log, formula - 1), Err(13));
+    }
+    let g = encode(F, Form::Order);
+    let needed = 20 * 19 + 2 * 8 + 6 * 10 + 8_192;
+    assert!(read_back(&g.formula, needed).is_ok());
+    assert_eq!(read_back(&g.formula, needed - 1), Err(11));
+}
+
+#[test]
+fn short_workspace_and_buffer_of_walk_back() {
+    let g = encode(F, Form::Order);
+    let answer = b"s SATISFIABLE\nv 1 2 3 4 5 -6 -7 -8 -9 10 0\n";
+    let log_numbers = g
+        .log
+        .split(|byte| b" \n".contains(byte))
+        .filter(|word| !word.is_empty() && *word != b"d")
+        .count() as u64;
+    let needed = 4 * (17 + 7 + log_numbers) + 4 * 10 + 64;
+    let line = "v -1 -2 -3 4 -5 -6 0\n";
+    let call = |workspace, room| walk_back(F.as_bytes(), &g.log, 59, answer, workspace, room);
+    assert_eq!(call(needed, line.len()), Ok(line.as_bytes().to_vec()));
+    assert_eq!(call(needed - 1, line.len() - 1), Err(11));
+    assert_eq!(call(needed, line.len() - 1), Err(14));
+}
+
+#[test]
+fn headers() {
+    for text in [
+        "",
+        "p cnf 1",
+        "p cnf 0 0 ",
+        "p cnf  0 0",
+        " p cnf 0 0",
+        "\np cnf 0 0",
+        "p cnf 0 0\r",
+        "p cnf 0 0\r\r\n",
+        "p cnf -0 0",
+        "p cnf 00 0",
+        "p cnf 8001 x",
+        "p cnf 8001 1 ",
+        "p cnf -1 0",
+        "c only",
+        "c only\n",
+        "c a\rp cnf 0 0\n",
+        "p cnf 0\t0",
+        "P cnf 0 0",
+    ] {
+        assert_eq!(refusal(text), 1, "{text:?}");
+    }
+    for text in [
+        "p cnf 8001 0",
+        "p cnf 0 20001",
+        "p cnf 1000000000000000000000000000000 0",
+    ] {
+        assert_eq!(refusal(text), 2, "{text:?}");
+    }
+    for text in [
+        "p cnf 0 0\r\n",
+        "c\np cnf 0 0\n \t\r\n",
+        "c x\r\ncc\np cnf 0 0\n",
+        "c\np cnf 8000 0",
+    ] {
+        assert_eq!(encode(text, Form::Order).lines, 0, "{text:?}");
+    }
+}
+
+#[test]
+fn words() {
+    let cases = [
+        ("x", 3),
+        ("1 0 x", 8),
+        ("c", 3),
+        ("01 0", 3),
+        ("+1 0", 3),
+        ("- 0", 3),
+        ("1\u{c}0", 3),
+        ("1000000000000000000000000000000 0", 4),
+        ("-2 0", 4),
+        ("-1 -1 0", 5),
+        ("-1 1 x 0", 6),
+        ("", 8),
+        ("1 0 0", 8),
+    ];
+    for (body, number) in cases {
+        assert_eq!(refusal(&format!("p cnf 1 1\n{body}\n")), number, "{body}");
+    }
+    let full = |extra: &str| {
+        let clause: String = (1..=6_000).map(|v| format!("{v} ")).collect();
+        format!("p cnf 6000 11\n{}{extra}", (clause + "0\n").repeat(10))
+    };
+    assert_eq!(encode(&full("0"), Form::Counter).clauses, 11);
+    assert_eq!(refusal(&full("1 0")), 9);
+    assert_eq!(refusal(&full("x")), 3);
+    assert_eq!(refusal(&full("6001")), 4);
+}
+
+#[test]
+fn damaged_logs() {
+    let formula = "p cnf 2 1\n1 2 0\n";
+    let answer = "s SATISFIABLE\nv 1 0\n";
+    let cases: [(&str, usize, u8); 20] = [
+        ("", 1, 34),
+        ("0\n", 2, 34),
+        ("1 0", 1, 31),
+        ("1 0\r\n", 1, 31),
+        ("1  0\n", 1, 31),
+        (" 1 0\n", 1, 31),
+        ("1 0 \n", 1, 31),
+        ("1\n", 1, 31),
+        ("\n", 1, 31),
+        ("d\n", 1, 31),
+        ("d1 0\n", 1, 31),
+        ("1 1 0\n", 1, 31),
+        ("1 -1 0\n", 1, 31),
+        ("70001 0\n", 1, 31),
+        ("1 0 2 0\n", 1, 31),
+        ("c\n", 1, 31),
+        ("1 0\nd 3 0\n", 2, 32),
+        ("d 0\n", 1, 32),
+        ("0\n", 1, 44),
+        ("d 1 2 0\nd 1 2 0\n", 2, 32),
+    ];
+    for (log, keep, number) in cases {
+        let result = walk(formula, log.as_bytes(), keep, answer);
+        assert_eq!(result, Err(number), "{log:?}");
+    }
+    assert_eq!(
+        walk(formula, b"rubbish", 0, answer),
+        Ok("v 1 -2 0\n".into())
+    );
+    assert_eq!(
+        walk(formula, b"d 2 1 0\nrubbish", 1, "s SATISFIABLE\nv 0"),
+        Ok("v -1 2 0\n".into())
+    );
+    let second = "p cnf 1 2\n1 0\n-1 0\n";
+    assert_eq!(walk(second, b"d 1 0\n", 1, "s SATISFIABLE\nv 0"), Err(33));
+}
+
+#[test]
+fn damaged_answers() {
+    let formula = "p cnf 2 1\n1 2 0\n";
+    let good = [
+        "s SATISFIABLE\nv 1 0",
+        "s SATISFIABLE\r\nv 1 0\r\n",
+        "c\ns SATISFIABLE\nc\nv \nv  1\t\nv\u{20}\t0 \nc after",
+        "s SATISFIABLE\nv 1\nc\rx\nv 0\n",
+    ];
+    for answer in good {
+        let result = walk(formula, b"", 0, answer);
+        assert_eq!(result, Ok("v 1 -2 0\n".into()), "{answer:?}");
+    }
+    let bad = [
+        ("", 41),
+        ("s SATISFIABLE\n", 41),
+        ("s SATISFIABLE\nv 1\n", 41),
+        ("s UNSATISFIABLE\nv 1 0\n", 41),
+        ("s SATISFIABLE \nv 1 0\n", 41),
+        ("v 1 0\n", 41),
+        ("s SATISFIABLE\ns SATISFIABLE\nv 1 0\n", 41),
+        ("s SATISFIABLE\nv\nv 1 0\n", 41),
+        ("s SATISFIABLE\nv\t1 0\n", 41),
+        ("s SATISFIABLE\nv 1 0\n\n", 41),
+        ("s SATISFIABLE\n\nv 1 0\n", 41),
+        ("s SATISFIABLE\nv 1 0\nv \n", 41),
+        ("s SATISFIABLE\nv 1 0 0\n", 41),
+        ("s SATISFIABLE\nv 1 0\r", 41),
+        ("s SATISFIABLE\nv 1 \rx 0\n", 41),
+        ("s SATISFIABLE\nv x 3 0\n", 41),
+        ("s SATISFIABLE\nv 3 x 0\n", 42),
+        ("s SATISFIABLE\nv 1 -1 3\n", 43),
+        ("s SATISFIABLE\nv 1 3 1\n", 42),
+        ("s SATISFIABLE\nv -1 0\n", 44),
+    ];
+    for (answer, number) in bad {
+        assert_eq!(walk(formula, b"", 0, answer), Err(number), "{answer:?}");
+    }
+}

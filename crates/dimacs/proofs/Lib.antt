@@ -1,0 +1,6 @@
+pub mod Extra
+pub mod Clauses
+pub mod HeaderLine
+pub mod Marking
+pub mod Checking
+pub mod Loads

@@ -1,0 +1,306 @@
+-- Reading a clause with marks in a table. Assumes nothing.
+use mathlib.Core.Path.{_≡_, refl, sym, ap, subst, _∙_}
+use mathlib.Core.Bool.{Bool, true, false, _||_, cond}
+use mathlib.Core.List.{List, [], _∷_, _++_}
+use mathlib.Core.Option.{Option, some, none}
+use Prim.Native.Nat.{ℕ, _+_, _-_, _≤_, _<_}
+use native.Mathlib.Omega.{arith}
+use lib.Dec.{eqb, leb, ltb}
+use lib.IntN.{ℤ, negℤ, natAbs}
+use lib.ListN.{length, getD, set, take, drop, length-append}
+use lib.Seq.{getD-set-same, getD-set-other}
+use borrow.Author.Tests.{leb-false, lt-ltb, le-ltb, ltb-false, eqb-true, eqb-false, eq-eqb, ne-eqb}
+use Rattle.definition.specs.Lists.{any}
+use Rattle.definition.specs.Literals.{Clause, same, holds}
+use Rattle.definition.specs.Text.{Bytes, blank, words-by, words, number}
+use Rattle.definition.specs.Reading.{Limits}
+use Rattle.laws.proofs.Tests.{by-test, of-true, to-true}
+use Rattle.laws.proofs.Members.{same-eq, same-refl, unlike, natAbs-neg}
+use Rattle.literals.specs.Literal.{index-of, negation}
+use Rattle.literals.proofs.Laws.{negation-small, index-injective, index-within}
+use Rattle.text.specs.Numbers.{number-class}
+use Rattle.text.specs.declared.Number.the-variants as Number
+use Rattle.text.proofs.Words.{First}
+use Rattle.dimacs.specs.Clause.{Word-read, bad, zero, literal, bad-if, number-read, word-read, Clause-read, refused, clause-by, full, first-clause}
+use Rattle.dimacs.specs.Marks.{Marks, Fresh, number-item, mark-of, marked, Item-post, Read, Ended}
+use Rattle.dimacs.specs.declared.Item.{Item}
+use Rattle.dimacs.specs.declared.Item.the-variants as Item
+
+-- ---- a word by itself
+
+class-value : (o : Option ℤ) (l : ℤ) → number-class o ≡ Number.Value l → o ≡ some l
+class-value none l e = absurd (let z : _≡_ {A = ℕ} 0 1 = cc in omega arith)
+class-value (some k) l e = go (leb (natAbs k) 70_000) e
+  where
+    go : (b : Bool) → cond b (Number.Value k) Number.Large ≡ Number.Value l → some k ≡ some l
+    go true q = cc
+    go false q = absurd (let z : _≡_ {A = ℕ} 0 1 = cc in omega arith)
+
+module _ (v : ℕ) (o : Option ℤ) where
+  pub item-none : number-class o ≡ Number.NotANumber → Item.Fault 3 ≡ number-item v o
+  item-none e = go o e
+    where
+      go : (o : Option ℤ) → number-class o ≡ Number.NotANumber → Item.Fault 3 ≡ number-item v o
+      go none e = refl
+      go (some k) e = by (leb (natAbs k) 70_000) e
+        where
+          by : (b : Bool) → cond b (Number.Value k) Number.Large ≡ Number.NotANumber → Item.Fault 3 ≡ number-item v (some k)
+          by true q = absurd (let z : _≡_ {A = ℕ} 0 1 = cc in omega arith)
+          by false q = absurd (let z : _≡_ {A = ℕ} 0 1 = cc in omega arith)
+
+  pub item-large : v ≤ 70_000 → number-class o ≡ Number.Large → Item.Fault 4 ≡ number-item v o
+  item-large h e = go o e
+    where
+      go : (o : Option ℤ) → number-class o ≡ Number.Large → Item.Fault 4 ≡ number-item v o
+      go none e = absurd (let z : _≡_ {A = ℕ} 0 1 = cc in omega arith)
+      go (some k) e = by (leb (natAbs k) 70_000) refl e
+        where
+          by : (b : Bool) → leb (natAbs k) 70_000 ≡ b → cond b (Number.Value k) Number.Large ≡ Number.Large → Item.Fault 4 ≡ number-item v (some k)
+          by true q f = absurd (let z : _≡_ {A = ℕ} 0 1 = cc in omega arith)
+          by false q f = rw (ne-eqb 0 (natAbs k) (λ z. no z (leb-false (natAbs k) 70_000 q)), lt-ltb v (natAbs k) (omega (arith, leb-false (natAbs k) 70_000 q))) refl
+            where
+              no : 0 ≡ natAbs k → 70_000 < natAbs k → ⊥
+              no x y = omega arith
+
+  module _ (l : ℤ) (e : number-class o ≡ Number.Value l) where
+    pub item-zero : eqb 0 (natAbs l) ≡ true → Item.Zero ≡ number-item v o
+    item-zero q = rw (class-value o l e, q) refl
+
+    pub item-high : eqb 0 (natAbs l) ≡ false → v < natAbs l → Item.Fault 4 ≡ number-item v o
+    item-high q h = rw (class-value o l e, q, lt-ltb v (natAbs l) h) refl
+
+    pub item-literal : eqb 0 (natAbs l) ≡ false → natAbs l ≤ v → Item.Literal l ≡ number-item v o
+    item-literal q h = rw (class-value o l e, q, le-ltb v (natAbs l) h) refl
+
+-- ---- the marks
+
+holds-snoc : (m l : ℤ) (c : Clause) → holds m (c ++ (l ∷ [])) ≡ (holds m c || same m l)
+unfolding holds any
+holds-snoc m l [] = go (same m l)
+  where
+    go : (b : Bool) → (b || false) ≡ b
+    go true = refl
+    go false = refl
+holds-snoc m l (x ∷ c) = go (same m x) (holds-snoc m l c)
+  where
+    go : (b : Bool) → holds m (c ++ (l ∷ [])) ≡ (holds m c || same m l) → (b || holds m (c ++ (l ∷ []))) ≡ ((b || holds m c) || same m l)
+    go true e = refl
+    go false e = e
+
+or-both : (b : Bool) → (b || true) ≡ true
+or-both true = refl
+or-both false = refl
+
+or-first : (b : Bool) → (b || false) ≡ b
+or-first true = refl
+or-first false = refl
+
+pub marks-start : (table : List ℕ) (stamp : ℕ) → Fresh table stamp → Marks table stamp []
+unfolding holds any
+marks-start table stamp f = record {
+  told = λ l h. ne-eqb (getD table (index-of l) 0) stamp (λ e. no (getD table (index-of l) 0) e (f .below (index-of l)));
+  below = λ i. below (getD table i 0) (f .below i);
+}
+  where
+    no : (x : ℕ) → x ≡ stamp → x < stamp → ⊥
+    no x e h = omega arith
+
+    below : (x : ℕ) → x < stamp → x ≤ stamp
+    below x h = omega arith
+
+-- the places of a literal and its negation
+module _ (l : ℤ) (h : natAbs l ≤ 70_000) (i j : ℕ) (p : i ≡ index-of l) (q : j ≡ index-of (negation l)) where
+  pub place-within : i < 140_002
+  place-within = omega (arith, index-within l)
+
+  pub negation-within : j < 140_002
+  negation-within = omega (arith, index-within (negation l), ap natAbs (negation-small l (omega arith)) ∙ natAbs-neg l)
+
+  module _ (table : List ℕ) (stamp : ℕ) where
+    pub mark-five : getD table i 0 ≡ stamp → (5 ≡ mark-of table stamp l) × (table ≡ marked 5 table stamp l)
+    mark-five e = (rw (eq-eqb (getD table (index-of l) 0) stamp (ap (λ (n : ℕ). getD table n 0) (sym p) ∙ e)) refl, refl)
+
+    pub mark-six : (getD table i 0 ≡ stamp → ⊥) → getD table j 0 ≡ stamp → (6 ≡ mark-of table stamp l) × (table ≡ marked 6 table stamp l)
+    mark-six n e = (rw (ne-eqb (getD table (index-of l) 0) stamp (λ z. n (ap (λ (n : ℕ). getD table n 0) p ∙ z)), eq-eqb (getD table (index-of (negation l)) 0) stamp (ap (λ (n : ℕ). getD table n 0) (sym q) ∙ e)) refl, refl)
+
+    pub mark-none : (getD table i 0 ≡ stamp → ⊥) → (getD table j 0 ≡ stamp → ⊥) → (0 ≡ mark-of table stamp l) × (set table i stamp ≡ marked 0 table stamp l)
+    mark-none n m = (rw (ne-eqb (getD table (index-of l) 0) stamp (λ z. n (ap (λ (n : ℕ). getD table n 0) p ∙ z)), ne-eqb (getD table (index-of (negation l)) 0) stamp (λ z. m (ap (λ (n : ℕ). getD table n 0) q ∙ z))) refl, ap (λ (n : ℕ). set table n stamp) p)
+
+module _ (table : List ℕ) (stamp : ℕ) (here : Clause) (k : Marks table stamp here) (l : ℤ) (h : natAbs l ≤ 70_000) where
+  mark-is : mark-of table stamp l ≡ cond (holds l here) 5 (cond (holds (negℤ l) here) 6 0)
+  mark-is = rw (negation-small l (omega arith), k .told l h, k .told (negℤ l) (rw (natAbs-neg l) h)) refl
+
+  pub mark-fault : (m : ℕ) (x : Word-read) → m ≡ mark-of table stamp l → (m ≡ 0 → ⊥) → bad-if (holds l here) 5 (bad-if (holds (negℤ l) here) 6 x) ≡ bad m
+  mark-fault m x e n = go (holds l here) (holds (negℤ l) here) (e ∙ mark-is)
+    where
+      go : (a b : Bool) → m ≡ cond a 5 (cond b 6 0) → bad-if a 5 (bad-if b 6 x) ≡ bad m
+      go true b q = ap bad (sym q)
+      go false true q = ap bad (sym q)
+      go false false q = absurd (n q)
+
+  pub mark-new : (x : Word-read) → 0 ≡ mark-of table stamp l → bad-if (holds l here) 5 (bad-if (holds (negℤ l) here) 6 x) ≡ x
+  mark-new x e = go (holds l here) (holds (negℤ l) here) (e ∙ mark-is)
+    where
+      go : (a b : Bool) → _≡_ {A = ℕ} 0 (cond a 5 (cond b 6 0)) → bad-if a 5 (bad-if b 6 x) ≡ x
+      go true b q = absurd (no q)
+        where
+          no : _≡_ {A = ℕ} 0 5 → ⊥
+          no z = omega arith
+      go false true q = absurd (no q)
+        where
+          no : _≡_ {A = ℕ} 0 6 → ⊥
+          no z = omega arith
+      go false false q = refl
+
+  module _ (room : index-of l < length table) where
+    told-same : eqb (getD (set table (index-of l) stamp) (index-of l) 0) stamp ≡ holds l (here ++ (l ∷ []))
+    told-same = eq-eqb _ _ (getD-set-same table (index-of l) stamp 0 room) ∙ sym (holds-snoc l l here ∙ ap (λ (b : Bool). holds l here || b) (to-true (same-refl l)) ∙ or-both (holds l here))
+
+    told-other : (m : ℤ) → natAbs m ≤ 70_000 → same m l ≡ false → eqb (getD (set table (index-of l) stamp) (index-of m) 0) stamp ≡ holds m (here ++ (l ∷ []))
+    told-other m g e =
+        ap (λ (x : ℕ). eqb x stamp) (getD-set-other table (index-of l) (index-of m) stamp 0 (λ q. unlike m l e (index-injective m l q)))
+        ∙ k .told m g
+        ∙ sym (holds-snoc m l here ∙ ap (λ (b : Bool). holds m here || b) e ∙ or-first (holds m here))
+
+    set-below : (i : ℕ) → getD (set table (index-of l) stamp) i 0 ≤ stamp
+    set-below i = by-test (eqb i (index-of l))
+        (λ e. rw (eqb-true i (index-of l) e, getD-set-same table (index-of l) stamp 0 room) (omega arith))
+        (λ e. rw (getD-set-other table (index-of l) i stamp 0 (eqb-false i (index-of l) e)) (k .below i))
+
+    pub marks-add : Marks (set table (index-of l) stamp) stamp (here ++ (l ∷ []))
+    marks-add = record {
+      told = λ m g. by-test (same m l) (λ e. rw (same-eq m l (of-true e)) told-same) (told-other m g);
+      below = set-below;
+    }
+
+-- ---- a word in its clause
+
+-- what a word by itself says of it in its clause
+abbrev Says : ℕ → Bool → Clause → Word-read → Item → Type 0
+Says v full here r (Item.Fault n) = r ≡ bad n
+Says v full here r Item.Zero = r ≡ zero
+Says v full here r (Item.Literal l) = (natAbs l ≤ v) × (r ≡ bad-if (holds l here) 5 (bad-if (holds (negℤ l) here) 6 (bad-if full 9 (literal l))))
+
+item-says : (v : ℕ) (full : Bool) (here : Clause) (o : Option ℤ) → Says v full here (number-read v full here o) (number-item v o)
+item-says v full here none = refl
+item-says v full here (some l) = go (eqb 0 (natAbs l)) (ltb v (natAbs l)) (ltb-false v (natAbs l))
+  where
+    go : (a b : Bool) → (b ≡ false → natAbs l ≤ v) → Says v full here (cond a zero (bad-if b 4 (bad-if (holds l here) 5 (bad-if (holds (negℤ l) here) 6 (bad-if full 9 (literal l)))))) (cond a Item.Zero (cond b (Item.Fault 4) (Item.Literal l)))
+    go true b h = refl
+    go false true h = refl
+    go false false h = (h refl, refl)
+
+module _ (v : ℕ) (full : Bool) (w : Bytes) (i : Item) (e : i ≡ number-item v (number w)) where
+  says : (here : Clause) → Says v full here (number-read v full here (number w)) i
+  says here = subst (Says v full here (number-read v full here (number w))) (sym e) (item-says v full here (number w))
+
+  pub word-fault : (n : ℕ) (here : Clause) → i ≡ Item.Fault n → word-read v full here w ≡ bad n
+  unfolding word-read
+  word-fault n here q = subst (Says v full here (number-read v full here (number w))) q (says here)
+
+  pub word-zero : (here : Clause) → i ≡ Item.Zero → word-read v full here w ≡ zero
+  unfolding word-read
+  word-zero here q = subst (Says v full here (number-read v full here (number w))) q (says here)
+
+  module _ (l : ℤ) (q : i ≡ Item.Literal l) where
+    pub literal-low : natAbs l ≤ v
+    literal-low = subst (Says v full [] (number-read v full [] (number w))) q (says []) .0
+
+    word-literal : (here : Clause) → word-read v full here w ≡ bad-if (holds l here) 5 (bad-if (holds (negℤ l) here) 6 (bad-if full 9 (literal l)))
+    unfolding word-read
+    word-literal here = subst (Says v full here (number-read v full here (number w))) q (says here) .1
+
+    module _ (table : List ℕ) (stamp m : ℕ) (h : v ≤ 70_000) (g : m ≡ mark-of table stamp l) (here : Clause) (k : Marks table stamp here) where
+      low : natAbs l ≤ 70_000
+      low = omega (arith, literal-low)
+
+      pub word-marked : (m ≡ 0 → ⊥) → word-read v full here w ≡ bad m
+      word-marked n = word-literal here ∙ mark-fault table stamp here k l low m _ g n
+
+      pub word-full : m ≡ 0 → full ≡ true → word-read v full here w ≡ bad 9
+      word-full z f = word-literal here ∙ mark-new table stamp here k l low _ (sym z ∙ g) ∙ ap (λ (b : Bool). bad-if b 9 (literal l)) f
+
+      pub word-new : (after : List ℕ) → after ≡ marked m table stamp l → m ≡ 0 → full ≡ false → 140_002 ≤ length table → (word-read v full here w ≡ literal l) × Marks after stamp (here ++ (l ∷ []))
+      word-new after a z f room = (
+        word-literal here ∙ mark-new table stamp here k l low _ (sym z ∙ g) ∙ ap (λ (b : Bool). bad-if b 9 (literal l)) f,
+        rw (a, z) (marks-add table stamp here k l low (omega (arith, low, index-within l))),
+      )
+
+-- a literal that may be read is not one too many
+not-full : (v : ℕ) (full : Bool) (here : Clause) (w : Bytes) (l : ℤ) → word-read v full here w ≡ literal l → full ≡ false
+unfolding word-read
+not-full v false here w l e = refl
+not-full v true here w l e = go (number w) e
+  where
+    by : (a b c d : Bool) → cond a zero (bad-if b 4 (bad-if c 5 (bad-if d 6 (bad 9)))) ≡ literal l → true ≡ false
+    by true b c d q = absurd (let z : _≡_ {A = ℕ} 0 1 = cc in omega arith)
+    by false true c d q = absurd (let z : _≡_ {A = ℕ} 0 1 = cc in omega arith)
+    by false false true d q = absurd (let z : _≡_ {A = ℕ} 0 1 = cc in omega arith)
+    by false false false true q = absurd (let z : _≡_ {A = ℕ} 0 1 = cc in omega arith)
+    by false false false false q = absurd (let z : _≡_ {A = ℕ} 0 1 = cc in omega arith)
+
+    go : (o : Option ℤ) → number-read v true here o ≡ literal l → true ≡ false
+    go none q = absurd (let z : _≡_ {A = ℕ} 0 1 = cc in omega arith)
+    go (some k) q = by (eqb 0 (natAbs k)) (ltb v (natAbs k)) (holds k here) (holds (negℤ k) here) q
+
+-- ---- the clause
+
+module _ (most : Limits) (v before stamp : ℕ) (text : Bytes) where
+  -- the literals read so far, from which the rest of the words gives the whole
+  pub record Going (table : List ℕ) (at total : ℕ) : Type 0 where
+    pub here : Clause
+    pub inside : at ≤ length text
+    pub counted : total ≡ before + length here
+    pub few : total ≤ most .literals
+    pub marks : Marks table stamp here
+    pub same : first-clause most v before here (words (drop at text)) ≡ first-clause most v before [] (words text)
+
+  pub going-start : (table : List ℕ) → Fresh table stamp → before ≤ most .literals → Going table 0 before
+  going-start table f h = record { here = []; inside = omega arith; counted = omega arith; few = h; marks = marks-start table stamp f; same = refl }
+
+  abbrev whole : Clause-read
+  whole = first-clause most v before [] (words text)
+
+  module _ (table : List ℕ) (at total : ℕ) (g : Going table at total) where
+    pub going-end : words-by blank (drop at text) ≡ [] → Ended whole (total - before)
+    unfolding words first-clause
+    going-end e = record { here = g .here; is = sym (g .same) ∙ rw e refl; size = omega (arith, g .counted) }
+
+    module _ (s e : ℕ) (f : First blank text at s e) where
+      abbrev word : Bytes
+      word = take (e - s) (drop s text)
+
+      next : (r : Word-read) → word-read v (leb (most .literals) total) (g .here) word ≡ r → whole ≡ clause-by (g .here) (words (drop e text)) (λ h. first-clause most v before h (words (drop e text))) r
+      unfolding words first-clause
+      next r q = sym (g .same) ∙ rw (f .words, ← g .counted, q) refl
+
+      module _ (after : List ℕ) (a : Item) (p : Item-post v (leb (most .literals) total) (g .here) word after stamp a) where
+        abbrev Told : Item → Type 0
+        Told i = Item-post v (leb (most .literals) total) (g .here) word after stamp i
+
+        pub going-fault : (n : ℕ) → a ≡ Item.Fault n → whole ≡ refused n
+        going-fault n e = next (bad n) (subst Told e p)
+
+        pub going-done : a ≡ Item.Zero → Read text whole (most .literals) before after stamp e (total - before)
+        going-done z =
+            let q = subst Told z p in
+            record {
+              clause = g .here;
+              is = next zero (q .0);
+              size = omega (arith, g .counted);
+              within = f .within;
+              few = omega (arith, g .counted, g .few);
+              below = q .1 .below;
+            }
+
+        pub going-on : (l : ℤ) → a ≡ Item.Literal l → Going after e (total + 1)
+        going-on l z =
+            let q = subst Told z p in
+            record {
+              here = g .here ++ (l ∷ []);
+              inside = f .within;
+              counted = rw (length-append (g .here) (l ∷ [])) (omega (arith, g .counted));
+              few = omega (arith, leb-false (most .literals) total (not-full v (leb (most .literals) total) (g .here) word l (q .0)));
+              marks = q .1;
+              same = sym (next (literal l) (q .0));
+            }

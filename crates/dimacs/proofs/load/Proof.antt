@@ -1,0 +1,52 @@
+use denote.Ref.{now}
+use Rattle.text.proofs.Extra.{rest-is}
+use Rattle.dimacs.proofs.Checking.{header-next}
+use Rattle.dimacs.proofs.Loads.{load-fault, load-value}
+use borrow.Author.Needs.{needs}
+use Rattle.dimacs.proofs.load.Statement.{statement}
+use Rattle.dimacs.proofs.load.Tie as tie
+
+read-header-requires : tie.Need-read-header-requires
+read-header-requires c κs = search needs
+
+enum-told : tie.Need-enum-told
+enum-told c = search needs
+
+enum-known-c : tie.Need-enum-known-c
+enum-known-c c = search needs
+
+sub-load-clauses : tie.Need-sub-load-clauses
+sub-load-clauses c = header-next (c .before .before .before .before .before .args .most) (now (c .before .before .before .before .before .args .text)) _ (c .before .before .before .read-header .ensures) _ _ _ (c .before .c .given .1)
+
+part-load-clauses-start : tie.Need-part-load-clauses-start
+part-load-clauses-start c = header-next (c .before .before .before .before .before .args .most) (now (c .before .before .before .before .before .args .text)) _ (c .before .before .before .read-header .ensures) _ _ _ (c .before .c .given .1)
+
+part-load-clauses-end : tie.Need-part-load-clauses-end
+part-load-clauses-end c = search needs
+
+load-clauses-requires : tie.Need-load-clauses-requires
+load-clauses-requires c κs = search needs
+
+returns : tie.Need-returns
+returns c = λ i e. load-fault (c .before .before .before .before .args .most) (c .before .before .before .before .pre) (now (c .before .before .before .before .args .text)) _ (c .before .before .read-header .ensures) (now (c .before .before .before .before .args .store)) _ i e _ (c .enum-told .given .1)
+
+same-length : tie.Need-same-length
+same-length c = search needs
+
+returns-2 : tie.Need-returns-2
+returns-2 c = λ i e. load-value (c .before .before .before .before .before .before .before .before .before .args .most) (c .before .before .before .before .before .before .before .before .before .pre) (now (c .before .before .before .before .before .before .before .before .before .args .text)) _ (c .before .before .before .before .before .before .before .read-header .ensures) (now (c .before .before .before .before .before .before .before .before .before .args .store)) _ i e _ _ _ (c .before .before .before .before .before .c .given .1) _ (rest-is (now (c .before .before .before .before .before .before .before .before .before .args .text)) _) (c .before .load-clauses .ensures)
+
+pub load-spec : {M : Type 1} → statement M
+load-spec =
+    tie.close
+    (tie.spec
+    read-header-requires
+    enum-told
+    enum-known-c
+    sub-load-clauses
+    part-load-clauses-start
+    part-load-clauses-end
+    load-clauses-requires
+    returns
+    same-length
+    returns-2)

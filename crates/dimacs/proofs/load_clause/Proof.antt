@@ -1,0 +1,76 @@
+use Rattle.dimacs.proofs.Loads.{storing-less}
+use borrow.Author.Needs.{needs}
+use borrow.Author.Needs.{needs}
+use mathlib.Core.Path.{sym, ap, _∙_}
+use Prim.Native.Nat.{_-_}
+use native.Mathlib.Omega.{arith}
+use lib.IntN.{ℤ}
+use lib.ListN.{length, set, length-set}
+use denote.Ref.{now}
+use borrow.Author.Needs.{sfits-of}
+use Rattle.literals.proofs.Laws.{at-arg}
+use Rattle.dimacs.specs.declared.Step.the-variants as Step
+use Rattle.dimacs.proofs.Loads.{Storing, storing-start, storing-on, storing-end}
+use Rattle.dimacs.proofs.load_clause.Statement.{statement}
+use Rattle.dimacs.proofs.load_clause.Tie as tie
+
+abbrev Inv-loop : tie.InvT-loop
+Inv-loop text store₀ at₀ n₀ store at n = Storing text store₀ store at n
+
+abbrev μ-loop : tie.MeasureT-loop
+μ-loop text store₀ at₀ n₀ store at n = length text - at
+
+loop-holds : tie.Need-loop-holds Inv-loop μ-loop
+loop-holds c = storing-start (now (c .before .args .text)) (now (c .before .args .store))
+
+next-step-requires : tie.Need-next-step-requires Inv-loop μ-loop
+next-step-requires c κs = c .loop .inv .inside
+
+enum-known-end : tie.Need-enum-known-end Inv-loop μ-loop
+enum-known-end c = search needs
+
+header-requires : tie.Need-header-requires Inv-loop μ-loop
+header-requires c κs = search needs
+
+put-requires : tie.Need-put-requires Inv-loop μ-loop
+put-requires c κs = search needs
+
+same-length : tie.Need-same-length Inv-loop μ-loop
+same-length c = ap length (c .before .put .ensures) ∙ simp length-set (c .before .before .before .before .before .before .before .before .loop .inv .len)
+
+returns : tie.Need-returns Inv-loop μ-loop
+returns c = storing-end (now (c .before .before .before .before .before .before .before .before .before .before .args .text)) (now (c .before .before .before .before .before .before .before .before .before .before .args .store)) (c .before .before .before .before .before .before .before .before .loop .store) (c .before .before .before .before .before .before .before .before .loop .at) (c .before .before .before .before .before .before .before .before .loop .n) (c .before .before .before .before .before .before .before .before .loop .inv) _ (c .before .before .before .before .before .before .before .next-step .ensures) _ (c .before .before .before .before .before .end .given .1) _ (c .before .put .ensures ∙ ap (set (c .before .before .before .before .before .before .before .before .loop .store) 0) (at-arg (λ (z : ℤ). z) (c .before .before .header .result) (sfits-of (c .before .before .header .ok)) ∙ c .before .before .header .ensures))
+
+enum-known-l : tie.Need-enum-known-l Inv-loop μ-loop
+enum-known-l c = search needs
+
+add-n : tie.Need-add-n Inv-loop μ-loop
+add-n c = let x = c .before .l .given .0 .0 in let q = c .before .l .given .1 ∙ sym (at-arg (λ (z : ℤ). Step.Literal z (c .before .l .given .0 .1 .0)) x (search needs)) in let f = storing-less (now (c .before .before .before .before .before .before .args .text)) (now (c .before .before .before .before .before .before .args .store)) (c .before .before .before .before .loop .store) (c .before .before .before .before .loop .at) (c .before .before .before .before .loop .n) (c .before .before .before .before .loop .inv) _ (c .before .before .before .next-step .ensures) _ _ q in record { fits = omega (arith, f .0, f .1, c .before .before .before .before .loop .inv .fewer) }
+
+put-requires-2 : tie.Need-put-requires-2 Inv-loop μ-loop
+put-requires-2 c κs = search needs
+
+loop-less : tie.Need-loop-less Inv-loop μ-loop
+loop-less c = let x = c .before .before .before .before .l .given .0 .0 in let q = c .before .before .before .before .l .given .1 ∙ sym (at-arg (λ (z : ℤ). Step.Literal z (c .before .before .before .before .l .given .0 .1 .0)) x (search needs)) in let f = storing-less (now (c .before .before .before .before .before .before .before .before .before .args .text)) (now (c .before .before .before .before .before .before .before .before .before .args .store)) (c .before .before .before .before .before .before .before .loop .store) (c .before .before .before .before .before .before .before .loop .at) (c .before .before .before .before .before .before .before .loop .n) (c .before .before .before .before .before .before .before .loop .inv) _ (c .before .before .before .before .before .before .next-step .ensures) _ _ q in omega (arith, f .0, f .1)
+
+loop-again : tie.Need-loop-again Inv-loop μ-loop
+loop-again c = let x = c .before .before .before .before .l .given .0 .0 in let q = c .before .before .before .before .l .given .1 ∙ sym (at-arg (λ (z : ℤ). Step.Literal z (c .before .before .before .before .l .given .0 .1 .0)) x (search needs)) in storing-on (now (c .before .before .before .before .before .before .before .before .before .args .text)) (now (c .before .before .before .before .before .before .before .before .before .args .store)) (c .before .before .before .before .before .before .before .loop .store) (c .before .before .before .before .before .before .before .loop .at) (c .before .before .before .before .before .before .before .loop .n) (c .before .before .before .before .before .before .before .loop .inv) _ (c .before .before .before .before .before .before .next-step .ensures) _ _ q _ (c .before .put2 .ensures)
+
+pub load-clause-spec : {M : Type 1} → statement M
+load-clause-spec =
+    tie.close
+    (tie.spec
+    Inv-loop
+    μ-loop
+    loop-holds
+    next-step-requires
+    enum-known-end
+    header-requires
+    put-requires
+    same-length
+    returns
+    enum-known-l
+    add-n
+    put-requires-2
+    loop-less
+    loop-again)

@@ -1,0 +1,103 @@
+use mathlib.Core.Path.{_∙_}
+use denote.Ref.{now}
+use Rattle.text.proofs.Extra.{rest-is}
+use Rattle.dimacs.proofs.Loads.{after-length}
+use borrow.Author.Needs.{needs}
+use Prim.Native.Nat.{_-_}
+use native.Mathlib.Omega.{arith}
+use Rattle.dimacs.proofs.Loads.{Loading, loading-start, loading-end, loading-full, loading-on}
+use Rattle.dimacs.proofs.load_clauses.Statement.{statement}
+use Rattle.dimacs.proofs.load_clauses.Tie as tie
+
+abbrev Inv-loop : tie.InvT-loop
+Inv-loop text clauses store₀ at₀ end₀ done₀ store at end done = Loading text clauses store₀ store at end done
+
+abbrev μ-loop : tie.MeasureT-loop
+μ-loop text clauses store₀ at₀ end₀ done₀ store at end done = clauses - done
+
+loop-holds : tie.Need-loop-holds Inv-loop μ-loop
+loop-holds c = loading-start (now (c .before .args .text)) (c .before .args .clauses) (now (c .before .args .store))
+
+sub-load-clause : tie.Need-sub-load-clause Inv-loop μ-loop
+sub-load-clause c = c .before .loop .inv .inside
+
+part-load-clause-start : tie.Need-part-load-clause-start Inv-loop μ-loop
+part-load-clause-start c = c .before .loop .inv .inside
+
+part-load-clause-end : tie.Need-part-load-clause-end Inv-loop μ-loop
+part-load-clause-end c = omega arith
+
+mul-load-clause : tie.Need-mul-load-clause Inv-loop μ-loop
+mul-load-clause c = search needs
+
+sub-load-clause-2 : tie.Need-sub-load-clause-2 Inv-loop μ-loop
+sub-load-clause-2 c = c .before .before .loop .inv .room
+
+part-load-clause-start-2 : tie.Need-part-load-clause-start-2 Inv-loop μ-loop
+part-load-clause-start-2 c = c .before .before .loop .inv .room
+
+part-load-clause-end-2 : tie.Need-part-load-clause-end-2 Inv-loop μ-loop
+part-load-clause-end-2 c = omega arith
+
+load-clause-requires : tie.Need-load-clause-requires Inv-loop μ-loop
+load-clause-requires c κs = tt
+
+sub-if1 : tie.Need-sub-if1 Inv-loop μ-loop
+sub-if1 c = omega (arith, c .before .before .before .before .before .loop .inv .room, after-length (now (c .before .before .before .before .before .before .before .args .text)) (c .before .before .before .before .before .before .before .args .clauses) (now (c .before .before .before .before .before .before .before .args .store)) (c .before .before .before .before .before .loop .store) (c .before .before .before .before .before .loop .at) (c .before .before .before .before .before .loop .end) (c .before .before .before .before .before .loop .done) (c .before .before .before .before .before .loop .inv) (c .before .before .before .before .loop-test .taken) _ (rest-is (now (c .before .before .before .before .before .before .before .args .text)) (c .before .before .before .before .before .loop .at)) _ _ _ (c .before .load-clause .ensures))
+
+same-length : tie.Need-same-length Inv-loop μ-loop
+same-length c = after-length (now (c .before .before .before .before .before .before .before .before .args .text)) (c .before .before .before .before .before .before .before .before .args .clauses) (now (c .before .before .before .before .before .before .before .before .args .store)) (c .before .before .before .before .before .before .loop .store) (c .before .before .before .before .before .before .loop .at) (c .before .before .before .before .before .before .loop .end) (c .before .before .before .before .before .before .loop .done) (c .before .before .before .before .before .before .loop .inv) (c .before .before .before .before .before .loop-test .taken) _ (rest-is (now (c .before .before .before .before .before .before .before .before .args .text)) (c .before .before .before .before .before .before .loop .at)) _ _ _ (c .before .before .load-clause .ensures) ∙ c .before .before .before .before .before .before .loop .inv .len
+
+returns : tie.Need-returns Inv-loop μ-loop
+returns c = loading-full (now (c .before .before .before .before .before .before .before .before .args .text)) (c .before .before .before .before .before .before .before .before .args .clauses) (now (c .before .before .before .before .before .before .before .before .args .store)) (c .before .before .before .before .before .before .loop .store) (c .before .before .before .before .before .before .loop .at) (c .before .before .before .before .before .before .loop .end) (c .before .before .before .before .before .before .loop .done) (c .before .before .before .before .before .before .loop .inv) (c .before .before .before .before .before .loop-test .taken) _ (rest-is (now (c .before .before .before .before .before .before .before .before .args .text)) (c .before .before .before .before .before .before .loop .at)) _ _ _ (c .before .before .load-clause .ensures) (c .if1 .taken)
+
+add-at : tie.Need-add-at Inv-loop μ-loop
+add-at c = record { fits = omega (arith, loading-on (now (c .before .before .before .before .before .before .before .before .before .args .text)) (c .before .before .before .before .before .before .before .before .before .args .clauses) (now (c .before .before .before .before .before .before .before .before .before .args .store)) (c .before .before .before .before .before .before .before .loop .store) (c .before .before .before .before .before .before .before .loop .at) (c .before .before .before .before .before .before .before .loop .end) (c .before .before .before .before .before .before .before .loop .done) (c .before .before .before .before .before .before .before .loop .inv) (c .before .before .before .before .before .before .loop-test .taken) _ (rest-is (now (c .before .before .before .before .before .before .before .before .before .args .text)) (c .before .before .before .before .before .before .before .loop .at)) _ _ _ (c .before .before .before .load-clause .ensures) (c .before .if1 .left) .inside) }
+
+add-end : tie.Need-add-end Inv-loop μ-loop
+add-end c = record { fits = omega (arith, loading-on (now (c .before .before .before .before .before .before .before .before .before .args .text)) (c .before .before .before .before .before .before .before .before .before .args .clauses) (now (c .before .before .before .before .before .before .before .before .before .args .store)) (c .before .before .before .before .before .before .before .loop .store) (c .before .before .before .before .before .before .before .loop .at) (c .before .before .before .before .before .before .before .loop .end) (c .before .before .before .before .before .before .before .loop .done) (c .before .before .before .before .before .before .before .loop .inv) (c .before .before .before .before .before .before .loop-test .taken) _ (rest-is (now (c .before .before .before .before .before .before .before .before .before .args .text)) (c .before .before .before .before .before .before .before .loop .at)) _ _ _ (c .before .before .before .load-clause .ensures) (c .before .if1 .left) .room) }
+
+add-end-2 : tie.Need-add-end-2 Inv-loop μ-loop
+add-end-2 c = record { fits = omega (arith, loading-on (now (c .before .before .before .before .before .before .before .before .before .args .text)) (c .before .before .before .before .before .before .before .before .before .args .clauses) (now (c .before .before .before .before .before .before .before .before .before .args .store)) (c .before .before .before .before .before .before .before .loop .store) (c .before .before .before .before .before .before .before .loop .at) (c .before .before .before .before .before .before .before .loop .end) (c .before .before .before .before .before .before .before .loop .done) (c .before .before .before .before .before .before .before .loop .inv) (c .before .before .before .before .before .before .loop-test .taken) _ (rest-is (now (c .before .before .before .before .before .before .before .before .before .args .text)) (c .before .before .before .before .before .before .before .loop .at)) _ _ _ (c .before .before .before .load-clause .ensures) (c .before .if1 .left) .room) }
+
+add-done : tie.Need-add-done Inv-loop μ-loop
+add-done c = record { fits = omega (arith, c .before .before .before .before .before .before .loop-test .taken) }
+
+loop-less : tie.Need-loop-less Inv-loop μ-loop
+loop-less c = omega arith
+
+loop-again : tie.Need-loop-again Inv-loop μ-loop
+loop-again c = loading-on (now (c .before .before .before .before .before .before .before .before .before .args .text)) (c .before .before .before .before .before .before .before .before .before .args .clauses) (now (c .before .before .before .before .before .before .before .before .before .args .store)) (c .before .before .before .before .before .before .before .loop .store) (c .before .before .before .before .before .before .before .loop .at) (c .before .before .before .before .before .before .before .loop .end) (c .before .before .before .before .before .before .before .loop .done) (c .before .before .before .before .before .before .before .loop .inv) (c .before .before .before .before .before .before .loop-test .taken) _ (rest-is (now (c .before .before .before .before .before .before .before .before .before .args .text)) (c .before .before .before .before .before .before .before .loop .at)) _ _ _ (c .before .before .before .load-clause .ensures) (c .before .if1 .left)
+
+same-length-2 : tie.Need-same-length-2 Inv-loop μ-loop
+same-length-2 c = c .before .loop .inv .len
+
+returns-2 : tie.Need-returns-2 Inv-loop μ-loop
+returns-2 c = loading-end (now (c .before .before .before .args .text)) (c .before .before .before .args .clauses) (now (c .before .before .before .args .store)) (c .before .loop .store) (c .before .loop .at) (c .before .loop .end) (c .before .loop .done) (c .before .loop .inv) (c .loop-test .left)
+
+pub load-clauses-spec : {M : Type 1} → statement M
+load-clauses-spec =
+    tie.close
+    (tie.spec
+    Inv-loop
+    μ-loop
+    loop-holds
+    sub-load-clause
+    part-load-clause-start
+    part-load-clause-end
+    mul-load-clause
+    sub-load-clause-2
+    part-load-clause-start-2
+    part-load-clause-end-2
+    load-clause-requires
+    sub-if1
+    same-length
+    returns
+    add-at
+    add-end
+    add-end-2
+    add-done
+    loop-less
+    loop-again
+    same-length-2
+    returns-2)

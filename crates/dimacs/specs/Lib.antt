@@ -1,0 +1,5 @@
+pub mod Clause
+pub mod HeaderLine
+pub mod Marks
+pub mod Outcome
+pub mod Loading

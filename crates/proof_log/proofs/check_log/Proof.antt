@@ -1,0 +1,99 @@
+use borrow.Author.Needs.{needs}
+use borrow.Author.Needs.{needs}
+use native.Mathlib.Omega.{arith}
+use mathlib.Core.Path.{sym}
+use Prim.Native.Nat.{ℕ, _-_}
+use lib.ListN.{replicate, length-replicate}
+use Rattle.proof_log.proofs.Stamps.{below-start}
+use Rattle.proof_log.proofs.Log.{Checking, checking-start, checking-end, checking-short, checking-fault, checking-found, checking-step, next-inside, numbers-room}
+use Rattle.proof_log.proofs.check_log.Statement.{statement}
+use Rattle.proof_log.proofs.check_log.Tie as tie
+
+abbrev Inv-loop : tie.InvT-loop
+Inv-loop log kept seen₀ at₀ lines₀ numbers₀ highest₀ seen at lines numbers highest = Checking log kept at lines numbers highest seen
+
+abbrev μ-loop : tie.MeasureT-loop
+μ-loop log kept seen₀ at₀ lines₀ numbers₀ highest₀ seen at lines numbers highest = kept - lines
+
+loop-holds : tie.Need-loop-holds Inv-loop μ-loop
+loop-holds c = checking-start (c .before .args .log .now) (c .before .args .kept) (replicate 140_002 0) (length-replicate {A = ℕ} 140_002 0) (below-start 140_002)
+
+returns : tie.Need-returns Inv-loop μ-loop
+returns c = checking-short (c .before .before .loop .inv) (c .before .loop-test .taken) (c .if1 .taken)
+
+sub-read-line : tie.Need-sub-read-line Inv-loop μ-loop
+sub-read-line c = search needs
+
+part-read-line-start : tie.Need-part-read-line-start Inv-loop μ-loop
+part-read-line-start c = search needs
+
+part-read-line-end : tie.Need-part-read-line-end Inv-loop μ-loop
+part-read-line-end c = search needs
+
+slice-aggregate-read-line : tie.Need-slice-aggregate-read-line Inv-loop μ-loop
+slice-aggregate-read-line c = sym (c .before .before .before .before .loop .inv .size)
+
+add-read-line : tie.Need-add-read-line Inv-loop μ-loop
+add-read-line c = search needs
+
+read-line-requires : tie.Need-read-line-requires Inv-loop μ-loop
+read-line-requires c κs = (omega (arith, c .before .before .before .before .loop .inv .size), c .before .before .before .before .loop .inv .below)
+
+enum-known-next : tie.Need-enum-known-next Inv-loop μ-loop
+enum-known-next c = search needs
+
+add-at : tie.Need-add-at Inv-loop μ-loop
+add-at c = let f = (checking-found (c .before .before .before .before .before .before .before .before .before .loop .inv) (c .before .before .before .before .before .before .before .before .loop-test .taken) (c .before .before .before .before .before .before .before .if1 .left) (c .before .before .before .before .read-line .ensures .0) (c .before .next .given .1)) in record { fits = omega (arith, next-inside (c .before .before .before .before .before .before .before .before .before .loop .inv) (c .before .before .before .before .before .before .before .before .loop-test .taken) (c .before .before .before .before .before .before .before .if1 .left) f) }
+
+add-lines : tie.Need-add-lines Inv-loop μ-loop
+add-lines c = search needs
+
+add-numbers : tie.Need-add-numbers Inv-loop μ-loop
+add-numbers c = let f = (checking-found (c .before .before .before .before .before .before .before .before .before .loop .inv) (c .before .before .before .before .before .before .before .before .loop-test .taken) (c .before .before .before .before .before .before .before .if1 .left) (c .before .before .before .before .read-line .ensures .0) (c .before .next .given .1)) in record { fits = omega (arith, next-inside (c .before .before .before .before .before .before .before .before .before .loop .inv) (c .before .before .before .before .before .before .before .before .loop-test .taken) (c .before .before .before .before .before .before .before .if1 .left) f, numbers-room (c .before .before .before .before .before .before .before .before .before .loop .inv) (c .before .before .before .before .before .before .before .before .loop-test .taken) (c .before .before .before .before .before .before .before .if1 .left) f) }
+
+add-numbers-2 : tie.Need-add-numbers-2 Inv-loop μ-loop
+add-numbers-2 c = let f = (checking-found (c .before .before .before .before .before .before .before .before .before .loop .inv) (c .before .before .before .before .before .before .before .before .loop-test .taken) (c .before .before .before .before .before .before .before .if1 .left) (c .before .before .before .before .read-line .ensures .0) (c .before .next .given .1)) in record { fits = omega (arith, next-inside (c .before .before .before .before .before .before .before .before .before .loop .inv) (c .before .before .before .before .before .before .before .before .loop-test .taken) (c .before .before .before .before .before .before .before .if1 .left) f, numbers-room (c .before .before .before .before .before .before .before .before .before .loop .inv) (c .before .before .before .before .before .before .before .before .loop-test .taken) (c .before .before .before .before .before .before .before .if1 .left) f) }
+
+greater-requires : tie.Need-greater-requires Inv-loop μ-loop
+greater-requires c κs = search needs
+
+loop-less : tie.Need-loop-less Inv-loop μ-loop
+loop-less c = search needs
+
+loop-again : tie.Need-loop-again Inv-loop μ-loop
+loop-again c = checking-step (c .before .before .before .before .before .before .before .before .before .before .loop .inv) (c .before .before .before .before .before .before .before .before .before .loop-test .taken) (c .before .before .before .before .before .before .before .before .if1 .left) (checking-found (c .before .before .before .before .before .before .before .before .before .before .loop .inv) (c .before .before .before .before .before .before .before .before .before .loop-test .taken) (c .before .before .before .before .before .before .before .before .if1 .left) (c .before .before .before .before .before .read-line .ensures .0) (c .before .before .next .given .1)) (c .greater .ensures) (c .before .before .before .before .before .read-line .kept .1 .0) (c .before .before .before .before .before .read-line .ensures .1)
+
+enum-told : tie.Need-enum-told Inv-loop μ-loop
+enum-told c = search needs
+
+returns-2 : tie.Need-returns-2 Inv-loop μ-loop
+returns-2 c = checking-fault (c .before .before .before .before .before .before .before .before .loop .inv) (c .before .before .before .before .before .before .before .loop-test .taken) (c .before .before .before .before .before .before .if1 .left) (c .before .before .before .read-line .ensures .0) (c .enum-told .given .1)
+
+returns-3 : tie.Need-returns-3 Inv-loop μ-loop
+returns-3 c = checking-end (c .before .loop .inv) (c .loop-test .left)
+
+pub check-log-spec : {M : Type 1} → statement M
+check-log-spec =
+    tie.close
+    (tie.spec
+    Inv-loop
+    μ-loop
+    loop-holds
+    returns
+    sub-read-line
+    part-read-line-start
+    part-read-line-end
+    slice-aggregate-read-line
+    add-read-line
+    read-line-requires
+    enum-known-next
+    add-at
+    add-lines
+    add-numbers
+    add-numbers-2
+    greater-requires
+    loop-less
+    loop-again
+    enum-told
+    returns-2
+    returns-3)

@@ -13,8 +13,7 @@ use borrow.Author.Tests.{eq-eqb, ne-eqb}
 use Rattle.definition.specs.Text.{Bytes, is, text-lines, without-last-cr, line-text, same-bytes}
 use Rattle.definition.specs.Answer.{begins-with}
 use Rattle.laws.proofs.Tests.{to-true, to-false}
-use Rattle.round_trips.proofs.Words.{Free, free-++, first-line}
-use Rattle.answers.proofs.Extra.{last-cr, last-line, same-length, same-turned}
+use Rattle.round_trips.proofs.Words.{Free, free-++, first-line, last-cr, last-line, same-length, same-turned}
 use Rattle.answers.specs.Lines.{part, Line-end, Trimmed, First-line}
 
 part-empty : (at : ℕ) (t : Bytes) → part at at t ≡ []

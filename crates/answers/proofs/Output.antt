@@ -18,7 +18,7 @@ use Rattle.literals.specs.Literal.{signed-of}
 use Rattle.literals.proofs.Laws.{signed-small}
 use Rattle.text.specs.Output.{Put}
 use Rattle.text.proofs.Output.{put-then, put-same, put-none, literal-length}
-use Rattle.answers.proofs.Extra.{for-from-snoc}
+use Rattle.laws.proofs.Loops.{for-from-snoc}
 use Rattle.answers.specs.Table.{marked}
 use Rattle.answers.specs.Output.{value-text, values-text}
 

@@ -25,7 +25,7 @@ use Rattle.answers.specs.declared.AnswerRead.the-variants as AnswerRead
 use Rattle.answers.specs.Table.{Table, marked, naming}
 use Rattle.answers.specs.Lines.{part, First-line}
 use Rattle.answers.specs.Reading.{waiting-at, open-at, read-literal, Reached, Steps, Steps-open, closing, Ends, Read-as}
-use Rattle.answers.proofs.Extra.{bind-bind, bind-end}
+use Rattle.laws.proofs.Outcomes.{bind-bind, bind-end}
 use Rattle.answers.proofs.Table.{marked-assigned, variable-named, table-start, table-naming}
 
 -- ---- a number before the closing `0`

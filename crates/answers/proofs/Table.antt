@@ -18,9 +18,8 @@ use Rattle.definition.specs.Literals.{Clause, same, holds}
 use Rattle.definition.specs.Assignments.{Assignment, true-in, has-true, sign, make-true}
 use Rattle.definition.specs.Calls.{assigned}
 use Rattle.laws.proofs.Tests.{differ}
-use Rattle.laws.proofs.Members.{unlike-false}
+use Rattle.laws.proofs.Members.{unlike-false, holds-snoc}
 use Rattle.literals.specs.Literal.{negative}
-use Rattle.answers.proofs.Extra.{holds-snoc}
 use Rattle.answers.specs.Table.{Table, marked, entry-of, naming}
 
 -- ---- the assignment

@@ -14,8 +14,8 @@ use Rattle.laws.proofs.Tests.{differ}
 use Rattle.literals.specs.Literal.{header-literals}
 use Rattle.clauses.specs.Store.{Formed-from, Formed, stored-from, stored, size-at, deleted-at, clause-at, past, marked, Place, begins-with, place-from, place-of, Deleted}
 use Rattle.clauses.specs.declared.Found.the-variants.{At, Nothing}
-use Rattle.clauses.proofs.Parts.{drop-step, drop-end}
-use Rattle.clauses.proofs.Extra.{stands-past, take-out-past, take-out-none, stands-first, take-out-first}
+use Rattle.laws.proofs.Slices.{drop-step, drop-end}
+use Rattle.laws.proofs.Removal.{stands-past, take-out-past, take-out-none, stands-head, take-out-head}
 use Rattle.clauses.proofs.Laws.{drop-past, past-is, place-within, place-formed, stored-around, marked-place, marked-stored}
 
 place-skip : (c : Clause) (k at : ℕ) (s : List ℤ) → place-from c k at s ≡ place-from c 0 (at + k) (drop k s)
@@ -140,7 +140,7 @@ hit-stands c s p f e =
     let r = hit c s p e in
     ap (stands c) (stored-around s p (r .inside) (r .place f) (r .stays))
     ∙ stands-past c (stored (take p s)) (clause-at s p ∷ stored (drop (past s p) s)) (r .none)
-    ∙ stands-first c (clause-at s p) (stored (drop (past s p) s)) (r .same)
+    ∙ stands-head c (clause-at s p) (stored (drop (past s p) s)) (r .same)
 
 pub deleted-hit : (c s t : List ℤ) (p : ℕ) → Formed s → place-of c s ≡ At p → t ≡ marked s p → Deleted c s true t
 deleted-hit c s t p f e d =
@@ -153,7 +153,7 @@ deleted-hit c s t p f e d =
           marked-stored s p (r .inside) l (r .stays)
           ∙ sym (ap (take-out c) (stored-around s p (r .inside) l (r .stays))
           ∙ take-out-past c (stored (take p s)) (clause-at s p ∷ stored (drop (past s p) s)) (r .none)
-          ∙ ap (λ (a : Formula). stored (take p s) ++ a) (take-out-first c (clause-at s p) (stored (drop (past s p) s)) (r .same)));
+          ∙ ap (λ (a : Formula). stored (take p s) ++ a) (take-out-head c (clause-at s p) (stored (drop (past s p) s)) (r .same)));
     })
 
 pub deleted-miss : (c s : List ℤ) → Formed s → place-of c s ≡ Nothing → Deleted c s false s

@@ -17,8 +17,8 @@ use Rattle.literals.specs.Literal.{largest, negative, header-of, flip, header-l
 use Rattle.literals.proofs.Laws.{flip-negative, literals-flip, literals-header, header-stands}
 use Rattle.clauses.specs.Store.{Formed-from, Formed, stored-from, stored, entry, header-at, size-at, deleted-at, clause-at, past, marked, Place, fits-in, end-after, with-entry}
 use Rattle.clauses.specs.declared.Added.the-variants.{To, Full}
-use Rattle.clauses.proofs.Parts.{drop-step, drop-end, take-sets, drop-sets, taken-sets}
-use Rattle.clauses.proofs.Extra.{numbers-none, numbers-first}
+use Rattle.laws.proofs.Slices.{drop-step, drop-end, sets-before, sets-after, taken-sets}
+use Rattle.laws.proofs.Clauses.{numbers-none, numbers-first}
 
 -- ---- what follows a clause's literals
 
@@ -292,8 +292,8 @@ appended old new end r c h e w = go (fits-in (length old) end c) refl e w
           within = rw (n, length-sets old end (entry c)) (omega arith);
           small = a;
           filled = f;
-          before = rw n (take-sets end (entry c) old end (omega arith));
-          behind = rw n (drop-sets r (entry c) old end (omega arith));
+          before = rw n (sets-before (entry c) old end end (omega arith));
+          behind = rw n (sets-after (entry c) old end r (omega arith));
           formed = λ g. rw f (added-formed (take end old) c g a);
           standing = λ g. ap stored f ∙ added-stored (take end old) c g a;
         }

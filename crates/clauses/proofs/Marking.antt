@@ -15,7 +15,7 @@ use Rattle.laws.proofs.Members.{same-eq, same-refl}
 use Rattle.literals.specs.Literal.{index-of}
 use Rattle.literals.proofs.Laws.{index-injective}
 use Rattle.clauses.specs.Marks.{with-marks, Marks}
-use Rattle.clauses.proofs.Parts.{drop-step, drop-end}
+use Rattle.laws.proofs.Slices.{drop-step, drop-end}
 
 pub marks-step : (t : List ℕ) (s : Clause) (i : ℕ) → i < length s → with-marks (set t (index-of (getD s i (pos 0))) 1) (drop (i + 1) s) ≡ with-marks t (drop i s)
 unfolding with-marks

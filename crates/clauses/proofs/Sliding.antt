@@ -12,8 +12,8 @@ use Rattle.definition.specs.Literals.{Formula}
 use Rattle.definition.specs.Calls.{numbers-of}
 use Rattle.laws.proofs.Tests.{by-test}
 use Rattle.clauses.specs.Store.{Formed, stored-from, stored, header-at, size-at, deleted-at, clause-at, past, slid, slid-to, filled-by, Compacted}
-use Rattle.clauses.proofs.Parts.{drop-sets, taken-sets}
-use Rattle.clauses.proofs.Extra.{numbers-none, numbers-first, numbers-++}
+use Rattle.laws.proofs.Slices.{sets-after, taken-sets}
+use Rattle.laws.proofs.Clauses.{numbers-none, numbers-first, numbers-++}
 use Rattle.clauses.proofs.Laws.{formed-++, stored-++, stored-end, formed-next, rest-deleted, rest-stands, piece, clause-length, formed-one-at, stored-one-at}
 
 -- ---- the entry at a place, moved down
@@ -25,7 +25,7 @@ module _ (s : List ℤ) (to from : ℕ) (l : to ≤ from) (h : from < length s) 
   moved-length = length-take-le (1 + size-at s from) (drop from s) (omega (arith, formed-next s from h f .0, length-drop from s))
 
   moved-behind : drop (past s from) moved ≡ drop (past s from) s
-  moved-behind = drop-sets (past s from) (take (1 + size-at s from) (drop from s)) s to (omega (arith, moved-length))
+  moved-behind = sets-after (take (1 + size-at s from) (drop from s)) s to (past s from) (omega (arith, moved-length))
 
   moved-front : take (to + (1 + size-at s from)) moved ≡ take to s ++ header-at s from ∷ clause-at s from
   moved-front =

@@ -15,7 +15,7 @@ use Rattle.laws.proofs.Members.{same-eq, holds-mem, any-mem, Proper, Proper-all
 use Rattle.literals.specs.Literal.{index-of}
 use Rattle.clauses.specs.Store.{stored, deleted-at, past}
 use Rattle.clauses.specs.Tally.{most, bumped, tallied, tallied-all, tallied-at}
-use Rattle.clauses.proofs.Parts.{drop-step, drop-end}
+use Rattle.laws.proofs.Slices.{drop-step, drop-end}
 use Rattle.clauses.proofs.Marking.{set-at}
 use Rattle.clauses.proofs.Laws.{rest-deleted, rest-stands, stored-end}
 

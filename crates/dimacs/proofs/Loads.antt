@@ -24,7 +24,7 @@ use Rattle.text.specs.Numbers.{number-class}
 use Rattle.text.specs.declared.Number.{Number}
 use Rattle.text.specs.declared.Number.the-variants as Number
 use Rattle.text.proofs.Words.{First, words-past}
-use Rattle.text.proofs.Extra.{sets-then, sets-first, sets-past, sets-rest}
+use Rattle.laws.proofs.Slices.{sets-then, sets-first, sets-past, sets-rest}
 use Rattle.dimacs.specs.Clause.{Word-read, bad, zero, literal, bad-if, number-read, word-read, Clause-read, refused, finished, ended, clause-by, full, first-clause}
 use Rattle.round_trips.proofs.Accepted.{accepted}
 use Rattle.dimacs.specs.HeaderLine.{limits-of, Countable, Header-post}

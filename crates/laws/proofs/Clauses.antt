@@ -1,9 +1,10 @@
 -- Proper clauses: with a literal more at the end, and what the tests for repeated and opposed literals say. Assumes nothing.
+use Rattle.definition.specs.Calls.{numbers-of}
 use mathlib.Core.Path.{_≡_, refl, sym, ap}
 use mathlib.Core.Bool.{false}
 use mathlib.Core.Logic.{_≢_, ⊎-elim}
 use mathlib.Core.List.{List, [], _∷_, _++_, List·Memᴰ, List·Memᴰ·head as here, List·Memᴰ·tail as there, List·Memᴰ·not-nil, List·Memᴰ·cases-cons, List·Memᴰ·append-cases, List·Memᴰ·eq-of-singleton, Memᴰ·append-right}
-use Prim.Native.Nat.{ℕ, _+_}
+use Prim.Native.Nat.{ℕ, _+_, _≤_}
 use native.Mathlib.Omega.{arith}
 use lib.IntN.{ℤ, pos, negsuc, negℤ, natAbs}
 use lib.ListN.{length}
@@ -78,3 +79,22 @@ same-sum w c d p q s = omega (arith, sum-within w c d (proper-distinct c p) (s .
 
 pub same-length : (c d : Clause) → Proper c → Proper d → Same c d → length c ≡ length d
 same-length c d p q s = omega (arith, same-sum (λ _. 1) c d p q s, count-length c, count-length d)
+
+-- ---- the size of a formula
+
+pub numbers-none : numbers-of [] ≡ 0
+unfolding numbers-of literals-of sum-of
+numbers-none = refl
+
+pub numbers-first : (c : Clause) (f : Formula) → numbers-of (c ∷ f) ≡ 1 + length c + numbers-of f
+unfolding numbers-of literals-of sum-of
+numbers-first c f = omega arith
+
+pub numbers-++ : (f g : Formula) → numbers-of (f ++ g) ≡ numbers-of f + numbers-of g
+numbers-++ [] g = omega (arith, numbers-none)
+numbers-++ (c ∷ f) g = omega (arith, numbers-first c (f ++ g), numbers-first c f, numbers-++ f g)
+
+-- a clause fills at least an element
+pub numbers-least : (f : Formula) → length f ≤ numbers-of f
+unfolding numbers-of
+numbers-least f = omega arith

@@ -8,3 +8,5 @@ pub mod Trues
 pub mod Removal
 pub mod Replay
 pub mod Outcomes
+pub mod Slices
+pub mod Digits

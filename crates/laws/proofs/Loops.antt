@@ -2,7 +2,7 @@
 use mathlib.Core.Path.{_≡_, refl, sym, _∙_, ap}
 use mathlib.Core.Logic.{⊎-elim}
 use mathlib.Core.Bool.{Bool, true, false, cond}
-use mathlib.Core.List.{List, [], _∷_, _++_, append-assoc, List·Memᴰ, List·Memᴰ·head as here, List·Memᴰ·tail as there, Memᴰ·append-left, Memᴰ·append-right, List·Memᴰ·append-cases}
+use mathlib.Core.List.{List, [], _∷_, _++_, append-assoc, List·Memᴰ, List·Memᴰ·head as here, List·Memᴰ·tail as there, Memᴰ·append-left, Memᴰ·append-right, List·Memᴰ·append-cases, append-nil}
 use mathlib.Core.Option.{Option, some, none}
 use Prim.Native.Nat.{ℕ, zero, suc, _+_, _≤_, _<_}
 use native.Mathlib.Omega.{arith}
@@ -136,3 +136,9 @@ module _ {A : Type 0} where
   some-first-from f i zero j x lo hi h e = absurd (omega arith)
   some-first-from f i (suc n) j x lo hi h e =
       by-order i j lo (λ d. rw (d, e)) (λ l. rw (h i (omega arith) l, or-else) (some-first-from f (suc i) n j x l (omega arith) (λ k a b. h k (omega arith) b) e))
+
+-- a number more
+pub for-from-snoc : {A : Type 0} (k n : ℕ) (f : ℕ → List A) → for-from k (suc n) f ≡ for-from k n f ++ f (k + n)
+unfolding for-from
+for-from-snoc k zero f = let e : k + 0 ≡ k = omega arith in rw (append-nil (f k), e) refl
+for-from-snoc k (suc n) f = let e : suc k + n ≡ k + suc n = omega arith in ap (λ (r : List _). f k ++ r) (for-from-snoc (suc k) n f) ∙ (rw (append-assoc, e) refl)

@@ -1,8 +1,8 @@
 -- Membership: what `any`, `all`, `holds`, `same-set` and `those` say of members. Assumes nothing.
 use mathlib.Core.Path.{_≡_, refl, sym, _∙_, ap}
 use mathlib.Core.Logic.{_≢_, _⊎_, inl, inr, ⊎-elim}
-use mathlib.Core.Bool.{Bool, true, false, cond}
-use mathlib.Core.List.{List, [], _∷_, List·Memᴰ, List·Memᴰ·head as here, List·Memᴰ·tail as there, Memᴰ·cast}
+use mathlib.Core.Bool.{Bool, true, false, cond, or-false, or-assoc, _||_}
+use mathlib.Core.List.{List, [], _∷_, List·Memᴰ, List·Memᴰ·head as here, List·Memᴰ·tail as there, Memᴰ·cast, _++_}
 use Prim.Native.Nat.{ℕ, zero, suc, _≤_, _<_}
 use native.Mathlib.Omega.{arith}
 use lib.Dec.{T, eqb→eq, eqb-refl}
@@ -220,3 +220,9 @@ Fits h f = (d : Clause) → List·Memᴰ d f → (x : ℤ) → List·Memᴰ x d 
 -- no clause holds the literal
 abbrev pub Absent : ℤ → Formula → Type 0
 Absent l F = (d : Clause) → List·Memᴰ d F → List·Memᴰ l d → ⊥
+
+-- a literal more at the end of a clause
+pub holds-snoc : (k : ℤ) (c : Clause) (l : ℤ) → holds k (c ++ (l ∷ [])) ≡ holds k c || same k l
+unfolding holds any
+holds-snoc k [] l = or-false (same k l)
+holds-snoc k (d ∷ c) l = ap (λ (b : Bool). same k d || b) (holds-snoc k c l) ∙ sym (or-assoc (same k d) (holds k c) (same k l))

@@ -39,3 +39,14 @@ module _ {S W : Type 0} (step : S → W → Checked S) where
   through-++ s (w ∷ ws) vs t e =
       let r = bind-value (step s w) (λ u. through step u ws) t e in
       rw (r .1) (through-++ (r .0) ws vs t (r .2))
+
+-- steps one after another
+pub bind-bind : {A : Type 0} (a : Checked A) (f g : A → Checked A) → ((a >>= f) >>= g) ≡ (a >>= λ s. f s >>= g)
+unfolding _>>=_
+bind-bind (fault n) f g = refl
+bind-bind (value s) f g = refl
+
+pub bind-end : {A : Type 0} (a : Checked A) → (a >>= value) ≡ a
+unfolding _>>=_
+bind-end (fault n) = refl
+bind-end (value s) = refl

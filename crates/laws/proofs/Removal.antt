@@ -1,8 +1,8 @@
 -- Taking out the first clause with the same set of literals. Assumes nothing.
-use mathlib.Core.Path.{_≡_, refl, ap}
+use mathlib.Core.Path.{_≡_, refl, ap, sym, _∙_}
 use mathlib.Core.Logic.{_⊎_, inl, inr}
 use mathlib.Core.Bool.{Bool, true, false, cond, _||_}
-use mathlib.Core.List.{[], _∷_, _++_, List·Memᴰ, List·Memᴰ·head as here, List·Memᴰ·tail as there}
+use mathlib.Core.List.{[], _∷_, _++_, List·Memᴰ, List·Memᴰ·head as here, List·Memᴰ·tail as there, append-nil}
 use Prim.Native.Nat.{suc, _≤_}
 use lib.Dec.{T}
 use lib.ListN.{length}
@@ -10,7 +10,7 @@ use Rattle.definition.specs.Lists.{any}
 use Rattle.definition.specs.Literals.{Clause, Formula, same-set}
 use Rattle.definition.specs.Standing.{stands, take-out}
 use Rattle.definition.specs.Assignments.{Assignment, trues}
-use Rattle.laws.proofs.Tests.{of-true, to-true, or-l, or-r}
+use Rattle.laws.proofs.Tests.{of-true, to-true, or-l, or-r, differ}
 use Rattle.laws.proofs.Members.{Same, same-set-same, same-same-set}
 use Rattle.laws.proofs.Trues.{hit-in, Sat}
 
@@ -115,3 +115,36 @@ sat-more σ (later e r) h s = (s .0, sat-more σ r h (s .1))
 pub sat-of : (σ : Assignment) {c : Clause} {F G : Formula} → Removed c F G → Sat σ F → 1 ≤ trues σ c
 sat-of σ {c} (found {d = d} t) s = hit-in σ d c (same-set-same c d (of-true t) .1) (s .0)
 sat-of σ (later e r) s = sat-of σ r (s .1)
+
+-- ---- past clauses that differ, and at the head of the list
+
+pub stands-past : (c : Clause) (a b : Formula) → stands c a ≡ false → stands c (a ++ b) ≡ stands c b
+unfolding stands any
+stands-past c [] b e = refl
+stands-past c (d ∷ a) b e = go (same-set c d) e (stands-past c a b)
+  where
+    go : (t : Bool) → (t || any (same-set c) a) ≡ false → (any (same-set c) a ≡ false → any (same-set c) (a ++ b) ≡ any (same-set c) b) → (t || any (same-set c) (a ++ b)) ≡ any (same-set c) b
+    go true x r = differ {b = true} tt x
+    go false x r = r x
+
+pub take-out-past : (c : Clause) (a b : Formula) → stands c a ≡ false → take-out c (a ++ b) ≡ a ++ take-out c b
+unfolding stands any take-out
+take-out-past c [] b e = refl
+take-out-past c (d ∷ a) b e = go (same-set c d) e (take-out-past c a b)
+  where
+    go : (t : Bool) → (t || any (same-set c) a) ≡ false → (any (same-set c) a ≡ false → take-out c (a ++ b) ≡ a ++ take-out c b) → cond t (a ++ b) (d ∷ take-out c (a ++ b)) ≡ d ∷ (a ++ take-out c b)
+    go true x r = differ {b = true} tt x
+    go false x r = ap (λ (f : Formula). d ∷ f) (r x)
+
+pub take-out-none : (c : Clause) (a : Formula) → stands c a ≡ false → take-out c a ≡ a
+unfolding take-out
+take-out-none c a e = ap (take-out c) (sym (append-nil a)) ∙ take-out-past c a [] e ∙ append-nil a
+
+-- the first clause is the one
+pub stands-head : (c d : Clause) (f : Formula) → same-set c d ≡ true → stands c (d ∷ f) ≡ true
+unfolding stands any
+stands-head c d f e = rw e
+
+pub take-out-head : (c d : Clause) (f : Formula) → same-set c d ≡ true → take-out c (d ∷ f) ≡ f
+unfolding take-out
+take-out-head c d f e = rw e

@@ -79,3 +79,12 @@ bit-true true t = refl
 pub bit-of : (b : Bool) → 1 ≤ bit b → T b
 bit-of true h = tt
 bit-of false h = absurd (omega arith)
+
+-- a conjunction, by its second part
+pub second-holds : (a b : Bool) → b ≡ true → a ≡ (a && b)
+second-holds true b e = sym e
+second-holds false b e = refl
+
+pub second-fails : (a b : Bool) → b ≡ false → false ≡ (a && b)
+second-fails true b e = sym e
+second-fails false b e = refl

@@ -22,7 +22,7 @@ use Rattle.laws.proofs.Loops.{none-some, for-each-++}
 use Rattle.laws.proofs.Outcomes.{value-same, refuse-value, bind-value}
 use Rattle.round_trips.proofs.Words.{first-field}
 use Rattle.literals.specs.Literal.{header-of, flip}
-use Rattle.text.proofs.Extra.{rest-is, sets-then, sets-first}
+use Rattle.laws.proofs.Slices.{rest-is, sets-then, sets-first}
 use Rattle.proof_log.specs.Reading.{first-ended, sized, ended-rest, line-rest, begins-deletion}
 use Rattle.proof_log.specs.Loading.{line-entry, line-entries, rest-clause, rest-size, Loadable, ended-read, first-read, read-size, read-entry, Faultless, read-entries}
 use Rattle.proof_log.proofs.Reading.{allowed-parts}

@@ -13,7 +13,7 @@ use Rattle.definition.specs.Checked.{Checked, fault, value, _>>=_, refuse-if, t
 use Rattle.definition.specs.Text.{Bytes, text-lines, fields}
 use Rattle.definition.specs.Standing.{Line, highest-in}
 use Rattle.definition.specs.LogReading.{read-line-fields, read-line, read-log, numbers-in}
-use Rattle.text.proofs.Extra.{rest-is}
+use Rattle.laws.proofs.Slices.{rest-is}
 use Rattle.proof_log.specs.declared.LineRead.the-variants as Read
 use Rattle.proof_log.specs.declared.LogCheck.the-variants as Check
 use Rattle.proof_log.specs.Reading.{line-answer, log-answer, Below}

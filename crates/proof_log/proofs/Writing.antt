@@ -20,7 +20,7 @@ use Rattle.literals.proofs.Laws.{at-arg}
 use Rattle.round_trips.proofs.ClauseText.{literals-text}
 use Rattle.text.specs.Output.{Put}
 use Rattle.text.proofs.Output.{put-none, put-then, put-same, put-length, put-part, literal-length}
-use Rattle.text.proofs.Extra.{sets-past}
+use Rattle.laws.proofs.Slices.{sets-past}
 use Rattle.proof_log.specs.Lines.{line-of, header-text}
 
 -- ---- a literal and its blank

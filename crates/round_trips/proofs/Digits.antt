@@ -1,4 +1,5 @@
 -- The decimal digits of a number are read as that number; their bytes.
+use Rattle.laws.proofs.Digits.{tenth-less, digits-one, digits-more}
 use mathlib.Core.Path.{_≡_, refl, ap}
 use mathlib.Core.Bool.{Bool, true, false}
 use mathlib.Core.List.{[], _∷_, _++_}
@@ -9,9 +10,9 @@ use native.Mathlib.Omega.{arith}
 use lib.Dec.{ltb}
 use lib.IntN.{ℤ, pos, negsuc}
 use lib.ListN.{length}
-use borrow.Author.Tests.{ltb-true, ltb-false, le-leb, lt-ltb, le-ltb, ne-eqb}
+use borrow.Author.Tests.{ltb-true, ltb-false, le-leb, ne-eqb}
 use Rattle.definition.specs.Lists.{all}
-use Rattle.definition.specs.Text.{Bytes, is, digit, digit-value, value-from, natural, negated, not-negated, number, digits-next, digits-up-to, digits, literal-text}
+use Rattle.definition.specs.Text.{Bytes, is, digit, digit-value, value-from, natural, negated, not-negated, number, digits, literal-text}
 
 -- every byte is from a to z
 abbrev pub Between : ℕ → ℕ → Bytes → Type 0
@@ -21,33 +22,6 @@ Between a z (b ∷ t) = (a ≤ b) × (b ≤ z) × Between a z t
 pub between-++ : (a z : ℕ) (s t : Bytes) → Between a z s → Between a z t → Between a z (s ++ t)
 between-++ a z [] t f g = g
 between-++ a z (b ∷ s) t f g = (f .0, f .1, between-++ a z s t (f .2) g)
-
--- ---- the digits of a number, without the bound on their count
-tenth-less : (n d : ℕ) → 10 ≤ n → n < suc d → n / 10 < d
-tenth-less n d h f = omega arith
-
-fuel-enough : (d e n : ℕ) → n < d → n < e → digits-up-to d n ≡ digits-up-to e n
-unfolding digits-up-to digits-next
-fuel-enough zero e n f g = absurd (omega arith)
-fuel-enough (suc d) zero n f g = absurd (omega arith)
-fuel-enough (suc d) (suc e) n f g = go (ltb n 10) refl (fuel-enough d e (n / 10))
-  where
-    go : (b : Bool) → ltb n 10 ≡ b → (n / 10 < d → n / 10 < e → digits-up-to d (n / 10) ≡ digits-up-to e (n / 10)) → digits-next (digits-up-to d) n b ≡ digits-next (digits-up-to e) n b
-    go true q ih = refl
-    go false q ih = rw (ih (tenth-less n d (ltb-false n 10 q) f) (tenth-less n e (ltb-false n 10 q) g))
-
-pub digits-enough : (d n : ℕ) → n < d → digits-up-to d n ≡ digits n
-unfolding digits
-digits-enough d n h = fuel-enough d (suc n) n h (omega arith)
-
-pub digits-one : (n : ℕ) → n < 10 → digits n ≡ (code "0" + n) ∷ []
-unfolding digits digits-up-to digits-next
-digits-one n h = rw (lt-ltb n 10 h)
-
-pub digits-more : (n : ℕ) → 10 ≤ n → digits n ≡ digits (n / 10) ++ ((code "0" + n % 10) ∷ [])
-unfolding digits digits-up-to digits-next
-digits-more n h =
-    rw (le-ltb n 10 h) (rw (digits-enough n (n / 10) (tenth-less n n h (omega arith))))
 
 -- ---- digits are read as their number
 value-++ : (n : ℕ) (s t : Bytes) → value-from n (s ++ t) ≡ value-from (value-from n s) t

@@ -1,14 +1,16 @@
 -- The words, fields and lines of a text that begins with one of them.
-use mathlib.Core.Path.{_≡_, refl}
-use mathlib.Core.Bool.{Bool, true, false}
+use lib.Dec.{eqb}
+use borrow.Author.Tests.{eq-eqb, ne-eqb, eqb-true, eqb-false}
+use mathlib.Core.Path.{_≡_, refl, sym, ap, _∙_}
+use mathlib.Core.Bool.{Bool, true, false, cond}
 use mathlib.Core.List.{List, [], _∷_, _++_, append-nil}
 use Prim.Native.Nat.{ℕ, suc, _≤_}
 use Prim.Native.Char.{code}
 use native.Mathlib.Omega.{arith}
 use lib.ListN.{length, drop}
 use Rattle.definition.specs.Lists.{any}
-use Rattle.definition.specs.Text.{Bytes, is, add-part, parts, words-by, longer, text-lines, without-last-cr, fields-from, fields}
-use Rattle.laws.proofs.Tests.{or-false-both}
+use Rattle.definition.specs.Text.{Bytes, is, add-part, parts, words-by, longer, text-lines, without-last-cr, fields-from, fields, same-bytes}
+use Rattle.laws.proofs.Tests.{or-false-both, to-true, of-true, differ, and-r, by-test}
 use Rattle.round_trips.proofs.Digits.{Between}
 
 -- no byte passes the test
@@ -80,3 +82,47 @@ no-last-cr (b ∷ c ∷ u) f = rw (no-last-cr (c ∷ u) (f .1))
 pub past-line : (u : Bytes) (b : ℕ) (t : Bytes) → drop (suc (length u)) (u ++ b ∷ t) ≡ t
 past-line [] b t = refl
 past-line (c ∷ u) b t = past-line u b t
+
+-- ---- lines
+
+-- a CR at the end
+pub last-cr : (u : Bytes) (b : ℕ) → without-last-cr (u ++ (b ∷ [])) ≡ cond (is "\r" b) u (u ++ (b ∷ []))
+unfolding without-last-cr
+last-cr [] b = refl
+last-cr (c ∷ []) b = go (is "\r" b)
+  where
+    go : (x : Bool) → c ∷ cond x [] (b ∷ []) ≡ cond x (c ∷ []) (c ∷ b ∷ [])
+    go true = refl
+    go false = refl
+last-cr (c ∷ d ∷ u) b = ap (λ (w : Bytes). c ∷ w) (last-cr (d ∷ u) b) ∙ go (is "\r" b)
+  where
+    go : (x : Bool) → c ∷ cond x (d ∷ u) (d ∷ u ++ (b ∷ [])) ≡ cond x (c ∷ d ∷ u) (c ∷ d ∷ u ++ (b ∷ []))
+    go true = refl
+    go false = refl
+
+-- a line that the text ends
+pub last-line : (u : Bytes) → 1 ≤ length u → Free (is "\n") u → text-lines u ≡ record { text = u; ended = false } ∷ []
+unfolding text-lines longer
+last-line [] h f = absurd (omega arith)
+last-line (b ∷ []) h f = rw (f .0) refl
+last-line (b ∷ c ∷ u) h f = rw (f .0, last-line (c ∷ u) (omega arith) (f .1)) refl
+
+-- ---- the same bytes
+
+-- the same bytes are equally many
+pub same-length : (p t : Bytes) → same-bytes p t ≡ true → length p ≡ length t
+unfolding same-bytes
+same-length [] [] e = refl
+same-length [] (c ∷ u) e = differ {b = true} tt (sym e)
+same-length (b ∷ t) [] e = differ {b = true} tt (sym e)
+same-length (b ∷ t) (c ∷ u) e = ap suc (same-length t u (to-true (and-r (eqb b c) (same-bytes t u) (of-true e))))
+
+pub same-turned : (p t : Bytes) → same-bytes p t ≡ same-bytes t p
+unfolding same-bytes
+same-turned [] [] = refl
+same-turned [] (c ∷ u) = refl
+same-turned (b ∷ t) [] = refl
+same-turned (b ∷ t) (c ∷ u) = rw (eqb-turned b c, same-turned t u) refl
+  where
+    eqb-turned : (m n : ℕ) → eqb m n ≡ eqb n m
+    eqb-turned m n = by-test (eqb m n) (λ e. e ∙ sym (eq-eqb n m (sym (eqb-true m n e)))) (λ e. e ∙ sym (ne-eqb n m (λ q. eqb-false m n e (sym q))))

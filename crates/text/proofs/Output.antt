@@ -13,7 +13,8 @@ use Rattle.laws.proofs.Tests.{differ}
 use Rattle.literals.specs.Literal.{negative}
 use mathlib.Core.Bool.{true, false}
 use Rattle.text.specs.Output.{Put}
-use Rattle.text.proofs.Extra.{sets-then, sets-first, sets-before, sets-after, sets-past, sets-long, sets-rest, digits-one, digits-more, count-one, count-more, digits-within}
+use Rattle.laws.proofs.Slices.{sets-then, sets-first, sets-before, sets-after, sets-past, sets-long, sets-rest}
+use Rattle.laws.proofs.Digits.{digits-one, digits-more, count-one, count-more, digits-within}
 
 -- ---- nothing, one byte, one text after another
 

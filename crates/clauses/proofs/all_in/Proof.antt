@@ -9,7 +9,7 @@ use borrow.Author.Needs.{sfits-of}
 use Rattle.literals.proofs.Laws.{answered}
 use Rattle.definition.specs.Lists.{all}
 use Rattle.definition.specs.Literals.{holds}
-use Rattle.clauses.proofs.Extra.{all-more, all-miss, all-end}
+use Rattle.laws.proofs.Slices.{all-more, all-miss, all-end}
 use Rattle.clauses.proofs.all_in.Statement.{statement}
 use Rattle.clauses.proofs.all_in.Tie as tie
 

@@ -9,7 +9,7 @@ use denote.Ref.{now}
 use Rattle.definition.specs.Lists.{all}
 use Rattle.definition.specs.Literals.{holds}
 use Rattle.literals.proofs.Laws.{answered}
-use Rattle.clauses.proofs.Extra.{all-more, all-miss, all-end}
+use Rattle.laws.proofs.Slices.{all-more, all-miss, all-end}
 use Rattle.clauses.proofs.all_marked.Statement.{statement}
 use Rattle.clauses.proofs.all_marked.Tie as tie
 

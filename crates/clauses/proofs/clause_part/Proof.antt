@@ -2,7 +2,7 @@ use Prim.Native.Nat.{_+_, _≤_}
 use native.Mathlib.Omega.{arith}
 use lib.ListN.{length}
 use denote.Ref.{now}
-use Rattle.clauses.proofs.Parts.{part-is}
+use Rattle.laws.proofs.Slices.{part-is}
 use borrow.Author.Needs.{needs}
 use Rattle.clauses.proofs.clause_part.Statement.{statement}
 use Rattle.clauses.proofs.clause_part.Tie as tie

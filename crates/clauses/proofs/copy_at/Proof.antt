@@ -8,7 +8,7 @@ use lib.IntN.{ℤ, pos}
 use denote.Ref.{now}
 use borrow.Author.Needs.{sfits-of}
 use Rattle.literals.proofs.Laws.{at-arg}
-use Rattle.clauses.proofs.Parts.{sets-step, drop-end}
+use Rattle.laws.proofs.Slices.{sets-step, drop-end}
 use native.Mathlib.Nat.{add-zero}
 use Rattle.clauses.proofs.copy_at.Statement.{statement}
 use Rattle.clauses.proofs.copy_at.Tie as tie

@@ -7,7 +7,7 @@ use denote.Ref.{now}
 use borrow.Author.Needs.{sfits-of}
 use Rattle.definition.specs.Literals.{same, holds}
 use Rattle.literals.proofs.Laws.{at-arg, answered}
-use Rattle.clauses.proofs.Extra.{any-hit, any-miss, any-end}
+use Rattle.laws.proofs.Slices.{any-hit, any-miss, any-end}
 use mir.Syntax.{w32}
 use mir.Val.{toZ, ofZ}
 use Rattle.clauses.proofs.holds.Statement.{statement}

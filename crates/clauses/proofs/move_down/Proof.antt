@@ -7,7 +7,7 @@ use lib.Seq.{sets}
 use lib.IntN.{ℤ, pos}
 use borrow.Author.Needs.{sfits-of}
 use Rattle.literals.proofs.Laws.{at-arg}
-use Rattle.clauses.proofs.Parts.{move-step}
+use Rattle.laws.proofs.Slices.{move-step}
 use native.Mathlib.Nat.{add-zero, sub-zero}
 use Rattle.clauses.proofs.move_down.Statement.{statement}
 use Rattle.clauses.proofs.move_down.Tie as tie

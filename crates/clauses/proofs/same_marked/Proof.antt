@@ -3,7 +3,7 @@ use lib.IntN.{ℤ}
 use denote.Ref.{now}
 use Rattle.definition.specs.Lists.{all}
 use Rattle.definition.specs.Literals.{holds, same-set}
-use Rattle.clauses.proofs.Extra.{second-holds, second-fails}
+use Rattle.laws.proofs.Tests.{second-holds, second-fails}
 use borrow.Author.Needs.{needs}
 use Rattle.clauses.proofs.same_marked.Statement.{statement}
 use Rattle.clauses.proofs.same_marked.Tie as tie

@@ -1,7 +1,7 @@
 use mathlib.Core.Path.{sym, ap, _∙_}
 use native.Mathlib.Omega.{arith}
 use denote.Ref.{now}
-use Rattle.text.proofs.Extra.{rest-is}
+use Rattle.laws.proofs.Slices.{rest-is}
 use Rattle.dimacs.specs.Outcome.{checked-of}
 use Rattle.dimacs.proofs.Checking.{formula-fault, header-next, header-within, formula-clauses}
 use borrow.Author.Needs.{needs}

@@ -7,7 +7,7 @@ use lib.ListN.{length, length-replicate}
 use denote.Ref.{now}
 use Rattle.definition.specs.Text.{blank}
 use Rattle.text.proofs.Words.{word-answer}
-use Rattle.text.proofs.Extra.{rest-is}
+use Rattle.laws.proofs.Slices.{rest-is}
 use Rattle.dimacs.specs.HeaderLine.{limits-of}
 use Rattle.dimacs.proofs.Checking.{Checking, checking-start, checking-fresh, checking-end, checking-more, checking-fault, checking-short, checking-inside, checking-on}
 use Rattle.dimacs.proofs.check_clauses.Statement.{statement}

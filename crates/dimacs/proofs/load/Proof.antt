@@ -1,5 +1,5 @@
 use denote.Ref.{now}
-use Rattle.text.proofs.Extra.{rest-is}
+use Rattle.laws.proofs.Slices.{rest-is}
 use Rattle.dimacs.proofs.Checking.{header-next}
 use Rattle.dimacs.proofs.Loads.{load-fault, load-value}
 use borrow.Author.Needs.{needs}

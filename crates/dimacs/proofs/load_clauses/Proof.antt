@@ -1,11 +1,10 @@
 use mathlib.Core.Path.{_∙_}
 use denote.Ref.{now}
-use Rattle.text.proofs.Extra.{rest-is}
-use Rattle.dimacs.proofs.Loads.{after-length}
+use Rattle.laws.proofs.Slices.{rest-is}
+use Rattle.dimacs.proofs.Loads.{after-length, Loading, loading-start, loading-end, loading-full, loading-on}
 use borrow.Author.Needs.{needs}
 use Prim.Native.Nat.{_-_}
 use native.Mathlib.Omega.{arith}
-use Rattle.dimacs.proofs.Loads.{Loading, loading-start, loading-end, loading-full, loading-on}
 use Rattle.dimacs.proofs.load_clauses.Statement.{statement}
 use Rattle.dimacs.proofs.load_clauses.Tie as tie
 

@@ -5,7 +5,7 @@ use denote.Ref.{now}
 use lib.ListN.{length}
 use Rattle.definition.specs.Text.{Bytes, bytes, fields}
 use Rattle.definition.specs.Reading.{read-header-fields}
-use Rattle.text.proofs.Extra.{rest-is}
+use Rattle.laws.proofs.Slices.{rest-is}
 use Rattle.dimacs.specs.HeaderLine.{limits-of, counts-of}
 use Rattle.dimacs.proofs.HeaderLine.{begins-long, counts-header, counts-no}
 use borrow.Author.Needs.{needs}

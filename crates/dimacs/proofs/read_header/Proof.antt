@@ -1,6 +1,6 @@
 use native.Mathlib.Omega.{arith}
 use denote.Ref.{now}
-use Rattle.text.proofs.Extra.{rest-is}
+use Rattle.laws.proofs.Slices.{rest-is}
 use Rattle.dimacs.proofs.HeaderLine.{whole-fault, whole-value}
 use borrow.Author.Needs.{needs}
 use Rattle.dimacs.proofs.read_header.Statement.{statement}

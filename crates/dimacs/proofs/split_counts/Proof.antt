@@ -7,7 +7,7 @@ use lib.ListN.{length, take, drop}
 use lib.Seq.{length-take-le}
 use Rattle.definition.specs.Text.{Bytes, natural}
 use Rattle.text.specs.Numbers.{natural-class}
-use Rattle.text.proofs.Extra.{rest-is}
+use Rattle.laws.proofs.Slices.{rest-is}
 use Rattle.dimacs.specs.HeaderLine.{until, counts-by}
 use Rattle.dimacs.proofs.HeaderLine.{until-within, counts-one, counts-two}
 use borrow.Author.Needs.{needs}

@@ -1,4 +1,4 @@
-use Rattle.text.proofs.Extra.{rest-is}
+use Rattle.laws.proofs.Slices.{rest-is}
 use Rattle.text.proofs.Numbers.{sign-plain, sign-minus, number-none, number-minus, number-plain}
 use Rattle.text.specs.Numbers.{natural-class, number-class, with-sign}
 use Rattle.definition.specs.Text.{natural}

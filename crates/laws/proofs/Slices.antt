@@ -1,17 +1,17 @@
--- General laws: a run of stores, a part of a slice, the digits of a number. Assumes nothing.
+-- Parts of lists and runs of stores, as the loops over a slice use them. Assumes nothing.
 use mathlib.Core.Path.{_≡_, refl, sym, ap, _∙_}
 use mathlib.Core.Bool.{Bool, true, false}
 use mathlib.Core.List.{List, [], _∷_, _++_, append-nil}
-use Prim.Native.Nat.{ℕ, zero, suc, _+_, _-_, _*_, _/_, _%_, _^_, _≤_, _<_}
-use Prim.Native.Char.{code}
-use native.Mathlib.Nat.{add-zero, pow-suc}
+use Prim.Native.Nat.{ℕ, suc, _+_, _-_, _≤_, _<_}
+use native.Mathlib.Nat.{add-zero}
+use native.Mathlib.Numerals.{add-one}
 use native.Mathlib.Omega.{arith}
-use lib.ListN.{length, set, length-set, take, drop, length-append, length-drop, drop-of-length-le, take-append-drop}
-use lib.Seq.{take-all, take-nil, take-suc-set, append-snoc, sets, set-comm, set-out, drop-set-add, drop-set-lt, take-set-le}
 use lib.Dec.{ltb}
-use borrow.Author.Tests.{ltb-true, ltb-false, lt-ltb, le-ltb}
+use lib.ListN.{length, getD, set, length-set, take, drop, length-append, length-drop, drop-of-length-le, take-append-drop}
+use lib.Seq.{take-all, take-nil, take-suc-set, append-snoc, sets, set-comm, set-out, drop-set-add, drop-set-lt, take-set-le, length-take-le, drop-cons, take-at, sets-eq}
+use borrow.Author.Tests.{ltb-true, ltb-false}
+use Rattle.definition.specs.Lists.{any, all}
 use Rattle.laws.proofs.Tests.{by-test}
-use Rattle.definition.specs.Text.{Bytes, digits-next, digits-up-to, digits}
 
 -- the rest of a list from a place on, as `&s[a..]` gives it
 pub rest-is {ℓ} : {A : Type ℓ} (s : List A) (a : ℕ) → take (length s - a) (drop a s) ≡ drop a s
@@ -81,46 +81,68 @@ module _ {A : Type 0} where
       rw (e, rest-is xs a, drop-of-length-le (drop a xs) {i = length xs - a} (omega (arith, length-drop a xs)), append-nil)
       (sets-drop vs xs a j)
 
--- ---- the digits of a number, without the bound on their count
+-- ---- turns of a loop
+-- the code's i + 1 in the place of suc i
+pub drop-step {ℓ} : {A : Type ℓ} (s : List A) (i : ℕ) (d : A) → i < length s → drop i s ≡ getD s i d ∷ drop (i + 1) s
+drop-step s i d h = rw (add-one i) (drop-cons s i d h)
 
-tenth-less : (n d : ℕ) → 10 ≤ n → n < suc d → n / 10 < d
-tenth-less n d h f = omega arith
+pub drop-end {ℓ} : {A : Type ℓ} (s : List A) (i : ℕ) → length s ≤ i → drop i s ≡ []
+drop-end s i h = drop-of-length-le s {i = i} h
 
-fuel-enough : (d e n : ℕ) → n < d → n < e → digits-up-to d n ≡ digits-up-to e n
-unfolding digits-up-to digits-next
-fuel-enough zero e n f g = absurd (omega arith)
-fuel-enough (suc d) zero n f g = absurd (omega arith)
-fuel-enough (suc d) (suc e) n f g = go (ltb n 10) refl (fuel-enough d e (n / 10))
-  where
-    go : (b : Bool) → ltb n 10 ≡ b → (n / 10 < d → n / 10 < e → digits-up-to d (n / 10) ≡ digits-up-to e (n / 10)) → digits-next (digits-up-to d) n b ≡ digits-next (digits-up-to e) n b
-    go true q ih = refl
-    go false q ih = ap (λ (t : Bytes). t ++ ((code "0" + n % 10) ∷ [])) (ih (tenth-less n d (ltb-false n 10 q) f) (tenth-less n e (ltb-false n 10 q) g))
+-- `&s[a..a + n]`
+pub part-is {ℓ} : {A : Type ℓ} (s : List A) (a n : ℕ) → take (a + n - a) (drop a s) ≡ take n (drop a s)
+part-is {A = A} s a n = let e : a + n - a ≡ n = omega arith in ap (λ (k : ℕ). take k (drop a s)) e
 
-pub digits-enough : (d n : ℕ) → n < d → digits-up-to d n ≡ digits n
-unfolding digits
-digits-enough d n h = fuel-enough d (suc n) n h (omega arith)
+-- reading back what was stored
+pub taken-sets {ℓ} : {A : Type ℓ} (vs l : List A) (at : ℕ) → at + length vs ≤ length l → take (at + length vs) (sets l at vs) ≡ take at l ++ vs
+taken-sets vs l at h =
+    let e : length (take at l ++ vs) ≡ at + length vs = length-append (take at l) vs ∙ ap (λ (k : ℕ). k + length vs) (length-take-le at l (omega arith)) in
+    rw (sets-eq vs l at h) (take-at (take at l ++ vs) (drop (at + length vs) l) (at + length vs) e)
 
-pub digits-one : (n : ℕ) → n < 10 → digits n ≡ (code "0" + n) ∷ []
-unfolding digits digits-up-to digits-next
-digits-one n h = rw (lt-ltb n 10 h)
+-- a turn of a loop that stores s from at on
+pub sets-step {ℓ} : {A : Type ℓ} (w s : List A) (at i : ℕ) (d : A) → i < length s → sets (set w (at + i) (getD s i d)) (at + (i + 1)) (drop (i + 1) s) ≡ sets w (at + i) (drop i s)
+sets-step w s at i d h =
+    let e : at + (i + 1) ≡ suc (at + i) = omega arith in
+    rw (drop-step s i d h) (ap (λ (k : ℕ). sets (set w (at + i) (getD s i d)) k (drop (i + 1) s)) e)
 
-pub digits-more : (n : ℕ) → 10 ≤ n → digits n ≡ digits (n / 10) ++ ((code "0" + n % 10) ∷ [])
-unfolding digits digits-up-to digits-next
-digits-more n h =
-    rw (le-ltb n 10 h) (ap (λ (t : Bytes). t ++ ((code "0" + n % 10) ∷ [])) (digits-enough n (n / 10) (tenth-less n n h (omega arith))))
+-- a turn of a loop that moves n elements down within one list
+pub move-step {ℓ} : {A : Type ℓ} (w : List A) (to from i n : ℕ) (d : A) → to ≤ from → i < n → from + n ≤ length w
+    → sets (set w (to + i) (getD w (from + i) d)) (to + (i + 1)) (take (n - (i + 1)) (drop (from + (i + 1)) (set w (to + i) (getD w (from + i) d)))) ≡ sets w (to + i) (take (n - i) (drop (from + i) w))
+move-step {A = A} w to from i n d l h k =
+    let x = getD w (from + i) d in
+    let e : to + (i + 1) ≡ suc (to + i) = omega arith in
+    let m : n - i ≡ suc (n - (i + 1)) = omega arith in
+    let f : from + (i + 1) ≡ from + i + 1 = omega arith in
+    ap (λ (r : List A). sets (set w (to + i) x) (to + (i + 1)) (take (n - (i + 1)) r)) (drop-set-lt (from + (i + 1)) w (to + i) x (omega arith))
+    ∙ ap (λ (j : ℕ). sets (set w (to + i) x) j (take (n - (i + 1)) (drop (from + (i + 1)) w))) e
+    ∙ ap (λ (j : ℕ). sets (set w (to + i) x) (suc (to + i)) (take (n - (i + 1)) (drop j w))) f
+    ∙ sym (ap (λ (j : ℕ). sets w (to + i) (take j (drop (from + i) w))) m ∙ ap (λ (r : List A). sets w (to + i) (take (suc (n - (i + 1))) r)) (drop-step w (from + i) d (omega arith)))
 
--- how many they are
-pub count-one : (n : ℕ) → n < 10 → length (digits n) ≡ 1
-count-one n h = ap length (digits-one n h)
+-- ---- a test over the rest of a list
 
-pub count-more : (n : ℕ) → 10 ≤ n → length (digits n) ≡ length (digits (n / 10)) + 1
-count-more n h = ap length (digits-more n h) ∙ length-append (digits (n / 10)) _
+-- what the element at i says of the test over the rest from i on
+module _ {A : Type 0} (p : A → Bool) (s : List A) (i : ℕ) (d : A) (h : i < length s) where
+  pub any-hit : p (getD s i d) ≡ true → true ≡ any p (drop i s)
+  unfolding any
+  any-hit e = rw (drop-step s i d h, e) refl
 
-tenth-below : (x n : ℕ) → n < x * 10 → n / 10 < x
-tenth-below x n h = omega arith
+  pub any-miss : p (getD s i d) ≡ false → any p (drop (i + 1) s) ≡ any p (drop i s)
+  unfolding any
+  any-miss e = rw (drop-step s i d h, e) refl
 
-pub digits-within : (k n : ℕ) → n < 10 ^ suc k → length (digits n) ≤ suc k
-digits-within zero n h = omega (arith, count-one n h)
-digits-within (suc k) n h = by-test (ltb n 10)
-    (λ e. omega (arith, count-one n (ltb-true n 10 e)))
-    (λ e. omega (arith, count-more n (ltb-false n 10 e), digits-within k (n / 10) (tenth-below (10 ^ suc k) n (rw (pow-suc 10 (suc k)) at h))))
+  pub all-more : p (getD s i d) ≡ true → all p (drop (i + 1) s) ≡ all p (drop i s)
+  unfolding all
+  all-more e = rw (drop-step s i d h, e) refl
+
+  pub all-miss : p (getD s i d) ≡ false → false ≡ all p (drop i s)
+  unfolding all
+  all-miss e = rw (drop-step s i d h, e) refl
+
+module _ {A : Type 0} (p : A → Bool) (s : List A) (i : ℕ) (h : length s ≤ i) where
+  pub any-end : false ≡ any p (drop i s)
+  unfolding any
+  any-end = rw (drop-end s i h) refl
+
+  pub all-end : true ≡ all p (drop i s)
+  unfolding all
+  all-end = rw (drop-end s i h) refl

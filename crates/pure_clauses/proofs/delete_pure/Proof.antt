@@ -1,0 +1,56 @@
+use mathlib.Core.Path.{sym}
+use lib.Seq.{length-take-le}
+use denote.Ref.{now}
+use Rattle.pure_clauses.proofs.Pass.{ready-of, pass-ran}
+use borrow.Author.Needs.{needs}
+use Rattle.pure_clauses.proofs.delete_pure.Statement.{statement}
+use Rattle.pure_clauses.proofs.delete_pure.Tie as tie
+
+slice-aggregate-count-all : tie.Need-slice-aggregate-count-all
+slice-aggregate-count-all c = search needs
+
+slice-reshare-prefix-count-all : tie.Need-slice-reshare-prefix-count-all
+slice-reshare-prefix-count-all c = search needs
+
+slice-aggregate-count-all-2 : tie.Need-slice-aggregate-count-all-2
+slice-aggregate-count-all-2 c = sym (length-take-le (c .before .before .before .args .p .end) (now (c .before .before .before .args .work)) (c .before .before .before .pre .inside))
+
+count-all-requires : tie.Need-count-all-requires
+count-all-requires c κs = search needs
+
+slice-relend-prefix-delete-all : tie.Need-slice-relend-prefix-delete-all
+slice-relend-prefix-delete-all c = search needs
+
+slice-aggregate-delete-all : tie.Need-slice-aggregate-delete-all
+slice-aggregate-delete-all c = sym (length-take-le (c .before .before .before .before .before .before .args .p .end) (now (c .before .before .before .before .before .before .args .work)) (c .before .before .before .before .before .before .pre .inside))
+
+slice-aggregate-delete-all-2 : tie.Need-slice-aggregate-delete-all-2
+slice-aggregate-delete-all-2 c = search needs
+
+delete-all-requires : tie.Need-delete-all-requires
+delete-all-requires c κs = ready-of (c .before .before .before .before .before .before .before .before .pre) (c .before .before .before .before .count-all .ensures)
+
+same-length : tie.Need-same-length
+same-length c = search needs
+
+same-length-2 : tie.Need-same-length-2
+same-length-2 c = search needs
+
+returns : tie.Need-returns
+returns c = pass-ran (c .before .before .before .before .before .before .before .before .before .before .before .before .pre) (c .before .before .before .delete-all .kept .0) (c .before .before .before .delete-all .ensures)
+
+pub delete-pure-spec : {M : Type 1} → statement M
+delete-pure-spec =
+    tie.close
+    (tie.spec
+    slice-aggregate-count-all
+    slice-reshare-prefix-count-all
+    slice-aggregate-count-all-2
+    count-all-requires
+    slice-relend-prefix-delete-all
+    slice-aggregate-delete-all
+    slice-aggregate-delete-all-2
+    delete-all-requires
+    same-length
+    same-length-2
+    returns)

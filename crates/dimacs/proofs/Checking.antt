@@ -1,9 +1,9 @@
 -- The checking pass, clause by clause. Assumes nothing.
 use mathlib.Core.Path.{_≡_, refl, sym, ap, subst, _∙_}
 use mathlib.Core.List.{List, [], _∷_, _++_}
-use Prim.Native.Nat.{ℕ, zero, suc, _+_, _≤_, _<_}
+use Prim.Native.Nat.{ℕ, _+_, _≤_, _<_}
 use native.Mathlib.Omega.{arith}
-use lib.ListN.{length, getD, drop, replicate, length-append, length-drop}
+use lib.ListN.{length, drop, replicate, length-append, length-drop}
 use lib.Seq.{drop-drop}
 use borrow.Author.Tests.{lt-ltb, le-ltb}
 use Rattle.definition.specs.Checked.{Checked, fault, value, _>>=_, refuse-if, through}
@@ -14,7 +14,9 @@ use Rattle.definition.specs.Reading.{Limits, Header, Input, Reader, read-word, 
 use Rattle.laws.proofs.Clauses.{literals-snoc}
 use Rattle.text.proofs.Words.{words-blank}
 use Rattle.dimacs.specs.Clause.{Clause-read, refused, finished, ended, first-clause}
-use Rattle.dimacs.specs.Marks.{Fresh, Clause-post}
+use Rattle.stamps.specs.Stamps.{At-most, Fresh}
+use Rattle.stamps.proofs.Laws.{zeros-at-most, fresh-more}
+use Rattle.dimacs.specs.Items.{Clause-post}
 use Rattle.dimacs.specs.Outcome.{header-of, checked-of}
 use Rattle.dimacs.specs.declared.ClauseRead.{ClauseRead}
 use Rattle.dimacs.specs.declared.ClauseRead.the-variants as ClauseRead
@@ -25,11 +27,6 @@ use Rattle.dimacs.specs.declared.Header as Code-header
 use Rattle.dimacs.specs.declared.Header.the-variants as Found-header
 use Rattle.dimacs.proofs.Extra.{Few, header-few}
 use Rattle.dimacs.proofs.Clauses.{by-clause, after-clause, full-none, full-some}
-
-getD-zeros : (n i : ℕ) → _≡_ {A = ℕ} (getD (replicate n 0) i 0) 0
-getD-zeros zero i = refl
-getD-zeros (suc n) zero = refl
-getD-zeros (suc n) (suc i) = getD-zeros n i
 
 abbrev pub reader : Formula → Clause → Reader
 reader done here = record { done = done; here = here }
@@ -54,7 +51,7 @@ module _ (most : Limits) (v c : ℕ) where
       pub few : done ≤ c
       pub literals : literals-of read ≡ total
       pub low : total ≤ most .literals
-      pub below : (i : ℕ) → getD table i 0 ≤ done
+      pub below : At-most table done
       pub same : ending (going read [] (words (drop at text))) ≡ whole
 
     pub checking-start : (n : ℕ) → Checking (replicate n 0) 0 0 0
@@ -66,16 +63,13 @@ module _ (most : Limits) (v c : ℕ) where
       few = omega arith;
       literals = refl;
       low = omega arith;
-      below = λ i. rw (getD-zeros n i) (omega arith);
+      below = zeros-at-most n 0;
       same = refl;
     }
 
     module _ (table : List ℕ) (at done total : ℕ) (g : Checking table at done total) where
       pub checking-fresh : Fresh table (done + 1)
-      checking-fresh = record { below = λ i. more (getD table i 0) (g .below i) }
-        where
-          more : (x : ℕ) → x ≤ done → x < done + 1
-          more x h = omega arith
+      checking-fresh = fresh-more table done (g .below)
 
       -- all clauses read
       pub checking-end : c ≤ done → words-by blank (drop at text) ≡ [] → Answer.Formula v c total ≡ checked-of whole

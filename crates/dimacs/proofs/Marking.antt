@@ -1,28 +1,26 @@
 -- Reading a clause with marks in a table. Assumes nothing.
 use mathlib.Core.Path.{_≡_, refl, sym, ap, subst, _∙_}
-use mathlib.Core.Bool.{Bool, true, false, _||_, cond}
+use mathlib.Core.Bool.{Bool, true, false, cond}
 use mathlib.Core.List.{List, [], _∷_, _++_}
 use mathlib.Core.Option.{Option, some, none}
 use Prim.Native.Nat.{ℕ, _+_, _-_, _≤_, _<_}
 use native.Mathlib.Omega.{arith}
 use lib.Dec.{eqb, leb, ltb}
 use lib.IntN.{ℤ, negℤ, natAbs}
-use lib.ListN.{length, getD, set, take, drop, length-append}
-use lib.Seq.{getD-set-same, getD-set-other}
-use borrow.Author.Tests.{leb-false, lt-ltb, le-ltb, ltb-false, eqb-true, eqb-false, eq-eqb, ne-eqb}
-use Rattle.definition.specs.Lists.{any}
+use lib.ListN.{length, take, drop, length-append}
+use borrow.Author.Tests.{leb-false, lt-ltb, le-ltb, ltb-false, ne-eqb}
 use Rattle.definition.specs.Literals.{Clause, same, holds}
 use Rattle.definition.specs.Text.{Bytes, blank, words-by, words, number}
 use Rattle.definition.specs.Reading.{Limits}
-use Rattle.laws.proofs.Tests.{by-test, of-true, to-true}
-use Rattle.laws.proofs.Members.{same-eq, same-refl, unlike, natAbs-neg}
-use Rattle.literals.specs.Literal.{index-of, negation}
-use Rattle.literals.proofs.Laws.{negation-small, index-injective, index-within}
 use Rattle.text.specs.Numbers.{number-class}
 use Rattle.text.specs.declared.Number.the-variants as Number
 use Rattle.text.proofs.Words.{First}
 use Rattle.dimacs.specs.Clause.{Word-read, bad, zero, literal, bad-if, number-read, word-read, Clause-read, refused, clause-by, full, first-clause}
-use Rattle.dimacs.specs.Marks.{Marks, Fresh, number-item, mark-of, marked, Item-post, Read, Ended}
+use Rattle.stamps.specs.Stamps.{Marks, Fresh, Mark-post}
+use Rattle.stamps.specs.declared.Marked.{Marked}
+use Rattle.stamps.specs.declared.Marked.the-variants as Mark
+use Rattle.stamps.proofs.Laws.{marks-start}
+use Rattle.dimacs.specs.Items.{number-item, Item-post, Read, Ended}
 use Rattle.dimacs.specs.declared.Item.{Item}
 use Rattle.dimacs.specs.declared.Item.the-variants as Item
 
@@ -72,107 +70,6 @@ module _ (v : ℕ) (o : Option ℤ) where
     pub item-literal : eqb 0 (natAbs l) ≡ false → natAbs l ≤ v → Item.Literal l ≡ number-item v o
     item-literal q h = rw (class-value o l e, q, le-ltb v (natAbs l) h) refl
 
--- ---- the marks
-
-holds-snoc : (m l : ℤ) (c : Clause) → holds m (c ++ (l ∷ [])) ≡ (holds m c || same m l)
-unfolding holds any
-holds-snoc m l [] = go (same m l)
-  where
-    go : (b : Bool) → (b || false) ≡ b
-    go true = refl
-    go false = refl
-holds-snoc m l (x ∷ c) = go (same m x) (holds-snoc m l c)
-  where
-    go : (b : Bool) → holds m (c ++ (l ∷ [])) ≡ (holds m c || same m l) → (b || holds m (c ++ (l ∷ []))) ≡ ((b || holds m c) || same m l)
-    go true e = refl
-    go false e = e
-
-or-both : (b : Bool) → (b || true) ≡ true
-or-both true = refl
-or-both false = refl
-
-or-first : (b : Bool) → (b || false) ≡ b
-or-first true = refl
-or-first false = refl
-
-pub marks-start : (table : List ℕ) (stamp : ℕ) → Fresh table stamp → Marks table stamp []
-unfolding holds any
-marks-start table stamp f = record {
-  told = λ l h. ne-eqb (getD table (index-of l) 0) stamp (λ e. no (getD table (index-of l) 0) e (f .below (index-of l)));
-  below = λ i. below (getD table i 0) (f .below i);
-}
-  where
-    no : (x : ℕ) → x ≡ stamp → x < stamp → ⊥
-    no x e h = omega arith
-
-    below : (x : ℕ) → x < stamp → x ≤ stamp
-    below x h = omega arith
-
--- the places of a literal and its negation
-module _ (l : ℤ) (h : natAbs l ≤ 70_000) (i j : ℕ) (p : i ≡ index-of l) (q : j ≡ index-of (negation l)) where
-  pub place-within : i < 140_002
-  place-within = omega (arith, index-within l)
-
-  pub negation-within : j < 140_002
-  negation-within = omega (arith, index-within (negation l), ap natAbs (negation-small l (omega arith)) ∙ natAbs-neg l)
-
-  module _ (table : List ℕ) (stamp : ℕ) where
-    pub mark-five : getD table i 0 ≡ stamp → (5 ≡ mark-of table stamp l) × (table ≡ marked 5 table stamp l)
-    mark-five e = (rw (eq-eqb (getD table (index-of l) 0) stamp (ap (λ (n : ℕ). getD table n 0) (sym p) ∙ e)) refl, refl)
-
-    pub mark-six : (getD table i 0 ≡ stamp → ⊥) → getD table j 0 ≡ stamp → (6 ≡ mark-of table stamp l) × (table ≡ marked 6 table stamp l)
-    mark-six n e = (rw (ne-eqb (getD table (index-of l) 0) stamp (λ z. n (ap (λ (n : ℕ). getD table n 0) p ∙ z)), eq-eqb (getD table (index-of (negation l)) 0) stamp (ap (λ (n : ℕ). getD table n 0) (sym q) ∙ e)) refl, refl)
-
-    pub mark-none : (getD table i 0 ≡ stamp → ⊥) → (getD table j 0 ≡ stamp → ⊥) → (0 ≡ mark-of table stamp l) × (set table i stamp ≡ marked 0 table stamp l)
-    mark-none n m = (rw (ne-eqb (getD table (index-of l) 0) stamp (λ z. n (ap (λ (n : ℕ). getD table n 0) p ∙ z)), ne-eqb (getD table (index-of (negation l)) 0) stamp (λ z. m (ap (λ (n : ℕ). getD table n 0) q ∙ z))) refl, ap (λ (n : ℕ). set table n stamp) p)
-
-module _ (table : List ℕ) (stamp : ℕ) (here : Clause) (k : Marks table stamp here) (l : ℤ) (h : natAbs l ≤ 70_000) where
-  mark-is : mark-of table stamp l ≡ cond (holds l here) 5 (cond (holds (negℤ l) here) 6 0)
-  mark-is = rw (negation-small l (omega arith), k .told l h, k .told (negℤ l) (rw (natAbs-neg l) h)) refl
-
-  pub mark-fault : (m : ℕ) (x : Word-read) → m ≡ mark-of table stamp l → (m ≡ 0 → ⊥) → bad-if (holds l here) 5 (bad-if (holds (negℤ l) here) 6 x) ≡ bad m
-  mark-fault m x e n = go (holds l here) (holds (negℤ l) here) (e ∙ mark-is)
-    where
-      go : (a b : Bool) → m ≡ cond a 5 (cond b 6 0) → bad-if a 5 (bad-if b 6 x) ≡ bad m
-      go true b q = ap bad (sym q)
-      go false true q = ap bad (sym q)
-      go false false q = absurd (n q)
-
-  pub mark-new : (x : Word-read) → 0 ≡ mark-of table stamp l → bad-if (holds l here) 5 (bad-if (holds (negℤ l) here) 6 x) ≡ x
-  mark-new x e = go (holds l here) (holds (negℤ l) here) (e ∙ mark-is)
-    where
-      go : (a b : Bool) → _≡_ {A = ℕ} 0 (cond a 5 (cond b 6 0)) → bad-if a 5 (bad-if b 6 x) ≡ x
-      go true b q = absurd (no q)
-        where
-          no : _≡_ {A = ℕ} 0 5 → ⊥
-          no z = omega arith
-      go false true q = absurd (no q)
-        where
-          no : _≡_ {A = ℕ} 0 6 → ⊥
-          no z = omega arith
-      go false false q = refl
-
-  module _ (room : index-of l < length table) where
-    told-same : eqb (getD (set table (index-of l) stamp) (index-of l) 0) stamp ≡ holds l (here ++ (l ∷ []))
-    told-same = eq-eqb _ _ (getD-set-same table (index-of l) stamp 0 room) ∙ sym (holds-snoc l l here ∙ ap (λ (b : Bool). holds l here || b) (to-true (same-refl l)) ∙ or-both (holds l here))
-
-    told-other : (m : ℤ) → natAbs m ≤ 70_000 → same m l ≡ false → eqb (getD (set table (index-of l) stamp) (index-of m) 0) stamp ≡ holds m (here ++ (l ∷ []))
-    told-other m g e =
-        ap (λ (x : ℕ). eqb x stamp) (getD-set-other table (index-of l) (index-of m) stamp 0 (λ q. unlike m l e (index-injective m l q)))
-        ∙ k .told m g
-        ∙ sym (holds-snoc m l here ∙ ap (λ (b : Bool). holds m here || b) e ∙ or-first (holds m here))
-
-    set-below : (i : ℕ) → getD (set table (index-of l) stamp) i 0 ≤ stamp
-    set-below i = by-test (eqb i (index-of l))
-        (λ e. rw (eqb-true i (index-of l) e, getD-set-same table (index-of l) stamp 0 room) (omega arith))
-        (λ e. rw (getD-set-other table (index-of l) i stamp 0 (eqb-false i (index-of l) e)) (k .below i))
-
-    pub marks-add : Marks (set table (index-of l) stamp) stamp (here ++ (l ∷ []))
-    marks-add = record {
-      told = λ m g. by-test (same m l) (λ e. rw (same-eq m l (of-true e)) told-same) (told-other m g);
-      below = set-below;
-    }
-
 -- ---- a word in its clause
 
 -- what a word by itself says of it in its clause
@@ -210,21 +107,29 @@ module _ (v : ℕ) (full : Bool) (w : Bytes) (i : Item) (e : i ≡ number-item v
     unfolding word-read
     word-literal here = subst (Says v full here (number-read v full here (number w))) q (says here) .1
 
-    module _ (table : List ℕ) (stamp m : ℕ) (h : v ≤ 70_000) (g : m ≡ mark-of table stamp l) (here : Clause) (k : Marks table stamp here) where
-      low : natAbs l ≤ 70_000
-      low = omega (arith, literal-low)
+    -- by what its mark says
+    module _ (here : Clause) (table : List ℕ) (stamp : ℕ) (m : Marked) (g : Mark-post here l table stamp m) where
+      pub word-repeated : m ≡ Mark.Repeated → word-read v full here w ≡ bad 5
+      word-repeated e =
+          let k = subst (Mark-post here l table stamp) e g in
+          word-literal here ∙ rw (k .0) refl
 
-      pub word-marked : (m ≡ 0 → ⊥) → word-read v full here w ≡ bad m
-      word-marked n = word-literal here ∙ mark-fault table stamp here k l low m _ g n
+      pub word-opposed : m ≡ Mark.Opposed → word-read v full here w ≡ bad 6
+      word-opposed e =
+          let k = subst (Mark-post here l table stamp) e g in
+          word-literal here ∙ rw (k .0, k .1) refl
 
-      pub word-full : m ≡ 0 → full ≡ true → word-read v full here w ≡ bad 9
-      word-full z f = word-literal here ∙ mark-new table stamp here k l low _ (sym z ∙ g) ∙ ap (λ (b : Bool). bad-if b 9 (literal l)) f
+      module _ (z : m ≡ Mark.New) where
+        new-literal : word-read v full here w ≡ bad-if full 9 (literal l)
+        new-literal =
+            let k = subst (Mark-post here l table stamp) z g in
+            word-literal here ∙ rw (k .0, k .1) refl
 
-      pub word-new : (after : List ℕ) → after ≡ marked m table stamp l → m ≡ 0 → full ≡ false → 140_002 ≤ length table → (word-read v full here w ≡ literal l) × Marks after stamp (here ++ (l ∷ []))
-      word-new after a z f room = (
-        word-literal here ∙ mark-new table stamp here k l low _ (sym z ∙ g) ∙ ap (λ (b : Bool). bad-if b 9 (literal l)) f,
-        rw (a, z) (marks-add table stamp here k l low (omega (arith, low, index-within l))),
-      )
+        pub word-full : full ≡ true → word-read v full here w ≡ bad 9
+        word-full f = new-literal ∙ ap (λ (b : Bool). bad-if b 9 (literal l)) f
+
+        pub word-new : full ≡ false → (word-read v full here w ≡ literal l) × Marks table stamp (here ++ (l ∷ []))
+        word-new f = (new-literal ∙ ap (λ (b : Bool). bad-if b 9 (literal l)) f, subst (Mark-post here l table stamp) z g .2)
 
 -- a literal that may be read is not one too many
 not-full : (v : ℕ) (full : Bool) (here : Clause) (w : Bytes) (l : ℤ) → word-read v full here w ≡ literal l → full ≡ false

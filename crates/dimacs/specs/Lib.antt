@@ -1,5 +1,5 @@
 pub mod Clause
 pub mod HeaderLine
-pub mod Marks
+pub mod Items
 pub mod Outcome
 pub mod Loading

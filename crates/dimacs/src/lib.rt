@@ -1,4 +1,5 @@
 // DIMACS CNF reading.
+use stamps::Marked;
 use text::Natural;
 use text::Number;
 use text::Word;
@@ -8,7 +9,7 @@ ghost use mathlib.Core.List.{[], _++_};
 ghost use Prim.Native.Nat.{suc, _+_, _*_, _≤_};
 ghost use lib.ListN.{length, take, drop, set, replicate};
 ghost use lib.Seq.{sets};
-ghost use lib.IntN.{pos, natAbs};
+ghost use lib.IntN.{pos};
 ghost use Rattle.definition.specs.Literals.{Clause};
 ghost use Rattle.definition.specs.Text.{bytes, number, past-comments, words, fields};
 ghost use Rattle.definition.specs.Answer.{begins-with};
@@ -18,7 +19,8 @@ ghost use Rattle.definition.specs.Reading.{Input, input-limits, read-back-limit
 ghost use Rattle.dimacs.specs.Clause.{first-clause};
 ghost use Rattle.dimacs.specs.Outcome.{header-of, checked-of, read-back-of};
 ghost use Rattle.dimacs.specs.Loading.{literal-in, step-of, Step-post, Load-post, plains, capped-entries, entries, entries-of};
-ghost use Rattle.dimacs.specs.Marks.{Marks, Fresh, number-item, mark-of, marked, Item-post, Clause-post};
+ghost use Rattle.stamps.specs.Stamps.{Marks, Fresh};
+ghost use Rattle.dimacs.specs.Items.{number-item, Item-post, Clause-post};
 ghost use Rattle.dimacs.specs.HeaderLine.{until, line-until, limits-of, Countable, counts-by, counts-of, Header-post};
 
 // The most that a text may have.
@@ -242,24 +244,6 @@ fn number_item(word: &[u8], variables: u32) -> Item
     }
 }
 
-// Marks a literal as read in the clause of a stamp; answers 5 if it is there already, 6 if its negation is, else 0.
-fn mark(seen: &mut [u32], stamp: u32, l: i32) -> u8
-    requires { ⌜ natAbs l ≤ 70000 ⌝ }
-    requires { ⌜ 140002 ≤ length (now seen) ⌝ }
-    ensures { λ r. ⌜ (r ≡ mark-of (now (seen .entry)) stamp l) × (now (seen .exit) ≡ marked r (now (seen .entry)) stamp l) ⌝ }
-{
-    let i = literals::literal_index(l);
-    let j = literals::literal_index(literals::negated(l));
-    if seen[i] == stamp {
-        return 5;
-    }
-    if seen[j] == stamp {
-        return 6;
-    }
-    seen[i] = stamp;
-    0
-}
-
 // What a word says in its clause: 3, 4, 5, 6, 9.
 fn read_item(word: &[u8], seen: &mut [u32], stamp: u32, variables: u32, full: bool) -> Item
     requires { ⌜ variables ≤ 70000 ⌝ }
@@ -269,16 +253,16 @@ fn read_item(word: &[u8], seen: &mut [u32], stamp: u32, variables: u32, full: bo
     match number_item(word, variables) {
         Item::Zero => Item::Zero,
         Item::Fault(n) => Item::Fault(n),
-        Item::Literal(l) => {
-            let m = mark(seen, stamp, l);
-            if m != 0 {
-                return Item::Fault(m);
+        Item::Literal(l) => match stamps::mark(seen, stamp, l) {
+            Marked::Repeated => Item::Fault(5),
+            Marked::Opposed => Item::Fault(6),
+            Marked::New => {
+                if full {
+                    return Item::Fault(9);
+                }
+                Item::Literal(l)
             }
-            if full {
-                return Item::Fault(9);
-            }
-            Item::Literal(l)
-        }
+        },
     }
 }
 

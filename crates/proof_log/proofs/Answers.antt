@@ -20,14 +20,14 @@ use Rattle.laws.proofs.Tests.{to-false, or-false-both, by-test, differ}
 use Rattle.laws.proofs.Loops.{none-some}
 use Rattle.laws.proofs.Members.{Proper, mem-holds, mem-opposes, opposes-mem}
 use Rattle.laws.proofs.Clauses.{members-snoc}
-use Rattle.laws.proofs.Fitting.{Line-fits}
+use Rattle.laws.proofs.Fitting.{Line-fits, line-to, proper-length}
 use Rattle.laws.proofs.Outcomes.{fault-value, value-same, refuse-value, bind-value, through-keeps}
 use Rattle.clauses.specs.Store.{Formed}
 use Rattle.clauses.proofs.Laws.{formed-++, entry-formed}
 use Rattle.proof_log.specs.declared.LogCheck.the-variants as Check
 use Rattle.proof_log.specs.Reading.{log-answer}
 use Rattle.proof_log.specs.Loading.{line-entry, line-entries, Faultless, read-entries}
-use Rattle.proof_log.proofs.Extra.{some-same, proper-short}
+use Rattle.proof_log.proofs.Extra.{some-same}
 use Rattle.proof_log.proofs.Reading.{allowed-parts}
 use Rattle.proof_log.proofs.Line.{allowed-some}
 use Rattle.proof_log.proofs.Loading.{entry-size}
@@ -139,8 +139,8 @@ lines-fit kept t ss e =
 
 entry-formed-line : (s : Line) → Line-fits 70_000 s → Formed (line-entry s)
 unfolding literals
-entry-formed-line (addition c) f = entry-formed c (omega (arith, proper-short 70_000 c (f .0) (f .1)))
-entry-formed-line (deletion c) f = entry-formed c (omega (arith, proper-short 70_000 c (f .0) (f .1)))
+entry-formed-line (addition c) f = entry-formed c (omega (arith, proper-length 70_000 c (line-to 70_000 (addition c) f)))
+entry-formed-line (deletion c) f = entry-formed c (omega (arith, proper-length 70_000 c (line-to 70_000 (deletion c) f)))
 
 pub entries-formed : (ss : List Line) → All-fit ss → Formed (line-entries ss)
 unfolding for-each

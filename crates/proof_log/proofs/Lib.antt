@@ -4,7 +4,6 @@ pub mod Writing
 pub mod FormulaText
 pub mod Words
 pub mod Rest
-pub mod Stamps
 pub mod Reading
 pub mod Line
 pub mod Log

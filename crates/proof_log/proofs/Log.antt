@@ -14,9 +14,10 @@ use Rattle.definition.specs.Text.{Bytes, text-lines, fields}
 use Rattle.definition.specs.Standing.{Line, highest-in}
 use Rattle.definition.specs.LogReading.{read-line-fields, read-line, read-log, numbers-in}
 use Rattle.laws.proofs.Slices.{rest-is}
+use Rattle.stamps.specs.Stamps.{Fresh}
 use Rattle.proof_log.specs.declared.LineRead.the-variants as Read
 use Rattle.proof_log.specs.declared.LogCheck.the-variants as Check
-use Rattle.proof_log.specs.Reading.{line-answer, log-answer, Below}
+use Rattle.proof_log.specs.Reading.{line-answer, log-answer}
 use Rattle.proof_log.proofs.Extra.{numbers-snoc, highest-snoc}
 use Rattle.proof_log.proofs.Line.{One-line, Found, line-found, Refused, line-refused}
 
@@ -47,7 +48,7 @@ line-none ss (suc k) = refl
 
 -- ---- the loop: the lines ss are read
 
-pub record Checking (log : Bytes) (kept at n numbers top : ℕ) (seen : List ℕ) : Type 0 where
+pub record Checking (log : Bytes) (kept stamp at n numbers top : ℕ) (seen : List ℕ) : Type 0 where
   pub ss : List Line
   pub few : n ≤ kept
   pub count : n ≡ length ss
@@ -57,11 +58,11 @@ pub record Checking (log : Bytes) (kept at n numbers top : ℕ) (seen : List ℕ
   pub high : top ≡ highest-in ss
   pub place : from-line ss (kept - n) (drop at log) ≡ from-line [] kept log
   pub size : length seen ≡ 140_002
-  pub below : Below (at + 1) seen
+  pub fresh : Fresh seen stamp
 
-pub checking-start : (log : Bytes) (kept : ℕ) (seen : List ℕ) → length seen ≡ 140_002 → Below 1 seen → Checking log kept 0 0 0 0 seen
+pub checking-start : (log : Bytes) (kept : ℕ) (stamp : ℕ) (seen : List ℕ) → length seen ≡ 140_002 → Fresh seen stamp → Checking log kept stamp 0 0 0 0 seen
 unfolding numbers-in sum-of highest-in
-checking-start log kept seen h b =
+checking-start log kept stamp seen h f =
     let z : kept - 0 ≡ kept = omega arith in record {
       ss = [];
       few = omega arith;
@@ -72,10 +73,10 @@ checking-start log kept seen h b =
       high = refl;
       place = ap (λ (k : ℕ). from-line [] k log) z;
       size = h;
-      below = b;
+      fresh = f;
     }
 
-module _ {log : Bytes} {kept at n numbers top : ℕ} {seen : List ℕ} (s : Checking log kept at n numbers top seen) where
+module _ {log : Bytes} {kept stamp at n numbers top : ℕ} {seen : List ℕ} (s : Checking log kept stamp at n numbers top seen) where
   pub checking-end : kept ≤ n → Check.Kept numbers top ≡ log-answer (read-log kept log)
   unfolding read-log _>>=_ refuse-if through
   checking-end h =
@@ -109,7 +110,7 @@ module _ {log : Bytes} {kept at n numbers top : ℕ} {seen : List ℕ} (s : Chec
       pub numbers-room : numbers + (m + 1) ≤ at + next
       numbers-room = omega (arith, s .room, f .size, f .line .room)
 
-      pub checking-step : {t : ℕ} {new : List ℕ} → t ≡ max top v → length new ≡ length seen → Below (at + 1 + 1) new → Checking log kept (at + next) (n + 1) (numbers + (m + 1)) t new
+      pub checking-step : {t stamp' : ℕ} {new : List ℕ} → t ≡ max top v → length new ≡ length seen → Fresh new stamp' → Checking log kept stamp' (at + next) (n + 1) (numbers + (m + 1)) t new
       checking-step {new = new} q z b = record {
         ss = s .ss ++ (f .s ∷ []);
         few = omega arith;
@@ -120,5 +121,5 @@ module _ {log : Bytes} {kept at n numbers top : ℕ} {seen : List ℕ} (s : Chec
         high = omega (arith, q, s .high, f .high, highest-snoc (s .ss) (f .s));
         place = ap (from-line (s .ss ++ (f .s ∷ [])) (kept - (n + 1))) (sym (drop-drop next at log)) ∙ sym (line-step (s .ss) (kept - (n + 1)) (drop at log) (f .line)) ∙ ap (λ (k : ℕ). from-line (s .ss) k (drop at log)) (sym left) ∙ s .place;
         size = z ∙ s .size;
-        below = record { entry = λ i. omega (arith, b .entry i, f .line .room) };
+        fresh = b;
       }

@@ -1,5 +1,5 @@
 -- Reading the clause of a line. Assumes nothing.
-use mathlib.Core.Path.{_≡_, refl, sym, ap, _∙_}
+use mathlib.Core.Path.{_≡_, refl, sym, ap, subst, _∙_}
 use mathlib.Core.Bool.{Bool, true, false, not, _&&_, _||_}
 use mathlib.Core.List.{List, [], _∷_, _++_, append-nil}
 use mathlib.Core.Option.{Option, some, none}
@@ -9,20 +9,23 @@ use lib.Dec.{leb}
 use lib.IntN.{ℤ, negℤ, natAbs}
 use lib.ListN.{length, drop, length-append}
 use lib.Seq.{append-snoc}
-use borrow.Author.Tests.{le-leb, lt-leb, leb-true, not-true, not-false}
+use borrow.Author.Tests.{le-leb, lt-leb, leb-true, not-false}
 use Rattle.definition.specs.Checked.{fault, value, refuse-if}
 use Rattle.definition.specs.Literals.{Clause, holds, repeated, opposed, highest}
 use Rattle.definition.specs.Text.{Bytes}
 use Rattle.definition.specs.LogReading.{line-clause-allowed, allowed-clause}
 use Rattle.laws.proofs.Outcomes.{refuse-value}
-use Rattle.laws.proofs.Tests.{to-true, of-true, not-true as no-more, and-l, and-r, by-test, or-false-both, differ}
+use Rattle.laws.proofs.Tests.{to-true, of-true, not-true as no-more, and-l, and-r, by-test, differ}
 use Rattle.laws.proofs.Members.{Proper, holds-mem, mem-holds}
 use Rattle.laws.proofs.Clauses.{proper-snoc, proper-unrepeated, proper-not-opposed}
 use Rattle.proof_log.specs.declared.LineRead.the-variants as Read
-use Rattle.proof_log.specs.Reading.{line-rest, rest-answer, fresh, stamped, Below}
+use Rattle.stamps.specs.Stamps.{At-most, Marks, Fresh, Mark-post}
+use Rattle.stamps.specs.declared.Marked.{Marked}
+use Rattle.stamps.specs.declared.Marked.the-variants as Mark
+use Rattle.stamps.proofs.Laws.{marks-start}
+use Rattle.proof_log.specs.Reading.{line-rest, rest-answer}
 use Rattle.proof_log.proofs.Extra.{highest-append, repeated-after, opposed-after}
 use Rattle.proof_log.proofs.Rest.{preceded, Last, More, No-line}
-use Rattle.proof_log.proofs.Stamps.{Seen, seen-start, seen-step, fresh-is, below-more, below-stamped}
 
 -- ---- what makes a clause refused
 
@@ -105,12 +108,11 @@ pub record Reading (d : Bool) (t : Bytes) (from stamp at count top : ℕ) (seen 
   pub high : top ≡ highest c
   pub room : count ≤ at
   pub place : rest-answer d at c (line-rest (drop at t)) ≡ rest-answer d from [] (line-rest (drop from t))
-  pub stamps : Seen stamp seen c
-  pub below : Below (stamp + 1) seen
+  pub marks : Marks seen stamp c
 
-pub reading-start : (d : Bool) (t : Bytes) (from stamp : ℕ) (seen : List ℕ) → 140_002 ≤ length seen → Below stamp seen → Reading d t from stamp from 0 0 seen
+pub reading-start : (d : Bool) (t : Bytes) (from stamp : ℕ) (seen : List ℕ) → Fresh seen stamp → Reading d t from stamp from 0 0 seen
 unfolding highest
-reading-start d t from stamp seen h b = record {
+reading-start d t from stamp seen f = record {
   c = [];
   proper = tt;
   small = omega arith;
@@ -118,32 +120,44 @@ reading-start d t from stamp seen h b = record {
   high = refl;
   room = omega arith;
   place = refl;
-  stamps = seen-start h b;
-  below = below-more b;
+  marks = marks-start seen stamp f;
 }
 
 module _ {d : Bool} {t : Bytes} {from stamp at count top : ℕ} {seen : List ℕ} (s : Reading d t from stamp at count top seen) where
-  module _ {next : ℕ} {l : ℤ} (m : More t at next l) where
-    pub reading-taken : fresh seen stamp l ≡ false → Read.Fault ≡ rest-answer d from [] (line-rest (drop from t))
-    reading-taken e =
-        answer-taken d at (s .c) (next - at) l (line-rest (drop next t)) (not-false (holds l (s .c) || holds (negℤ l) (s .c)) (sym (fresh-is l (s .stamps) (m .small)) ∙ e))
+  -- by what the mark of its next literal says
+  module _ {next : ℕ} {l : ℤ} (m : More t at next l) (new : List ℕ) (r : Marked) (p : Mark-post (s .c) l new stamp r) where
+    abbrev Told : Marked → Type 0
+    Told x = Mark-post (s .c) l new stamp x
+
+    taken : (holds l (s .c) || holds (negℤ l) (s .c)) ≡ true → Read.Fault ≡ rest-answer d from [] (line-rest (drop from t))
+    taken e =
+        answer-taken d at (s .c) (next - at) l (line-rest (drop next t)) e
         ∙ ap (rest-answer d at (s .c)) (sym (m .rest))
         ∙ s .place
 
-    pub reading-step : fresh seen stamp l ≡ true → Reading d t from stamp next (count + 1) (max top (natAbs l)) (stamped seen stamp l)
+    pub reading-repeated : r ≡ Mark.Repeated → (Read.Fault ≡ rest-answer d from [] (line-rest (drop from t))) × At-most new stamp
+    reading-repeated e =
+        let k = subst Told e p in
+        (taken (rw (k .0) refl), k .1 .below)
+
+    pub reading-opposed : r ≡ Mark.Opposed → (Read.Fault ≡ rest-answer d from [] (line-rest (drop from t))) × At-most new stamp
+    reading-opposed e =
+        let k = subst Told e p in
+        (taken (rw (k .0, k .1) refl), k .2 .below)
+
+    pub reading-step : r ≡ Mark.New → {v top' : ℕ} → v ≡ natAbs l → top' ≡ max top v → Reading d t from stamp next (count + 1) top' new
     unfolding highest
-    reading-step e =
-        let apart = or-false-both (holds l (s .c)) (holds (negℤ l) (s .c)) (not-true (holds l (s .c) || holds (negℤ l) (s .c)) (sym (fresh-is l (s .stamps) (m .small)) ∙ e)) in
+    reading-step e w z =
+        let k = subst Told e p in
         let q : at + (next - at) ≡ next = omega (arith, m .after) in record {
           c = s .c ++ (l ∷ []);
-          proper = proper-snoc (s .c) l (s .proper) (λ z. m .literal (ap natAbs z)) (λ i. differ (mem-holds l (s .c) i) (apart .0)) (λ i. differ (mem-holds (negℤ l) (s .c) i) (apart .1));
+          proper = proper-snoc (s .c) l (s .proper) (λ x. m .literal (ap natAbs x)) (λ i. differ (mem-holds l (s .c) i) (k .0)) (λ i. differ (mem-holds (negℤ l) (s .c) i) (k .1));
           small = omega (arith, s .small, m .small);
           size = omega (arith, s .size, length-append (s .c) (l ∷ []));
           high = omega (arith, s .high, highest-append (s .c) (l ∷ []));
           room = omega (arith, s .room, m .after);
           place = ap (λ (n : ℕ). rest-answer d n (s .c ++ (l ∷ [])) (line-rest (drop next t))) (sym q) ∙ sym (answer-more d at (s .c) (next - at) l (line-rest (drop next t))) ∙ ap (rest-answer d at (s .c)) (sym (m .rest)) ∙ s .place;
-          stamps = rw e (seen-step l (s .stamps) (m .small));
-          below = below-stamped seen stamp l (s .below);
+          marks = k .2;
         }
 
   pub reading-last : {next : ℕ} → Last t at next → Read.Line next d count top ≡ rest-answer d from [] (line-rest (drop from t))
@@ -152,10 +166,3 @@ module _ {d : Bool} {t : Bytes} {from stamp at count top : ℕ} {seen : List ℕ
 
   pub reading-fault : No-line t at → Read.Fault ≡ rest-answer d from [] (line-rest (drop from t))
   reading-fault m = answer-none d at (s .c) m ∙ s .place
-
--- the same, as the loop has them
-pub reading-again : {d : Bool} {t : Bytes} {from stamp at count top : ℕ} {seen : List ℕ} → Reading d t from stamp at count top seen → {next : ℕ} {l : ℤ} → More t at next l → {r : Bool} → r ≡ fresh seen stamp l → r ≡ true → {new : List ℕ} → new ≡ stamped seen stamp l → {v top' : ℕ} → v ≡ natAbs l → top' ≡ max top v → Reading d t from stamp next (count + 1) top' new
-reading-again s m f e p v q = rw (q, v, p) (reading-step s m (sym f ∙ e))
-
-pub reading-refused : {d : Bool} {t : Bytes} {from stamp at count top : ℕ} {seen : List ℕ} → Reading d t from stamp at count top seen → {next : ℕ} {l : ℤ} → More t at next l → {r : Bool} → r ≡ fresh seen stamp l → r ≡ false → {new : List ℕ} → new ≡ stamped seen stamp l → (Read.Fault ≡ rest-answer d from [] (line-rest (drop from t))) × Below (stamp + 1) new
-reading-refused {stamp = stamp} {seen = seen} s {l = l} m f e p = (reading-taken s m (sym f ∙ e), rw p (below-stamped seen stamp l (s .below)))

@@ -1,12 +1,12 @@
 -- What the readers of kept lines answer: the definition's words, read from a place of the text on.
 use mathlib.Core.Path.{_≡_, refl}
-use mathlib.Core.Bool.{Bool, true, false, not, _&&_, _||_, cond}
+use mathlib.Core.Bool.{Bool, true, false, _&&_, _||_, cond}
 use mathlib.Core.List.{List, [], _∷_, _++_}
 use mathlib.Core.Option.{Option, some, none}
-use Prim.Native.Nat.{ℕ, _+_, _-_, _<_}
+use Prim.Native.Nat.{ℕ, _+_, _-_}
 use lib.Dec.{eqb}
-use lib.IntN.{ℤ, negsuc, natAbs}
-use lib.ListN.{length, getD, set, take, drop}
+use lib.IntN.{negsuc, natAbs}
+use lib.ListN.{length, take, drop}
 use Rattle.definition.specs.Lists as Lists
 use Rattle.definition.specs.Checked.{Checked, fault, value}
 use Rattle.definition.specs.Checked as Checked
@@ -18,7 +18,6 @@ use Rattle.definition.specs.Standing.{Line, addition, deletion, literals, highe
 use Rattle.definition.specs.Standing as Standing
 use Rattle.definition.specs.LogReading.{read-line-clause, allowed-clause, read-line-fields, read-log, numbers-in}
 use Rattle.definition.specs.LogReading as LogReading
-use Rattle.literals.specs.Literal.{negation, index-of}
 use Rattle.text.specs.Numbers.{number-class}
 use Rattle.text.specs.Words.{run-end, leading}
 use Rattle.text.specs.declared.Number.{Number}
@@ -108,18 +107,6 @@ unfoldable pub begins-deletion : Bytes → Bool
 begins-deletion [] = false
 begins-deletion (b ∷ []) = false
 begins-deletion (b ∷ c ∷ t) = is "d" b && is " " c
-
--- ---- the literals of a line, by a table of stamps: an entry is the stamp where its literal is in the line
-
-abbrev pub fresh : List ℕ → ℕ → ℤ → Bool
-fresh seen stamp l = not (eqb (getD seen (index-of l) 0) stamp || eqb (getD seen (index-of (negation l)) 0) stamp)
-
-abbrev pub stamped : List ℕ → ℕ → ℤ → List ℕ
-stamped seen stamp l = cond (fresh seen stamp l) (set seen (index-of l) stamp) seen
-
--- every entry is below a number
-pub record Below (n : ℕ) (seen : List ℕ) : Type 0 where
-  pub entry : (i : ℕ) → getD seen i 0 < n
 
 -- ---- a log
 

@@ -1,8 +1,8 @@
 // Proof lines: the log's lines and the formula's text are written; the kept lines of a log are read.
+use stamps::Marked;
 ghost use mathlib.Core.Path.{_≡_};
 ghost use mathlib.Core.List.{[], _++_};
 ghost use Prim.Native.Nat.{_+_, _*_, _-_, _≤_, _<_, _^_, max};
-ghost use lib.IntN.{natAbs};
 ghost use lib.ListN.{length, drop, set};
 ghost use lib.Seq.{sets};
 ghost use mathlib.Core.Bool.{false};
@@ -15,8 +15,9 @@ ghost use Rattle.text.specs.Words.{run-end};
 ghost use Rattle.text.specs.Output.{Put};
 ghost use Rattle.round_trips.proofs.ClauseText.{literals-text};
 ghost use Rattle.clauses.specs.Store.{Formed, stored, past};
+ghost use Rattle.stamps.specs.Stamps.{Fresh, At-most};
 ghost use Rattle.proof_log.specs.Lines.{line-of, header-text, entry-text};
-ghost use Rattle.proof_log.specs.Reading.{stops, literal-answer, line-word, line-rest, rest-answer, line-answer, begins-deletion, log-answer, fresh, stamped, Below};
+ghost use Rattle.proof_log.specs.Reading.{stops, literal-answer, line-word, line-rest, rest-answer, line-answer, begins-deletion, log-answer};
 ghost use Rattle.proof_log.specs.Loading.{rest-clause, rest-size, Loadable, first-read, read-size, read-entry, Faultless, read-entries};
 
 // ---- writing
@@ -233,25 +234,6 @@ enum LineRead {
     Fault,
 }
 
-// Stamps a literal in the table, unless it or its negation has the stamp; says whether it did.
-fn stamp_new(seen: &mut [usize], stamp: usize, l: i32) -> bool
-    requires { ⌜ natAbs l ≤ 70000 ⌝ }
-    requires { ⌜ 140002 ≤ length (now seen) ⌝ }
-    ensures new { λ r. ⌜ r ≡ fresh (now (seen .entry)) stamp l ⌝ }
-    ensures table { λ _. ⌜ now (seen .exit) ≡ stamped (now (seen .entry)) stamp l ⌝ }
-{
-    let i = literals::literal_index(l);
-    let j = literals::literal_index(literals::negated(l));
-    if seen[i] == stamp {
-        return false;
-    }
-    if seen[j] == stamp {
-        return false;
-    }
-    seen[i] = stamp;
-    true
-}
-
 // The greater of two numbers.
 fn greater(a: u32, b: u32) -> u32
     ensures { λ r. ⌜ r ≡ max a b ⌝ }
@@ -264,28 +246,32 @@ fn read_clause(
     text: &[u8],
     from: usize,
     is_deletion: bool,
-    seen: &mut [usize],
-    stamp: usize,
+    seen: &mut [u32],
+    stamp: u32,
 ) -> LineRead
     requires { ⌜ 140002 ≤ length (now seen) ⌝ }
-    requires { ⌜ Below stamp (now seen) ⌝ }
+    requires { ⌜ Fresh (now seen) stamp ⌝ }
     ensures read { λ r. ⌜ r ≡ rest-answer «is_deletion» from [] (line-rest (drop from (now (text .entry)))) ⌝ }
-    ensures table { λ _. ⌜ Below (stamp + 1) (now (seen .exit)) ⌝ }
+    ensures table { λ _. ⌜ At-most (now (seen .exit)) stamp ⌝ }
 {
     let mut at = from;
     let mut count: usize = 0;
     let mut highest: u32 = 0;
     loop {
         match read_word(text, at) {
-            LineWord::Literal(next, l) => {
-                if stamp_new(seen, stamp, l) {
+            LineWord::Literal(next, l) => match stamps::mark(seen, stamp, l) {
+                Marked::New => {
                     at = next;
                     count += 1;
                     highest = greater(highest, literals::variable(l));
-                } else {
+                }
+                Marked::Repeated => {
                     return LineRead::Fault;
                 }
-            }
+                Marked::Opposed => {
+                    return LineRead::Fault;
+                }
+            },
             LineWord::End(next) => {
                 return LineRead::Line(next, is_deletion, count, highest);
             }
@@ -307,11 +293,11 @@ fn starts_deletion(text: &[u8]) -> bool
 }
 
 // The first line of a text, each literal looked up in a table of stamps.
-fn read_line(text: &[u8], seen: &mut [usize], stamp: usize) -> LineRead
+fn read_line(text: &[u8], seen: &mut [u32], stamp: u32) -> LineRead
     requires { ⌜ 140002 ≤ length (now seen) ⌝ }
-    requires { ⌜ Below stamp (now seen) ⌝ }
+    requires { ⌜ Fresh (now seen) stamp ⌝ }
     ensures read { λ r. ⌜ r ≡ line-answer (now (text .entry)) ⌝ }
-    ensures table { λ _. ⌜ Below (stamp + 1) (now (seen .exit)) ⌝ }
+    ensures table { λ _. ⌜ At-most (now (seen .exit)) stamp ⌝ }
 {
     if starts_deletion(text) {
         read_clause(text, 2, true, seen, stamp)
@@ -326,11 +312,12 @@ pub enum LogCheck {
     Fault(u8),
 }
 
-// Reads the kept lines of a log, the stamp of each one more than its place.
+// Reads the kept lines of a log, each with a stamp of its own.
 pub fn check_log(log: &[u8], kept: usize) -> LogCheck
     ensures { λ r. ⌜ r ≡ log-answer (read-log kept (now (log .entry))) ⌝ }
 {
-    let mut seen = [0usize; 140002];
+    let mut seen = [0u32; 140002];
+    let mut stamp: u32 = 1;
     let mut at = 0;
     let mut lines: usize = 0;
     let mut numbers: usize = 0;
@@ -339,8 +326,9 @@ pub fn check_log(log: &[u8], kept: usize) -> LogCheck
         if log.len() <= at {
             return LogCheck::Fault(34);
         }
-        match read_line(&log[at..], &mut seen, at + 1) {
+        match read_line(&log[at..], &mut seen, stamp) {
             LineRead::Line(next, _, count, variable) => {
+                stamp = stamps::next_stamp(&mut seen, stamp);
                 at += next;
                 lines += 1;
                 numbers += count + 1;

@@ -186,6 +186,10 @@ passing-room {F} {s = s} {at = at} b i =
       omega (arith, b .count, i .written .counted, g, length-append (lines (i .events)) (lines others)),
     )
 
+-- the clause at a place as a part of the store
+pub part-there : (s : List ℤ) (at next : ℕ) → next ≡ past s at → take (next - (at + 1)) (drop (at + 1) s) ≡ clause-at s at
+part-there s at next e = let k : next - (at + 1) ≡ size-at s at = omega arith in ap (λ (n : ℕ). take n (drop (at + 1) s)) k
+
 -- ---- at a place, by what the functions answer there
 
 pub at-deleted : (t : List ℕ) (s : List ℤ) (at : ℕ) (log : Bytes) (p : Progress) → deleted-at s at ≡ true → Step (pure-at t s at) s at log p s log p
@@ -193,7 +197,7 @@ at-deleted t s at log p d = rw d (refl, refl, refl)
 
 module _ (t : List ℕ) (s : List ℤ) (at next : ℕ) (e : next ≡ past s at) (d : deleted-at s at ≡ false) where
   part : take (next - (at + 1)) (drop (at + 1) s) ≡ clause-at s at
-  part = let k : next - (at + 1) ≡ size-at s at = omega arith in ap (λ (n : ℕ). take n (drop (at + 1) s)) k
+  part = part-there s at next e
 
   pub at-nothing : (log : Bytes) (p : Progress) {r : Pure} → r ≡ as-pure (pure-by t (take (next - (at + 1)) (drop (at + 1) s))) → r ≡ Nothing → Step (pure-at t s at) s at log p s log p
   at-nothing log p a b =

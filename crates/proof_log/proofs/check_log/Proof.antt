@@ -1,22 +1,22 @@
 use borrow.Author.Needs.{needs}
 use borrow.Author.Needs.{needs}
 use native.Mathlib.Omega.{arith}
-use mathlib.Core.Path.{sym}
+use mathlib.Core.Path.{sym, _∙_}
 use Prim.Native.Nat.{ℕ, _-_}
 use lib.ListN.{replicate, length-replicate}
-use Rattle.proof_log.proofs.Stamps.{below-start}
+use Rattle.stamps.proofs.Laws.{zeros-at-most, fresh-more}
 use Rattle.proof_log.proofs.Log.{Checking, checking-start, checking-end, checking-short, checking-fault, checking-found, checking-step, next-inside, numbers-room}
 use Rattle.proof_log.proofs.check_log.Statement.{statement}
 use Rattle.proof_log.proofs.check_log.Tie as tie
 
 abbrev Inv-loop : tie.InvT-loop
-Inv-loop log kept seen₀ at₀ lines₀ numbers₀ highest₀ seen at lines numbers highest = Checking log kept at lines numbers highest seen
+Inv-loop log kept seen₀ stamp₀ at₀ lines₀ numbers₀ highest₀ seen stamp at lines numbers highest = Checking log kept stamp at lines numbers highest seen
 
 abbrev μ-loop : tie.MeasureT-loop
-μ-loop log kept seen₀ at₀ lines₀ numbers₀ highest₀ seen at lines numbers highest = kept - lines
+μ-loop log kept seen₀ stamp₀ at₀ lines₀ numbers₀ highest₀ seen stamp at lines numbers highest = kept - lines
 
 loop-holds : tie.Need-loop-holds Inv-loop μ-loop
-loop-holds c = checking-start (c .before .args .log .now) (c .before .args .kept) (replicate 140_002 0) (length-replicate {A = ℕ} 140_002 0) (below-start 140_002)
+loop-holds c = checking-start (c .before .args .log .now) (c .before .args .kept) 1 (replicate 140_002 0) (length-replicate {A = ℕ} 140_002 0) (fresh-more (replicate 140_002 0) 0 (zeros-at-most 140_002 0))
 
 returns : tie.Need-returns Inv-loop μ-loop
 returns c = checking-short (c .before .before .loop .inv) (c .before .loop-test .taken) (c .if1 .taken)
@@ -33,26 +33,29 @@ part-read-line-end c = search needs
 slice-aggregate-read-line : tie.Need-slice-aggregate-read-line Inv-loop μ-loop
 slice-aggregate-read-line c = sym (c .before .before .before .before .loop .inv .size)
 
-add-read-line : tie.Need-add-read-line Inv-loop μ-loop
-add-read-line c = search needs
-
 read-line-requires : tie.Need-read-line-requires Inv-loop μ-loop
-read-line-requires c κs = (omega (arith, c .before .before .before .before .loop .inv .size), c .before .before .before .before .loop .inv .below)
+read-line-requires c κs = (omega (arith, c .before .before .before .before .loop .inv .size), c .before .before .before .before .loop .inv .fresh)
 
 enum-known-next : tie.Need-enum-known-next Inv-loop μ-loop
 enum-known-next c = search needs
 
+slice-aggregate-next-stamp : tie.Need-slice-aggregate-next-stamp Inv-loop μ-loop
+slice-aggregate-next-stamp c = sym (c .before .before .before .before .before .read-line .kept .1 .0 ∙ c .before .before .before .before .before .before .before .before .before .before .loop .inv .size)
+
+next-stamp-requires : tie.Need-next-stamp-requires Inv-loop μ-loop
+next-stamp-requires c κs = c .before .before .before .before .before .read-line .ensures .1
+
 add-at : tie.Need-add-at Inv-loop μ-loop
-add-at c = let f = (checking-found (c .before .before .before .before .before .before .before .before .before .loop .inv) (c .before .before .before .before .before .before .before .before .loop-test .taken) (c .before .before .before .before .before .before .before .if1 .left) (c .before .before .before .before .read-line .ensures .0) (c .before .next .given .1)) in record { fits = omega (arith, next-inside (c .before .before .before .before .before .before .before .before .before .loop .inv) (c .before .before .before .before .before .before .before .before .loop-test .taken) (c .before .before .before .before .before .before .before .if1 .left) f) }
+add-at c = let f = checking-found (c .before .before .before .before .before .before .before .before .before .before .before .before .loop .inv) (c .before .before .before .before .before .before .before .before .before .before .before .loop-test .taken) (c .before .before .before .before .before .before .before .before .before .before .if1 .left) (c .before .before .before .before .before .before .before .read-line .ensures .0) (c .before .before .before .before .next .given .1) in record { fits = omega (arith, next-inside (c .before .before .before .before .before .before .before .before .before .before .before .before .loop .inv) (c .before .before .before .before .before .before .before .before .before .before .before .loop-test .taken) (c .before .before .before .before .before .before .before .before .before .before .if1 .left) f) }
 
 add-lines : tie.Need-add-lines Inv-loop μ-loop
 add-lines c = search needs
 
 add-numbers : tie.Need-add-numbers Inv-loop μ-loop
-add-numbers c = let f = (checking-found (c .before .before .before .before .before .before .before .before .before .loop .inv) (c .before .before .before .before .before .before .before .before .loop-test .taken) (c .before .before .before .before .before .before .before .if1 .left) (c .before .before .before .before .read-line .ensures .0) (c .before .next .given .1)) in record { fits = omega (arith, next-inside (c .before .before .before .before .before .before .before .before .before .loop .inv) (c .before .before .before .before .before .before .before .before .loop-test .taken) (c .before .before .before .before .before .before .before .if1 .left) f, numbers-room (c .before .before .before .before .before .before .before .before .before .loop .inv) (c .before .before .before .before .before .before .before .before .loop-test .taken) (c .before .before .before .before .before .before .before .if1 .left) f) }
+add-numbers c = let f = checking-found (c .before .before .before .before .before .before .before .before .before .before .before .before .loop .inv) (c .before .before .before .before .before .before .before .before .before .before .before .loop-test .taken) (c .before .before .before .before .before .before .before .before .before .before .if1 .left) (c .before .before .before .before .before .before .before .read-line .ensures .0) (c .before .before .before .before .next .given .1) in record { fits = omega (arith, next-inside (c .before .before .before .before .before .before .before .before .before .before .before .before .loop .inv) (c .before .before .before .before .before .before .before .before .before .before .before .loop-test .taken) (c .before .before .before .before .before .before .before .before .before .before .if1 .left) f, numbers-room (c .before .before .before .before .before .before .before .before .before .before .before .before .loop .inv) (c .before .before .before .before .before .before .before .before .before .before .before .loop-test .taken) (c .before .before .before .before .before .before .before .before .before .before .if1 .left) f) }
 
 add-numbers-2 : tie.Need-add-numbers-2 Inv-loop μ-loop
-add-numbers-2 c = let f = (checking-found (c .before .before .before .before .before .before .before .before .before .loop .inv) (c .before .before .before .before .before .before .before .before .loop-test .taken) (c .before .before .before .before .before .before .before .if1 .left) (c .before .before .before .before .read-line .ensures .0) (c .before .next .given .1)) in record { fits = omega (arith, next-inside (c .before .before .before .before .before .before .before .before .before .loop .inv) (c .before .before .before .before .before .before .before .before .loop-test .taken) (c .before .before .before .before .before .before .before .if1 .left) f, numbers-room (c .before .before .before .before .before .before .before .before .before .loop .inv) (c .before .before .before .before .before .before .before .before .loop-test .taken) (c .before .before .before .before .before .before .before .if1 .left) f) }
+add-numbers-2 c = let f = checking-found (c .before .before .before .before .before .before .before .before .before .before .before .before .loop .inv) (c .before .before .before .before .before .before .before .before .before .before .before .loop-test .taken) (c .before .before .before .before .before .before .before .before .before .before .if1 .left) (c .before .before .before .before .before .before .before .read-line .ensures .0) (c .before .before .before .before .next .given .1) in record { fits = omega (arith, next-inside (c .before .before .before .before .before .before .before .before .before .before .before .before .loop .inv) (c .before .before .before .before .before .before .before .before .before .before .before .loop-test .taken) (c .before .before .before .before .before .before .before .before .before .before .if1 .left) f, numbers-room (c .before .before .before .before .before .before .before .before .before .before .before .before .loop .inv) (c .before .before .before .before .before .before .before .before .before .before .before .loop-test .taken) (c .before .before .before .before .before .before .before .before .before .before .if1 .left) f) }
 
 greater-requires : tie.Need-greater-requires Inv-loop μ-loop
 greater-requires c κs = search needs
@@ -61,7 +64,7 @@ loop-less : tie.Need-loop-less Inv-loop μ-loop
 loop-less c = search needs
 
 loop-again : tie.Need-loop-again Inv-loop μ-loop
-loop-again c = checking-step (c .before .before .before .before .before .before .before .before .before .before .loop .inv) (c .before .before .before .before .before .before .before .before .before .loop-test .taken) (c .before .before .before .before .before .before .before .before .if1 .left) (checking-found (c .before .before .before .before .before .before .before .before .before .before .loop .inv) (c .before .before .before .before .before .before .before .before .before .loop-test .taken) (c .before .before .before .before .before .before .before .before .if1 .left) (c .before .before .before .before .before .read-line .ensures .0) (c .before .before .next .given .1)) (c .greater .ensures) (c .before .before .before .before .before .read-line .kept .1 .0) (c .before .before .before .before .before .read-line .ensures .1)
+loop-again c = let f = checking-found (c .before .before .before .before .before .before .before .before .before .before .before .before .before .loop .inv) (c .before .before .before .before .before .before .before .before .before .before .before .before .loop-test .taken) (c .before .before .before .before .before .before .before .before .before .before .before .if1 .left) (c .before .before .before .before .before .before .before .before .read-line .ensures .0) (c .before .before .before .before .before .next .given .1) in checking-step (c .before .before .before .before .before .before .before .before .before .before .before .before .before .loop .inv) (c .before .before .before .before .before .before .before .before .before .before .before .before .loop-test .taken) (c .before .before .before .before .before .before .before .before .before .before .before .if1 .left) f (c .greater .ensures) (c .before .before .next-stamp .kept .0 ∙ c .before .before .before .before .before .before .before .before .read-line .kept .1 .0) (c .before .before .next-stamp .ensures)
 
 enum-told : tie.Need-enum-told Inv-loop μ-loop
 enum-told c = search needs
@@ -84,9 +87,10 @@ check-log-spec =
     part-read-line-start
     part-read-line-end
     slice-aggregate-read-line
-    add-read-line
     read-line-requires
     enum-known-next
+    slice-aggregate-next-stamp
+    next-stamp-requires
     add-at
     add-lines
     add-numbers

@@ -1,0 +1,4 @@
+pub mod Filling
+pub mod Search
+pub mod Resolving
+pub mod Opposed

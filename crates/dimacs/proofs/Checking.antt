@@ -25,7 +25,7 @@ use Rattle.dimacs.specs.HeaderLine.{limits-of, Header-post}
 use Rattle.dimacs.specs.declared.Limits as Code
 use Rattle.dimacs.specs.declared.Header as Code-header
 use Rattle.dimacs.specs.declared.Header.the-variants as Found-header
-use Rattle.dimacs.proofs.Extra.{Few, header-few}
+use Rattle.round_trips.proofs.Accepted.{Header-few, header-few}
 use Rattle.dimacs.proofs.Clauses.{by-clause, after-clause, full-none, full-some}
 
 abbrev pub reader : Formula → Clause → Reader
@@ -148,7 +148,7 @@ module _ (m : Code.Limits) (t : Bytes) (a : Code-header.Header) (p : Header-post
     pub header-next : next ≤ length t
     header-next = subst Found q p .1
 
-    pub header-within : Few (limits-of m) (header-of v c (drop next t))
+    pub header-within : Header-few (limits-of m) (header-of v c (drop next t))
     header-within = header-few (limits-of m) t _ (subst Found q p .0)
 
     pub formula-clauses : (rest : Bytes) → rest ≡ drop next t → read-clauses (limits-of m) (header-of v c rest) ≡ read-formula (limits-of m) t

@@ -1,4 +1,3 @@
-pub mod Extra
 pub mod Clauses
 pub mod HeaderLine
 pub mod Marking

@@ -269,7 +269,7 @@ module _ (m : Code.Limits) (k : Countable m) (t : Bytes) (a : Code-header.Header
 
   pub load-value : (v c next : ℕ) → a ≡ Found-header.Numbers v c next → (rest : Bytes) → rest ≡ drop next t → new ≡ sets old 0 (capped-entries (plains c (words rest))) → new ≡ sets old 0 (entries (i .formula))
   load-value v c next q rest r z =
-      let low : v ≤ 70_000 = omega (arith, header-within m t a p v c next q .variables, k .variables) in
+      let low : v ≤ 70_000 = omega (arith, header-within m t a p v c next q .0, k .variables) in
       let f : plains c (words rest) ≡ i .formula = formula-plain (limits-of m) v low c i rest (formula-clauses m t a p v c next q rest r ∙ e) in
       let few : literals-of (i .formula) < 2 ^ 31 = omega (arith, accepted (limits-of m) t i e .literals-few, k .literals) in
       z ∙ ap (sets old 0) (ap capped-entries f ∙ entries-capped (i .formula) few)

@@ -1,16 +1,18 @@
 -- Proper clauses: with a literal more at the end, and what the tests for repeated and opposed literals say. Assumes nothing.
+use Rattle.definition.specs.LogReading.{numbers-in}
+use Rattle.definition.specs.Standing.{Line, literals}
 use Rattle.definition.specs.Calls.{numbers-of}
 use mathlib.Core.Path.{_≡_, refl, sym, ap}
-use mathlib.Core.Bool.{false}
+use mathlib.Core.Bool.{false, true}
 use mathlib.Core.Logic.{_≢_, ⊎-elim}
-use mathlib.Core.List.{List, [], _∷_, _++_, List·Memᴰ, List·Memᴰ·head as here, List·Memᴰ·tail as there, List·Memᴰ·not-nil, List·Memᴰ·cases-cons, List·Memᴰ·append-cases, List·Memᴰ·eq-of-singleton, Memᴰ·append-right}
+use mathlib.Core.List.{List, [], _∷_, _++_, List·Memᴰ, List·Memᴰ·head as here, List·Memᴰ·tail as there, List·Memᴰ·not-nil, List·Memᴰ·cases-cons, List·Memᴰ·append-cases, List·Memᴰ·eq-of-singleton, Memᴰ·append-right, Memᴰ·append-left}
 use Prim.Native.Nat.{ℕ, _+_, _≤_}
 use native.Mathlib.Omega.{arith}
 use lib.IntN.{ℤ, pos, negsuc, negℤ, natAbs}
 use lib.ListN.{length}
 use Rattle.definition.specs.Lists.{sum-of}
 use Rattle.definition.specs.Literals.{Clause, Formula, holds, literals-of, repeated, opposed}
-use Rattle.laws.proofs.Tests.{to-false, differ, or-false-both}
+use Rattle.laws.proofs.Tests.{to-false, differ, or-false-both, to-true, of-true, or-l, or-r}
 use Rattle.laws.proofs.Sums.{sum-++, count-length, Distinct, sum-within}
 use Rattle.laws.proofs.Members.{turn, holds-false, mem-holds, opposes-mem, mem-opposes, Same, Proper, proper-unopposed}
 
@@ -98,3 +100,20 @@ numbers-++ (c ∷ f) g = omega (arith, numbers-first c (f ++ g), numbers-first c
 pub numbers-least : (f : Formula) → length f ≤ numbers-of f
 unfolding numbers-of
 numbers-least f = omega arith
+
+-- ---- a literal after itself, or after its negation
+pub repeated-after : (c : Clause) (l : ℤ) (d : Clause) → List·Memᴰ l c → repeated (c ++ l ∷ d) ≡ true
+unfolding repeated
+repeated-after (m ∷ c) l d (here e) =
+    to-true (or-l (holds m (c ++ l ∷ d)) (repeated (c ++ l ∷ d)) (mem-holds m (c ++ l ∷ d) (Memᴰ·append-right c (here (sym e)))))
+repeated-after (m ∷ c) l d (there i) = to-true (or-r (holds m (c ++ l ∷ d)) (repeated (c ++ l ∷ d)) (of-true (repeated-after c l d i)))
+
+pub opposed-after : (c : Clause) (l : ℤ) (d : Clause) → List·Memᴰ (negℤ l) c → opposed (c ++ l ∷ d) ≡ true
+unfolding opposed
+opposed-after c l d i = to-true (mem-opposes (c ++ l ∷ d) (c ++ l ∷ d) l (Memᴰ·append-right c (here refl)) (Memᴰ·append-left (l ∷ d) i))
+
+-- the numbers of a line more
+pub numbers-snoc : (ss : List Line) (s : Line) → numbers-in (ss ++ (s ∷ [])) ≡ numbers-in ss + (length (literals s) + 1)
+unfolding numbers-in sum-of
+numbers-snoc [] s = omega arith
+numbers-snoc (x ∷ ss) s = omega (arith, numbers-snoc ss s)

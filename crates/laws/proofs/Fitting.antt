@@ -2,7 +2,7 @@
 use mathlib.Core.Path.{_≡_, refl, sym, _∙_, ap}
 use mathlib.Core.Logic.{_≢_, ⊎-elim}
 use mathlib.Core.List.{List, [], _∷_, _++_, map, List·Memᴰ, List·Memᴰ·head as here, List·Memᴰ·tail as there, List·Memᴰ·append-cases, List·Memᴰ·not-nil, List·Memᴰ·eq-of-singleton, Memᴰ·of-map}
-use Prim.Native.Nat.{ℕ, zero, suc, _≤_, _<_}
+use Prim.Native.Nat.{ℕ, zero, suc, _≤_, _<_, max}
 use native.Mathlib.Omega.{arith}
 use lib.ListN.{length, length-map}
 use lib.IntN.{ℤ, pos, negsuc, negℤ, negℤ-negℤ, natAbs}
@@ -170,3 +170,14 @@ proper-length h c p =
       count-length (map natAbs c),
       length-map c natAbs,
     )
+
+-- a clause, or a line, more
+pub highest-append : (c d : Clause) → highest (c ++ d) ≡ max (highest c) (highest d)
+unfolding highest
+highest-append [] d = omega arith
+highest-append (l ∷ c) d = omega (arith, highest-append c d)
+
+pub highest-snoc : (ss : List Line) (s : Line) → highest-in (ss ++ (s ∷ [])) ≡ max (highest-in ss) (highest (literals s))
+unfolding highest-in
+highest-snoc [] s = omega arith
+highest-snoc (x ∷ ss) s = omega (arith, highest-snoc ss s)

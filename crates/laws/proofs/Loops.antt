@@ -69,6 +69,9 @@ count-mem p (y ∷ xs) x (there m) t = omega (arith, count-mem p xs x m t)
 pub none-some : {A : Type 0} {P : Type 0} {x : A} → none ≡ some x → P
 none-some e = let z : _≡_ {A = ℕ} 0 1 = cc in absurd (omega arith)
 
+pub some-same : {A : Type 0} {a b : A} → some a ≡ some b → a ≡ b
+some-same e = cc
+
 -- ---- numbers
 pub by-order : {X : Type 0} (i k : ℕ) → i ≤ k → (i ≡ k → X) → (i < k → X) → X
 by-order {X} i k h f g = go (ℕ-discrete i k)

@@ -17,7 +17,7 @@ use Rattle.definition.specs.Text.{Bytes, TextLine, bytes, text-lines, same-byte
 use Rattle.definition.specs.Standing.{Line, addition, deletion, literals, highest-in}
 use Rattle.definition.specs.LogReading.{with-literal, read-line-clause, allowed-clause, read-line-fields, read-line, read-log, numbers-in}
 use Rattle.laws.proofs.Tests.{to-false, or-false-both, by-test, differ}
-use Rattle.laws.proofs.Loops.{none-some}
+use Rattle.laws.proofs.Loops.{none-some, some-same}
 use Rattle.laws.proofs.Members.{Proper, mem-holds, mem-opposes, opposes-mem}
 use Rattle.laws.proofs.Clauses.{members-snoc}
 use Rattle.laws.proofs.Fitting.{Line-fits, line-to, proper-length}
@@ -27,7 +27,6 @@ use Rattle.clauses.proofs.Laws.{formed-++, entry-formed}
 use Rattle.proof_log.specs.declared.LogCheck.the-variants as Check
 use Rattle.proof_log.specs.Reading.{log-answer}
 use Rattle.proof_log.specs.Loading.{line-entry, line-entries, Faultless, read-entries}
-use Rattle.proof_log.proofs.Extra.{some-same}
 use Rattle.proof_log.proofs.Reading.{allowed-parts}
 use Rattle.proof_log.proofs.Line.{allowed-some}
 use Rattle.proof_log.proofs.Loading.{entry-size}

@@ -1,5 +1,4 @@
--- Extra: laws that are not about this crate. Answers: laws for callers. The others serve the functions of this crate.
-pub mod Extra
+-- Answers: laws for callers. The others serve the functions of this crate.
 pub mod Writing
 pub mod FormulaText
 pub mod Words

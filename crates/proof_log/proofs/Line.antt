@@ -17,12 +17,11 @@ use Rattle.definition.specs.Text.{Bytes, TextLine, bytes, is, text-lines, longe
 use Rattle.definition.specs.Standing.{Line, addition, deletion, literals}
 use Rattle.definition.specs.LogReading.{with-literal, read-line-clause, line-clause-allowed, allowed-clause, read-line-fields, read-line}
 use Rattle.laws.proofs.Tests.{by-test, of-true, and-l, and-r, differ}
-use Rattle.laws.proofs.Loops.{none-some}
+use Rattle.laws.proofs.Loops.{none-some, some-same}
 use Rattle.laws.proofs.Outcomes.{fault-value, value-same, refuse-value, bind-value}
 use Rattle.round_trips.proofs.Words.{Free, first-field, first-line}
 use Rattle.proof_log.specs.declared.LineRead.the-variants as Read
 use Rattle.proof_log.specs.Reading.{first-ended, sized, ended-rest, line-rest, clause-answer, rest-answer, deletes, fields-answer, ended-answer, line-answer, begins-deletion}
-use Rattle.proof_log.proofs.Extra.{some-same}
 use Rattle.proof_log.proofs.Rest.{before, ended-free, ended-cons}
 
 newline : (b : ℕ) → is "\n" b ≡ true → b ≡ 10

@@ -18,7 +18,8 @@ use Rattle.stamps.specs.Stamps.{Fresh}
 use Rattle.proof_log.specs.declared.LineRead.the-variants as Read
 use Rattle.proof_log.specs.declared.LogCheck.the-variants as Check
 use Rattle.proof_log.specs.Reading.{line-answer, log-answer}
-use Rattle.proof_log.proofs.Extra.{numbers-snoc, highest-snoc}
+use Rattle.laws.proofs.Clauses.{numbers-snoc}
+use Rattle.laws.proofs.Fitting.{highest-snoc}
 use Rattle.proof_log.proofs.Line.{One-line, Found, line-found, Refused, line-refused}
 
 -- ---- the lines of a log, read one after another

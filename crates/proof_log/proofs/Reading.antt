@@ -17,14 +17,14 @@ use Rattle.definition.specs.LogReading.{line-clause-allowed, allowed-clause}
 use Rattle.laws.proofs.Outcomes.{refuse-value}
 use Rattle.laws.proofs.Tests.{to-true, of-true, not-true as no-more, and-l, and-r, by-test, differ}
 use Rattle.laws.proofs.Members.{Proper, holds-mem, mem-holds}
-use Rattle.laws.proofs.Clauses.{proper-snoc, proper-unrepeated, proper-not-opposed}
+use Rattle.laws.proofs.Clauses.{proper-snoc, proper-unrepeated, proper-not-opposed, repeated-after, opposed-after}
 use Rattle.proof_log.specs.declared.LineRead.the-variants as Read
 use Rattle.stamps.specs.Stamps.{At-most, Marks, Fresh, Mark-post}
 use Rattle.stamps.specs.declared.Marked.{Marked}
 use Rattle.stamps.specs.declared.Marked.the-variants as Mark
 use Rattle.stamps.proofs.Laws.{marks-start}
 use Rattle.proof_log.specs.Reading.{line-rest, rest-answer}
-use Rattle.proof_log.proofs.Extra.{highest-append, repeated-after, opposed-after}
+use Rattle.laws.proofs.Fitting.{highest-append}
 use Rattle.proof_log.proofs.Rest.{preceded, Last, More, No-line}
 
 -- ---- what makes a clause refused

@@ -1,7 +1,7 @@
 -- The tests by a table are the definition's, and the loops over a clause. Assumes nothing.
 use mathlib.Core.Path.{_≡_, refl, sym, ap, _∙_}
 use mathlib.Core.Bool.{Bool, true, false, _&&_}
-use mathlib.Core.List.{List, [], _∷_, List·Memᴰ, List·Memᴰ·head, List·Memᴰ·tail}
+use mathlib.Core.List.{List, List·Memᴰ}
 use mathlib.Core.Option.{Option, some, none}
 use Prim.Native.Nat.{ℕ, _+_, _≤_, _<_}
 use native.Mathlib.Omega.{arith}
@@ -11,7 +11,7 @@ use lib.ListN.{length, getD, drop, replicate}
 use Rattle.definition.specs.Lists.{all, first}
 use Rattle.definition.specs.Literals.{Clause, Formula}
 use Rattle.definition.specs.Clearing.{times, unique, pure, deletable, pure-literal}
-use Rattle.laws.proofs.Members.{Proper-all, natAbs-neg, all-same}
+use Rattle.laws.proofs.Members.{Proper-all, natAbs-neg, all-same, first-agree}
 use Rattle.literals.specs.Literal.{index-of, negation}
 use Rattle.literals.proofs.Laws.{negation-small, index-within}
 use Rattle.clauses.specs.Tally.{most, tallied-all}
@@ -65,11 +65,6 @@ nothing-is (some k) e = absurd (let z : _≡_ {A = ℕ} 0 1 = cc in omega arith)
 pub counted-table : (h : ℕ) (F : Formula) → Proper-all F → length F ≤ most → Counts h (tallied-all (replicate (h + h + 2) 0) F) F
 counted-table h F p b l f = counted-exactly (h + h + 2) F (proper-none-repeated F p) b l (omega (arith, index-within l))
 
-first-same : {A : Type 0} (p q : A → Bool) (xs : List A) → ((x : A) → List·Memᴰ x xs → p x ≡ q x) → first p xs ≡ first q xs
-unfolding first
-first-same p q [] h = refl
-first-same p q (x ∷ xs) h = rw (h x (List·Memᴰ·head refl), first-same p q xs (λ y i. h y (List·Memᴰ·tail i)))
-
 module _ (h : ℕ) (b : h ≤ 2147483647) (t : List ℕ) (F : Formula) (k : Counts h t F) (c : Clause) (f : (x : ℤ) → List·Memᴰ x c → natAbs x ≤ h) where
   pub unique-is : unique-by t c ≡ unique F c
   unfolding unique
@@ -83,4 +78,4 @@ module _ (h : ℕ) (b : h ≤ 2147483647) (t : List ℕ) (F : Formula) (k : Coun
 
   pub pure-literal-is : pure-by t c ≡ pure-literal F c
   unfolding pure-literal deletable
-  pure-literal-is = rw (unique-is, first-same (pure-in t) (pure F) c pure-is) refl
+  pure-literal-is = rw (unique-is, first-agree (pure-in t) (pure F) c pure-is) refl

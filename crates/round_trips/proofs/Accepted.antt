@@ -87,7 +87,7 @@ pub record Accepted (most : Limits) (i : Input) : Type 0 where
   pub proper : Proper-all (i .formula)
 
 -- V and C within the limits
-abbrev Header-few : Limits → Header → Type 0
+abbrev pub Header-few : Limits → Header → Type 0
 Header-few most h = (h .variables ≤ most .variables) × (h .clauses ≤ most .clauses)
 
 fields-few : (most : Limits) (f : List Bytes) (after : Bytes) (h : Header) → read-header-fields most f after ≡ value h → Header-few most h
@@ -109,7 +109,7 @@ unfolding read-header-line
 line-few most [] t h e = fault-value 1 h e
 line-few most (l ∷ ls) t h e = fields-few most (fields (line-text l)) (drop (suc (length (l .text))) t) h e
 
-header-few : (most : Limits) (t : Bytes) (h : Header) → read-header most t ≡ value h → Header-few most h
+pub header-few : (most : Limits) (t : Bytes) (h : Header) → read-header most t ≡ value h → Header-few most h
 unfolding read-header
 header-few most t h e = let u = past-comments false t in line-few most (text-lines u) u h e
 

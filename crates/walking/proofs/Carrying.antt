@@ -1,4 +1,5 @@
 -- An assignment in a table, tested, repaired and carried back. Assumes nothing.
+use Rattle.laws.proofs.Fitting.{highest-snoc}
 use mathlib.Core.Path.{_≡_, refl, sym, ap, _∙_}
 use mathlib.Core.Bool.{true, false}
 use mathlib.Core.List.{List, [], _∷_, _++_}
@@ -75,11 +76,6 @@ unfolding carried-back
 carried-back-snoc a [] x = refl
 carried-back-snoc a (y ∷ xs) x = ap (λ (b : Assignment). carried b y) (carried-back-snoc a xs x)
 
-pub highest-in-snoc : (xs : List Line) (x : Line) → highest-in (xs ++ (x ∷ [])) ≡ max (highest-in xs) (highest (literals x))
-unfolding highest-in
-highest-in-snoc [] x = omega arith
-highest-in-snoc (y ∷ xs) x = omega (arith, highest-in-snoc xs x)
-
 -- over the line at a place
 module _ (s : List ℤ) (at : ℕ) (m : Bytes) where
   pub carried-deletion : (n : Bytes) → deleted-at s at ≡ true → (highest (clause-at s at) < length m → marked n ≡ repaired (clause-at s at) (marked m))
@@ -120,7 +116,7 @@ carrying-step s old m n end start i l k r = record {
 }
   where
     highest-here : highest-in (lines-in (take end s)) ≡ max (highest-in (lines-in (take start s))) (highest (literals (line-at s start)))
-    highest-here = ap highest-in (l .lines) ∙ highest-in-snoc (lines-in (take start s)) (line-at s start)
+    highest-here = ap highest-in (l .lines) ∙ highest-snoc (lines-in (take start s)) (line-at s start)
 
 pub carrying-end : (s : List ℤ) (old m : Bytes) (end : ℕ) → Carrying s old m end → end ≤ 0 → highest-in (lines-in s) < length old → marked m ≡ carried-back (marked old) (lines-in s)
 unfolding carried-back

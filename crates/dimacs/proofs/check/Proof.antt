@@ -27,7 +27,7 @@ part-check-clauses-end : tie.Need-part-check-clauses-end
 part-check-clauses-end c = search needs
 
 check-clauses-requires : tie.Need-check-clauses-requires
-check-clauses-requires c κs = let f = header-within (c .before .before .before .before .before .before .args .most) (now (c .before .before .before .before .before .before .args .text)) _ (c .before .before .before .before .read-header .ensures) _ _ _ (c .before .before .v .given .1) in (omega (arith, f .variables, c .before .before .before .before .before .before .pre .variables), (omega (arith, f .clauses, c .before .before .before .before .before .before .pre .clauses), c .before .before .before .before .before .before .pre .literals))
+check-clauses-requires c κs = let f = header-within (c .before .before .before .before .before .before .args .most) (now (c .before .before .before .before .before .before .args .text)) _ (c .before .before .before .before .read-header .ensures) _ _ _ (c .before .before .v .given .1) in (omega (arith, f .0, c .before .before .before .before .before .before .pre .variables), (omega (arith, f .1, c .before .before .before .before .before .before .pre .clauses), c .before .before .before .before .before .before .pre .literals))
 
 returns : tie.Need-returns
 returns c = sym (ap checked-of (formula-fault (c .before .before .before .before .before .args .most) (now (c .before .before .before .before .before .args .text)) _ (c .before .before .before .read-header .ensures) _ (c .before .n .given .1)))

@@ -1,20 +1,19 @@
 -- Laws of the steps of reading an answer. Assumes nothing.
+use Rattle.text.proofs.Numbers.{number-answer}
 use mathlib.Core.Path.{_≡_, refl, sym, ap, subst, _∙_}
 use mathlib.Core.Bool.{true, false, not, _&&_, _||_, and-false}
 use mathlib.Core.List.{List, [], _∷_, _++_}
-use mathlib.Core.Option.{Option, some, none}
 use Prim.Native.Nat.{ℕ, _≤_, _<_}
 use native.Mathlib.Omega.{arith}
-use lib.Dec.{eqb, leb}
+use lib.Dec.{eqb}
 use lib.IntN.{ℤ, negℤ, natAbs}
 use lib.ListN.{length, getD, drop, replicate}
-use borrow.Author.Tests.{eq-eqb, ne-eqb, lt-ltb, le-ltb, leb-false}
+use borrow.Author.Tests.{eq-eqb, ne-eqb, lt-ltb, le-ltb}
 use Rattle.definition.specs.Checked.{Checked, fault, value, _>>=_, refuse-if, or-fault, through}
 use Rattle.definition.specs.Text.{Bytes, bytes, same-bytes, words-by, TextLine, text-lines, line-text, number}
 use Rattle.definition.specs.Literals.{Clause, holds}
 use Rattle.definition.specs.Answer.{Answer, begins-with, space-or-tab, read-answer-word, read-answer-line, read-answer}
 use Rattle.definition.specs.Calls.{assigned}
-use Rattle.laws.proofs.Tests.{by-test}
 use Rattle.text.specs.declared.Number.{Number}
 use Rattle.text.specs.declared.Number.the-variants as Number
 use Rattle.text.specs.Numbers.{number-class}
@@ -61,33 +60,21 @@ module _ (x : ℕ) (l : ℤ) (m : Bytes) where
 
 -- ---- a word before the closing `0`: what the number read says of it
 
-class-value : (o : Option ℤ) (l : ℤ) → number-class o ≡ Number.Value l → o ≡ some l
-class-value none l e = cc
-class-value (some z) l e = by-test (leb (natAbs z) 70_000) (λ b. let k : Number.Value z ≡ Number.Value l = (rw b at e) in cc) (λ b. let k : Number.Large ≡ Number.Value l = (rw b at e) in cc)
-
-class-none : (o : Option ℤ) → number-class o ≡ Number.NotANumber → o ≡ none
-class-none none e = refl
-class-none (some z) e = by-test (leb (natAbs z) 70_000) (λ b. let k : Number.Value z ≡ Number.NotANumber = (rw b at e) in cc) (λ b. let k : Number.Large ≡ Number.NotANumber = (rw b at e) in cc)
-
-class-large : (o : Option ℤ) → number-class o ≡ Number.Large → (z : ℤ) × (o ≡ some z) × (70_000 < natAbs z)
-class-large none e = let k : _≡_ {A = ℕ} 0 1 = cc in absurd (omega arith)
-class-large (some z) e = (z, refl, by-test (leb (natAbs z) 70_000) (λ b. let f : Number.Value z ≡ Number.Large = (rw b at e) in let k : _≡_ {A = ℕ} 0 1 = cc in absurd (omega arith)) (λ b. leb-false (natAbs z) 70_000 b))
-
 module _ (x : ℕ) (w : Bytes) where
   word-literal : (l : ℤ) → Number.Value l ≡ number-class (number w) → (c : Clause) → read-literal x c l ≡ read-answer-word x (open-at c) w
   unfolding read-answer-word read-literal refuse-if or-fault _>>=_
-  word-literal l e c = rw (class-value (number w) l (sym e)) refl
+  word-literal l e c = let r = number-answer (number w) e in rw (r .0) refl
 
   pub word-number : (l : ℤ) (m : Bytes) (q : Progress) (after : Bytes) → Number.Value l ≡ number-class (number w) → Steps-open (λ c. read-literal x c l) m q after → Steps-open (λ c. read-answer-word x (open-at c) w) m q after
   word-number l m q after e s = λ c t. rw (word-literal l e c) at (s c t)
 
   pub word-large : x ≤ 70_000 → Number.Large ≡ number-class (number w) → (c : Clause) → read-answer-word x (open-at c) w ≡ fault 42
   unfolding read-answer-word refuse-if or-fault _>>=_
-  word-large h e c = let r = class-large (number w) (sym e) in rw (r .1, ne-eqb 0 (natAbs (r .0)) (λ q. omega (arith, r .2)), lt-ltb x (natAbs (r .0)) (omega (arith, r .2))) refl
+  word-large h e c = let r = number-answer (number w) e in rw (r .1, ne-eqb 0 (natAbs (r .0)) (λ q. omega (arith, r .2)), lt-ltb x (natAbs (r .0)) (omega (arith, r .2))) refl
 
   pub word-none : Number.NotANumber ≡ number-class (number w) → (c : Clause) → read-answer-word x (open-at c) w ≡ fault 41
   unfolding read-answer-word refuse-if or-fault _>>=_
-  word-none e c = rw (class-none (number w) (sym e)) refl
+  word-none e c = rw (number-answer (number w) e) refl
 
   -- ---- a word, by what is read before it
   module _ (m : Bytes) (q : Progress) (after : Bytes) (s : Steps-open (λ c. read-answer-word x (open-at c) w) m q after) where

@@ -1,4 +1,5 @@
 -- What the table of `count_all` says: its entry at a literal's index is the number of clauses in which the literal stands. Assumes nothing.
+use Rattle.laws.proofs.Clauses.{proper-unrepeated}
 use mathlib.Core.Path.{_≡_, refl, sym, ap, _∙_}
 use mathlib.Core.Bool.{Bool, true, false, cond, _||_}
 use mathlib.Core.List.{List, [], _∷_}
@@ -11,7 +12,7 @@ use Rattle.definition.specs.Lists.{bit, any, count, sum-of}
 use Rattle.definition.specs.Literals.{Clause, Formula, same, holds, repeated}
 use Rattle.definition.specs.Clearing.{times}
 use Rattle.laws.proofs.Tests.{of-true, differ, by-test, to-false}
-use Rattle.laws.proofs.Members.{same-eq, holds-mem, any-mem, Proper, Proper-all}
+use Rattle.laws.proofs.Members.{same-eq, any-mem, Proper-all}
 use Rattle.literals.specs.Literal.{index-of}
 use Rattle.clauses.specs.Store.{stored, deleted-at, past}
 use Rattle.clauses.specs.Tally.{most, bumped, tallied, tallied-all, tallied-at}
@@ -149,10 +150,5 @@ pub counted-exactly : (n : ℕ) (f : Formula) → any repeated f ≡ false → l
 counted-exactly n f d b l h = omega (arith, counted n f d l h, times-within l f)
 
 -- proper clauses repeat no literal
-pub proper-once : (c : Clause) → Proper c → repeated c ≡ false
-unfolding repeated
-proper-once [] p = refl
-proper-once (l ∷ c) p = let a : holds l c ≡ false = to-false (λ t. p .1 (holds-mem l c t)) in rw a (proper-once c (p .3))
-
 pub proper-none-repeated : (f : Formula) → Proper-all f → any repeated f ≡ false
-proper-none-repeated f p = to-false (λ t. let r = any-mem repeated f t in differ (r .2) (proper-once (r .0) (p (r .0) (r .1))))
+proper-none-repeated f p = to-false (λ t. let r = any-mem repeated f t in differ (r .2) (proper-unrepeated (r .0) (p (r .0) (r .1))))

@@ -1,4 +1,5 @@
 -- Reading a clause with marks in a table. Assumes nothing.
+use Rattle.text.proofs.Numbers.{number-answer}
 use mathlib.Core.Path.{_≡_, refl, sym, ap, subst, _∙_}
 use mathlib.Core.Bool.{Bool, true, false, cond}
 use mathlib.Core.List.{List, [], _∷_, _++_}
@@ -26,49 +27,24 @@ use Rattle.dimacs.specs.declared.Item.the-variants as Item
 
 -- ---- a word by itself
 
-class-value : (o : Option ℤ) (l : ℤ) → number-class o ≡ Number.Value l → o ≡ some l
-class-value none l e = absurd (let z : _≡_ {A = ℕ} 0 1 = cc in omega arith)
-class-value (some k) l e = go (leb (natAbs k) 70_000) e
-  where
-    go : (b : Bool) → cond b (Number.Value k) Number.Large ≡ Number.Value l → some k ≡ some l
-    go true q = cc
-    go false q = absurd (let z : _≡_ {A = ℕ} 0 1 = cc in omega arith)
-
 module _ (v : ℕ) (o : Option ℤ) where
   pub item-none : number-class o ≡ Number.NotANumber → Item.Fault 3 ≡ number-item v o
-  item-none e = go o e
-    where
-      go : (o : Option ℤ) → number-class o ≡ Number.NotANumber → Item.Fault 3 ≡ number-item v o
-      go none e = refl
-      go (some k) e = by (leb (natAbs k) 70_000) e
-        where
-          by : (b : Bool) → cond b (Number.Value k) Number.Large ≡ Number.NotANumber → Item.Fault 3 ≡ number-item v (some k)
-          by true q = absurd (let z : _≡_ {A = ℕ} 0 1 = cc in omega arith)
-          by false q = absurd (let z : _≡_ {A = ℕ} 0 1 = cc in omega arith)
+  item-none e = rw (number-answer o (sym e)) refl
 
   pub item-large : v ≤ 70_000 → number-class o ≡ Number.Large → Item.Fault 4 ≡ number-item v o
-  item-large h e = go o e
-    where
-      go : (o : Option ℤ) → number-class o ≡ Number.Large → Item.Fault 4 ≡ number-item v o
-      go none e = absurd (let z : _≡_ {A = ℕ} 0 1 = cc in omega arith)
-      go (some k) e = by (leb (natAbs k) 70_000) refl e
-        where
-          by : (b : Bool) → leb (natAbs k) 70_000 ≡ b → cond b (Number.Value k) Number.Large ≡ Number.Large → Item.Fault 4 ≡ number-item v (some k)
-          by true q f = absurd (let z : _≡_ {A = ℕ} 0 1 = cc in omega arith)
-          by false q f = rw (ne-eqb 0 (natAbs k) (λ z. no z (leb-false (natAbs k) 70_000 q)), lt-ltb v (natAbs k) (omega (arith, leb-false (natAbs k) 70_000 q))) refl
-            where
-              no : 0 ≡ natAbs k → 70_000 < natAbs k → ⊥
-              no x y = omega arith
+  item-large h e =
+      let r = number-answer o (sym e) in
+      rw (r .1, ne-eqb 0 (natAbs (r .0)) (λ z. omega (arith, r .2)), lt-ltb v (natAbs (r .0)) (omega (arith, r .2))) refl
 
   module _ (l : ℤ) (e : number-class o ≡ Number.Value l) where
     pub item-zero : eqb 0 (natAbs l) ≡ true → Item.Zero ≡ number-item v o
-    item-zero q = rw (class-value o l e, q) refl
+    item-zero q = let r = number-answer o (sym e) in rw (r .0, q) refl
 
     pub item-high : eqb 0 (natAbs l) ≡ false → v < natAbs l → Item.Fault 4 ≡ number-item v o
-    item-high q h = rw (class-value o l e, q, lt-ltb v (natAbs l) h) refl
+    item-high q h = let r = number-answer o (sym e) in rw (r .0, q, lt-ltb v (natAbs l) h) refl
 
     pub item-literal : eqb 0 (natAbs l) ≡ false → natAbs l ≤ v → Item.Literal l ≡ number-item v o
-    item-literal q h = rw (class-value o l e, q, le-ltb v (natAbs l) h) refl
+    item-literal q h = let r = number-answer o (sym e) in rw (r .0, q, le-ltb v (natAbs l) h) refl
 
 -- ---- a word in its clause
 

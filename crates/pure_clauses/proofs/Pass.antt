@@ -18,7 +18,7 @@ use Rattle.definition.specs.Reencoding.{lines, lines-of}
 use Rattle.laws.proofs.Members.{Fits}
 use Rattle.laws.proofs.Tests.{by-test}
 use Rattle.laws.proofs.Removal.{Removed, removed-take-out, mem-removed}
-use Rattle.laws.proofs.Replay.{after-++}
+use Rattle.laws.proofs.Replay.{after-++, lines-++}
 use Rattle.soundness.proofs.Times.{times-removed, times-at, unique-at, unique-some, at-unique}
 use Rattle.clearing.proofs.Clashes.{Clash-free}
 use Rattle.clearing.proofs.Pure.{Is-pure, pure-some, pure-removed}
@@ -27,7 +27,7 @@ use Rattle.clauses.specs.Store.{Formed, stored, size-at, deleted-at, clause-at,
 use Rattle.clauses.proofs.Laws.{place-start, place-formed, place-next, stored-end, stored-around, rest-deleted, rest-stands, marked-place, marked-past, marked-behind, marked-stored}
 use Rattle.recording.specs.declared.Progress.{Progress}
 use Rattle.recording.specs.Progress.{Written, Ran}
-use Rattle.recording.proofs.Laws.{lines-none, lines-one, lines-++, text-++, written-none, written-then, ran-lines}
+use Rattle.recording.proofs.Laws.{lines-none, lines-one, text-++, written-none, written-then, ran-lines}
 use Rattle.pure_clauses.specs.Table.{Counts, pure-by, as-pure}
 use Rattle.pure_clauses.specs.declared.Pure.{Pure}
 use Rattle.pure_clauses.specs.declared.Pure.the-variants.{Literal, Nothing}

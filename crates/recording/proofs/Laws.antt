@@ -13,7 +13,7 @@ use Rattle.definition.specs.Log.{log-text, log-line-text}
 use Rattle.definition.specs.Events.{Event}
 use Rattle.definition.specs.Reencoding.{lines, lines-of}
 use Rattle.laws.proofs.Loops.{for-each-++}
-use Rattle.laws.proofs.Replay.{after-++}
+use Rattle.laws.proofs.Replay.{after-++, lines-++}
 use Rattle.text.specs.Output.{Put}
 use Rattle.text.proofs.Output.{put-none, put-then, put-same, put-length}
 use Rattle.clauses.specs.Store.{Formed, stored}
@@ -29,10 +29,6 @@ lines-none = refl
 pub lines-one : (e : Event) → lines (e ∷ []) ≡ lines-of e
 unfolding lines for-each
 lines-one e = append-nil (lines-of e)
-
-pub lines-++ : (es fs : List Event) → lines (es ++ fs) ≡ lines es ++ lines fs
-unfolding lines
-lines-++ es fs = for-each-++ es fs lines-of
 
 pub text-none : log-text [] ≡ []
 unfolding log-text for-each

@@ -10,7 +10,7 @@ use lib.IntN.{ℤ, negℤ, negℤ-negℤ, natAbs}
 use lib.ListN.{getD, replicate}
 use Rattle.definition.specs.Lists.{bit, any}
 use Rattle.definition.specs.Literals.{Clause, same, holds, without, opposed}
-use Rattle.laws.proofs.Tests.{of-true, to-true, to-false, not-true, of-false, and-l, and-r, and-i}
+use Rattle.laws.proofs.Tests.{of-true, to-true, not-true, of-false, and-l, and-r, and-i, each-way}
 use Rattle.laws.proofs.Members.{any-mem, mem-any, unlike, unlike-false, holds-mem, mem-holds, opposes-mem, mem-opposes, Proper, proper-unopposed, natAbs-neg}
 use Rattle.literals.specs.Literal.{index-of}
 use Rattle.literals.proofs.Laws.{negation-small}
@@ -21,11 +21,6 @@ use Rattle.pure_clauses.specs.Table.{Counts, pure-in}
 use Rattle.pure_clauses.specs.Pass.{reach}
 use Rattle.pure_clauses.proofs.Tests.{counted-table}
 use Rattle.clash_clearing.specs.Resolving.{opposite-in}
-
--- tests that say the same
-same-test : (a b : Bool) → (T a → T b) → (T b → T a) → a ≡ b
-same-test true b f g = sym (to-true (f tt))
-same-test false b f g = sym (to-false g)
 
 module _ (A B : Clause) (v : ℤ) (p : Proper A) (q : Proper B) (f : (x : ℤ) → List·Memᴰ x B → natAbs x ≤ reach) where
   abbrev t : List ℕ
@@ -76,6 +71,6 @@ module _ (A B : Clause) (v : ℤ) (p : Proper A) (q : Proper B) (f : (x : ℤ) �
   pub opposed-is : any (opposite-in t (negℤ v)) B ≡ opposed joint
   unfolding opposed
   opposed-is =
-      same-test (any (opposite-in t (negℤ v)) B) (opposed joint)
+      each-way {a = any (opposite-in t (negℤ v)) B} {b = opposed joint}
       (λ u. let r = any-mem (opposite-in t (negℤ v)) B u in opposite-mem (r .0) (r .1) (r .2))
       (λ u. let r = opposes-mem joint joint u in opposed-mem (r .0) (List·Memᴰ·append-cases (without v A) (r .1)) (List·Memᴰ·append-cases (without v A) (r .2)))

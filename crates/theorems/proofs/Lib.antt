@@ -4,3 +4,4 @@ pub mod Demand3
 pub mod Texts
 pub mod WayBack
 pub mod Steps
+pub mod Premise

@@ -1,7 +1,7 @@
 -- Laws for the callers: lines one after another, events one after another. Assumes nothing.
 use mathlib.Core.Path.{_≡_, refl, sym, ap, _∙_}
 use mathlib.Core.List.{List, [], _∷_, _++_, append-nil}
-use Prim.Native.Nat.{ℕ, _+_, _≤_}
+use Prim.Native.Nat.{ℕ, _+_, _≤_, _<_, _^_}
 use native.Mathlib.Omega.{arith}
 use lib.IntN.{ℤ}
 use lib.ListN.{length, take, length-append}
@@ -18,7 +18,7 @@ use Rattle.text.specs.Output.{Put}
 use Rattle.text.proofs.Output.{put-none, put-then, put-same, put-length}
 use Rattle.clauses.specs.Store.{Formed, stored}
 use Rattle.recording.specs.declared.Progress.{Progress}
-use Rattle.recording.specs.Progress.{Written, Ran}
+use Rattle.recording.specs.Progress.{Written, Log-room, Ran}
 
 -- ---- the lines of events, and their text
 
@@ -58,6 +58,19 @@ written-then {ks} {ls} a b =
 pub written-length : {ls : List Line} {x y : Bytes} {p q : Progress} → Written ls x p y q → length y ≡ length x
 written-length a = put-length (a .written)
 
+-- ---- room for lines
+
+text-length : (ks ls : List Line) → length (log-text (ks ++ ls)) ≡ length (log-text ks) + length (log-text ls)
+text-length ks ls = ap length (text-++ ks ls) ∙ length-append (log-text ks) (log-text ls)
+
+pub room-first : (ks ls : List Line) {p : Progress} → Log-room (ks ++ ls) p → Log-room ks p
+room-first ks ls r =
+    record { text = omega (arith, r .text, text-length ks ls); count = omega (arith, r .count, length-append ks ls) }
+
+pub room-rest : (ks ls : List Line) {x y : Bytes} {p q : Progress} → Log-room (ks ++ ls) p → Written ks x p y q → Log-room ls q
+room-rest ks ls r w =
+    record { text = omega (arith, r .text, text-length ks ls, w .written .next); count = omega (arith, r .count, length-append ks ls, w .counted) }
+
 -- ---- events
 
 -- what a phase needs of the store
@@ -89,3 +102,7 @@ ran-written r = record { written = r .written; counted = r .counted }
 pub ran-join : {F : Formula} {es fs : List Event} {size : ℕ} {x y z : Bytes} {p q r : Progress} {v w : List ℤ} → Ran F es size x p v y q → Ran (after F (lines es)) fs size y q w z r → Ran F (es ++ fs) size x p w z r
 ran-join {F} {es} {fs} a b =
     ran-lines (b .size) (ran-holds b) (sym (after-++ F (lines es) (lines fs)) ∙ ap (after F) (sym (lines-++ es fs))) (rw (lines-++ es fs) (written-then (ran-written a) (ran-written b)))
+
+-- only the lines of the events count
+pub ran-as : {F : Formula} {es fs : List Event} {size : ℕ} {x y : Bytes} {p q : Progress} {work : List ℤ} → lines es ≡ lines fs → Ran F es size x p work y q → Ran F fs size x p work y q
+ran-as {F} e r = ran-lines (r .size) (ran-holds r) (ap (after F) e) (rw e at (ran-written r))

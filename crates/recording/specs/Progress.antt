@@ -1,7 +1,7 @@
 -- How far a run is, and what a phase of it does.
 use mathlib.Core.Path.{_≡_}
 use mathlib.Core.List.{List}
-use Prim.Native.Nat.{ℕ, _+_, _≤_}
+use Prim.Native.Nat.{ℕ, _+_, _≤_, _<_, _^_}
 use lib.IntN.{ℤ}
 use lib.ListN.{length, take}
 use Rattle.definition.specs.Literals.{Formula}
@@ -18,6 +18,11 @@ use Rattle.recording.specs.declared.Progress.{Progress}
 pub record Written (ls : List Line) (old-log : Bytes) (old : Progress) (log : Bytes) (new : Progress) : Type 0 where
   pub written : Put old-log (old .at) (log-text ls) (new .at) log
   pub counted : new .lines ≡ old .lines + length ls
+
+-- the log's places and line numbers stay small while the lines are recorded
+pub record Log-room (ls : List Line) (p : Progress) : Type 0 where
+  pub text : p .at + length (log-text ls) < 2 ^ 62
+  pub count : p .lines + length ls < 2 ^ 62
 
 -- the events es happened where F stood: the store holds what stands after them, the log their lines' text
 pub record Ran (F : Formula) (es : List Event) (room : ℕ) (old-log : Bytes) (old : Progress) (work : List ℤ) (log : Bytes) (new : Progress) : Type 0 where

@@ -2,3 +2,7 @@ pub mod Filling
 pub mod Search
 pub mod Resolving
 pub mod Opposed
+pub mod Parents
+pub mod Scanning
+pub mod Adding
+pub mod Resolved

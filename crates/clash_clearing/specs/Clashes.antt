@@ -1,18 +1,24 @@
 -- The next clash, by the table of places.
 use mathlib.Core.Path.{_≡_}
 use mathlib.Core.Bool.{Bool, true, false, _&&_}
-use mathlib.Core.List.{List}
+use mathlib.Core.List.{List, _∷_, _++_}
 use mathlib.Core.Option.{some, none}
 use Prim.Native.Nat.{ℕ, _+_, _≤_, _<_}
 use lib.Dec.{ltb}
 use lib.IntN.{ℤ, pos}
-use lib.ListN.{length, getD}
-use Rattle.definition.specs.Literals.{Clause, Formula}
-use Rattle.definition.specs.Clearing.{clash-at}
+use lib.ListN.{length, getD, take}
+use Rattle.definition.specs.Literals.{Clause, Formula, opposed}
+use Rattle.definition.specs.Standing.{after}
+use Rattle.definition.specs.Events.{Clash, Event, clash-cleared}
+use Rattle.definition.specs.Clearing.{clash-at, resolvent, clear-clashes}
+use Rattle.definition.specs.Reencoding.{lines}
+use Rattle.definition.specs.Calls.{numbers-of}
 use Rattle.laws.proofs.Members.{Proper-all, Fits}
 use Rattle.literals.specs.Literal.{index-of, signed-of}
 use Rattle.clauses.specs.Store.{Formed, stored}
 use Rattle.clauses.specs.Tally.{most}
+use Rattle.recording.specs.declared.Progress.{Progress}
+use Rattle.recording.specs.Progress.{Log-room}
 use Rattle.pure_clauses.specs.Pass.{reach}
 use Rattle.clash_clearing.specs.Places.{Begins}
 use Rattle.clash_clearing.specs.declared.NextClash.{NextClash}
@@ -46,3 +52,16 @@ pub record Clashing (s : List ℤ) (v a b : ℕ) : Type 0 where
 abbrev pub Next : List ℤ → ℕ → ℕ → NextClash → Type 0
 Next s from to Nothing = Free (stored s) from (to + 1)
 Next s from to (At v a b) = (from ≤ v) × (v ≤ to) × Free (stored s) from v × Clashing s v a b
+
+-- what clearing all clashes needs
+pub record Clash-ready (work : List ℤ) (p : Progress) (variables : ℕ) : Type 0 where
+  pub inside : p .end ≤ length work
+  pub formed : Formed (take (p .end) work)
+  pub proper : Proper-all (stored (take (p .end) work))
+  pub fits : Fits variables (stored (take (p .end) work))
+  pub few : length (stored (take (p .end) work)) ≤ most
+  pub within : variables ≤ reach
+  -- an added resolvent fits beside what stands
+  pub space : (xs ys : List Event) (c : Clash) → clear-clashes (stored (take (p .end) work)) ≡ xs ++ (clash-cleared c ∷ ys) → opposed (resolvent c) ≡ false
+      → numbers-of (after (stored (take (p .end) work)) (lines xs)) + (length (resolvent c) + 1) ≤ length work
+  pub room : Log-room (lines (clear-clashes (stored (take (p .end) work)))) p

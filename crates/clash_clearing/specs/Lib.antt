@@ -1,3 +1,4 @@
 pub mod Places
 pub mod Clashes
 pub mod Resolving
+pub mod Scan

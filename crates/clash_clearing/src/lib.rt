@@ -9,7 +9,7 @@ ghost use mathlib.Core.Bool.{true, false};
 ghost use Prim.Native.Nat.{ℕ};
 ghost use Rattle.literals.specs.Literal.{signed-of};
 ghost use lib.ListN.{getD};
-ghost use Rattle.clash_clearing.specs.Clashes.{both, Searchable, Next};
+ghost use Rattle.clash_clearing.specs.Clashes.{both, Searchable, Next, Clash-ready};
 ghost use mathlib.Core.List.{[], _∷_};
 ghost use lib.IntN.{pos};
 ghost use lib.ListN.{replicate};
@@ -21,7 +21,13 @@ ghost use Rattle.clash_clearing.specs.Resolving.{opposite-in, joined};
 ghost use Rattle.clauses.specs.Store.{entry, marked, clause-at};
 ghost use Rattle.definition.specs.Literals.{with-first};
 ghost use Rattle.definition.specs.Standing.{deletion};
-ghost use Rattle.recording.specs.Progress.{Written};
+ghost use Rattle.recording.specs.Progress.{Written, Log-room, Ran};
+ghost use Prim.Native.Nat.{_-_};
+ghost use Rattle.definition.specs.Standing.{addition};
+ghost use Rattle.definition.specs.Events.{clash-cleared};
+ghost use Rattle.definition.specs.Clearing.{clear-clashes};
+ghost use Rattle.clash_clearing.specs.Resolving.{clash-there, Parents, parent-lines, Parents-gone, Resolvable, Resolvent-added};
+ghost use Rattle.clash_clearing.specs.Scan.{Slid-down, Scan-ready, Scanned};
 use recording::Progress;
 
 // The next variable with a clash, and where the literals of its two clauses begin.
@@ -235,4 +241,134 @@ fn delete_first(work: &mut [i32], at: usize, log: &mut [u8], p: Progress, l: i32
     let q = recording::record_first(log, p, l, &work[first..next]);
     clauses::mark_deleted(work, at);
     q
+}
+
+// ---- one clash
+
+// Records the clause whose entry was written from the store's end up to another place as added.
+fn record_added(work: &[i32], log: &mut [u8], p: Progress, next: usize) -> Progress
+    requires { ⌜ (p .end < next) × (next ≤ length (now work)) × (next ≤ p .end + 2 ^ 32) ⌝ }
+    requires { ⌜ (p .at < 2 ^ 63) × (p .lines < 2 ^ 63) ⌝ }
+    ensures written { λ r. ⌜ Written (addition (take (next - (p .end + 1)) (drop (p .end + 1) (now (work .entry)))) ∷ []) (now (log .entry)) p (now (log .exit)) r ⌝ }
+    ensures end { λ r. ⌜ r .end ≡ next ⌝ }
+{
+    let first = p.end + 1;
+    let q = recording::record_line(log, p, false, &work[first..next]);
+    Progress {
+        end: next,
+        at: q.at,
+        lines: q.lines,
+    }
+}
+
+// Adds the resolvent of the clauses whose literals begin at a and b, and records it, unless it has a literal and its negation.
+fn add_resolvent(
+    work: &mut [i32],
+    log: &mut [u8],
+    p: Progress,
+    v: u32,
+    a: usize,
+    b: usize,
+) -> Progress
+    requires { ⌜ Resolvable (now work) p v a b ⌝ }
+    ensures { λ r. ⌜ Resolvent-added (now (work .entry)) (clash-there (take (p .end) (now (work .entry))) v a b) (now (log .entry)) p (now (work .exit)) (now (log .exit)) r ⌝ }
+{
+    let past_a = clauses::next_at(work, a - 1);
+    let past_b = clauses::next_at(work, b - 1);
+    if is_opposed(
+        &work[a..past_a],
+        literals::signed(true, v),
+        &work[b..past_b],
+    ) {
+        return p;
+    }
+    let end = p.end;
+    let next = append_resolvent(work, end, a, past_a - a, b, past_b - b, v);
+    record_added(work, log, p, next)
+}
+
+// Deletes the two clauses of a clash: the literals of that with v begin at a, of that with -v at b.
+fn delete_parents(
+    store: &mut [i32],
+    log: &mut [u8],
+    p: Progress,
+    v: u32,
+    a: usize,
+    b: usize,
+) -> Progress
+    requires { ⌜ Parents (now store) v a b ⌝ }
+    requires { ⌜ Log-room (parent-lines (clash-there (now store) v a b)) p ⌝ }
+    ensures { λ r. ⌜ Parents-gone (now (store .entry)) (clash-there (now (store .entry)) v a b) (now (log .entry)) p (now (store .exit)) (now (log .exit)) r ⌝ }
+{
+    let q = delete_first(store, a - 1, log, p, literals::signed(false, v));
+    delete_first(store, b - 1, log, q, literals::signed(true, v))
+}
+
+// Clears the clash of v whose clauses' literals begin at a and b.
+fn resolve(work: &mut [i32], log: &mut [u8], p: Progress, v: u32, a: usize, b: usize) -> Progress
+    requires { ⌜ Resolvable (now work) p v a b ⌝ }
+    ensures { λ r. ⌜ Ran (stored (take (p .end) (now (work .entry)))) (clash-cleared (clash-there (take (p .end) (now (work .entry))) v a b) ∷ []) (length (now (work .entry))) (now (log .entry)) p (now (work .exit)) (now (log .exit)) r ⌝ }
+{
+    let q = add_resolvent(work, log, p, v, a, b);
+    let end = q.end;
+    delete_parents(&mut work[..end], log, q, v, a, b)
+}
+
+// ---- all clashes
+
+// How far the scan over the variables is: what is done, and the variable to go on with.
+pub struct Scan {
+    pub progress: Progress,
+    pub next: u32,
+}
+
+// Slides the standing clauses of the store down.
+fn slide_down(work: &mut [i32], p: Progress) -> Progress
+    requires { ⌜ (p .end ≤ length (now work)) × Formed (take (p .end) (now work)) ⌝ }
+    ensures { λ r. ⌜ Slid-down (now (work .entry)) p (now (work .exit)) r ⌝ }
+{
+    let end = p.end;
+    let n = clauses::compact(&mut work[..end]);
+    Progress {
+        end: n,
+        at: p.at,
+        lines: p.lines,
+    }
+}
+
+// Clears the next clash, if there is one.
+fn clear_next(work: &mut [i32], log: &mut [u8], s: Scan, variables: u32) -> Scan
+    requires { ⌜ Scan-ready (now work) s variables ⌝ }
+    ensures { λ r. ⌜ Scanned (stored (take (s .progress .end) (now (work .entry)))) (length (now (work .entry))) (now (log .entry)) s variables (now (work .exit)) (now (log .exit)) r ⌝ }
+{
+    let p = slide_down(work, s.progress);
+    let end = p.end;
+    match next_clash(&work[..end], s.next, variables) {
+        NextClash::At(v, a, b) => {
+            let q = resolve(work, log, p, v, a, b);
+            Scan {
+                progress: q,
+                next: v + 1,
+            }
+        }
+        NextClash::Nothing => Scan {
+            progress: p,
+            next: variables + 1,
+        },
+    }
+}
+
+// Clears all clashes of the store, the lowest variable first.
+pub fn clear_clashes(work: &mut [i32], log: &mut [u8], p: Progress, variables: u32) -> Progress
+    requires { ⌜ Clash-ready (now work) p variables ⌝ }
+    ensures { λ r. ⌜ Ran (stored (take (p .end) (now (work .entry)))) (clear-clashes (stored (take (p .end) (now (work .entry))))) (length (now (work .entry))) (now (log .entry)) p (now (work .exit)) (now (log .exit)) r ⌝ }
+{
+    let mut s = Scan {
+        progress: p,
+        next: 1,
+    };
+    while s.next <= variables {
+        s = clear_next(work, log, s, variables);
+    }
+    s.progress
 }

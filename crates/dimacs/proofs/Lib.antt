@@ -3,3 +3,4 @@ pub mod HeaderLine
 pub mod Marking
 pub mod Checking
 pub mod Loads
+pub mod Stored

@@ -4,7 +4,7 @@ use mathlib.Core.Bool.{false, not}
 use mathlib.Core.Logic.{_≢_}
 use mathlib.Core.List.{List, [], _∷_, _++_, List·Memᴰ, List·Memᴰ·head as here, List·Memᴰ·tail as there, List·Memᴰ·not-nil}
 use mathlib.Core.Option.{Option, some, none}
-use Prim.Native.Nat.{ℕ, _≤_}
+use Prim.Native.Nat.{ℕ, _+_, _≤_}
 use native.Mathlib.Omega.{arith}
 use lib.Dec.{eqb, ltb}
 use lib.IntN.{ℤ, pos, negℤ, natAbs}
@@ -20,13 +20,11 @@ use Rattle.laws.proofs.Tests.{to-false, or-false-both, by-test, differ}
 use Rattle.laws.proofs.Loops.{none-some, some-same}
 use Rattle.laws.proofs.Members.{Proper, mem-holds, mem-opposes, opposes-mem}
 use Rattle.laws.proofs.Clauses.{members-snoc}
-use Rattle.laws.proofs.Fitting.{Line-fits, line-to, proper-length}
+use Rattle.laws.proofs.Fitting.{Line-fits}
 use Rattle.laws.proofs.Outcomes.{fault-value, value-same, refuse-value, bind-value, through-keeps}
-use Rattle.clauses.specs.Store.{Formed}
-use Rattle.clauses.proofs.Laws.{formed-++, entry-formed}
 use Rattle.proof_log.specs.declared.LogCheck.the-variants as Check
 use Rattle.proof_log.specs.Reading.{log-answer}
-use Rattle.proof_log.specs.Loading.{line-entry, line-entries, Faultless, read-entries}
+use Rattle.proof_log.specs.Loading.{line-entry, line-entries}
 use Rattle.proof_log.proofs.Reading.{allowed-parts}
 use Rattle.proof_log.proofs.Line.{allowed-some}
 use Rattle.proof_log.proofs.Loading.{entry-size}
@@ -50,16 +48,9 @@ pub log-fault : (x : Checked (List Line)) {n : ℕ} → log-answer x ≡ Check.F
 log-fault (fault k) {n} e = let p : k ≡ n = cc in ap fault p
 log-fault (value ss) e = let z : _≡_ {A = ℕ} 0 1 = cc in absurd (omega arith)
 
-module _ {x : Checked (List Line)} {numbers top : ℕ} (k : Kept x numbers top) where
-  pub kept-faultless : Faultless x
-  kept-faultless = rw (k .read) tt
+-- ---- the entries fill an element for each number of the lines, and one for each line
 
-  pub kept-entries : read-entries x ≡ line-entries (k .ss)
-  kept-entries = ap read-entries (k .read)
-
--- ---- the entries fill as many elements as the lines have numbers
-
-pub entries-size : (ss : List Line) → length (line-entries ss) ≡ numbers-in ss
+pub entries-size : (ss : List Line) → length (line-entries ss) ≡ numbers-in ss + length ss
 unfolding for-each numbers-in sum-of
 entries-size [] = refl
 entries-size (s ∷ ss) = omega (arith, length-append (line-entry s) (for-each ss line-entry), entry-size s, entries-size ss)
@@ -133,15 +124,3 @@ lines-fit kept t ss e =
     let r = bind-value (through read-line [] (take kept (text-lines t))) (λ x. refuse-if (ltb (length x) kept) 34 (value x)) ss e in
     let z = refuse-value (ltb (length (r .0)) kept) 34 (value (r .0)) ss (r .2) in
     rw (← value-same (r .0) ss (z .1)) (through-keeps read-line All-fit line-fits [] (take kept (text-lines t)) (r .0) (λ s i. absurd (List·Memᴰ·not-nil i)) (r .1))
-
--- ---- so their entries form a store
-
-entry-formed-line : (s : Line) → Line-fits 70_000 s → Formed (line-entry s)
-unfolding literals
-entry-formed-line (addition c) f = entry-formed c (omega (arith, proper-length 70_000 c (line-to 70_000 (addition c) f)))
-entry-formed-line (deletion c) f = entry-formed c (omega (arith, proper-length 70_000 c (line-to 70_000 (deletion c) f)))
-
-pub entries-formed : (ss : List Line) → All-fit ss → Formed (line-entries ss)
-unfolding for-each
-entries-formed [] h = tt
-entries-formed (s ∷ ss) h = formed-++ (line-entry s) (line-entries ss) (entry-formed-line s (h s (here refl))) (entries-formed ss (λ x i. h x (there i)))

@@ -4,7 +4,7 @@ use mathlib.Core.Bool.{true, false, not}
 use mathlib.Core.Logic.{inl, inr}
 use mathlib.Core.List.{List, [], _∷_, _++_, append-nil}
 use mathlib.Core.Option.{Option, some, none}
-use Prim.Native.Nat.{ℕ, suc, _+_, _-_, _≤_, _<_}
+use Prim.Native.Nat.{ℕ, suc, _+_, _-_, _≤_, _<_, _^_}
 use native.Mathlib.Omega.{arith}
 use native.Mathlib.Numerals.{add-one}
 use lib.Dec.{ltb}
@@ -19,12 +19,12 @@ use Rattle.definition.specs.Text.{Bytes, TextLine, bytes, is, text-lines, same-
 use Rattle.definition.specs.Standing.{Line, addition, deletion, literals}
 use Rattle.definition.specs.LogReading.{read-line-clause, allowed-clause, read-line-fields, read-line, read-log}
 use Rattle.laws.proofs.Loops.{none-some, for-each-++}
-use Rattle.laws.proofs.Outcomes.{value-same, refuse-value, bind-value}
+use Rattle.laws.proofs.Outcomes.{value-same, refuse-value, bind-value, through-keeps}
 use Rattle.round_trips.proofs.Words.{first-field}
 use Rattle.literals.specs.Literal.{header-of, flip}
 use Rattle.laws.proofs.Slices.{rest-is, sets-then, sets-first}
 use Rattle.proof_log.specs.Reading.{first-ended, sized, ended-rest, line-rest, begins-deletion}
-use Rattle.proof_log.specs.Loading.{line-entry, line-entries, rest-clause, rest-size, Loadable, ended-read, first-read, read-size, read-entry, Faultless, read-entries}
+use Rattle.proof_log.specs.Loading.{closed, line-entry, line-entries, rest-clause, rest-size, Loadable, ended-read, first-read, read-size, read-entry, Faultless, read-entries}
 use Rattle.proof_log.proofs.Reading.{allowed-parts}
 use Rattle.proof_log.proofs.Rest.{preceded, before, ended-free, Last, More, No-line}
 use Rattle.proof_log.proofs.Log.{from-line, line-step}
@@ -44,6 +44,10 @@ pub record Loading (t : Bytes) (from at : ℕ) (old : List ℤ) (to count : ℕ)
   pub size : count ≡ length c
   pub room : count ≤ at
   pub stored : store ≡ sets old to c
+
+-- the places of a clause that fit a usize
+pub loading-fits : {t : Bytes} {from at : ℕ} {old : List ℤ} {to count : ℕ} {store : List ℤ} → Loading t from at old to count store → to + length (rest-clause (line-rest (drop from t))) < 2 ^ 64 → to + count < 2 ^ 64
+loading-fits {t} {from} {at} {old} {to} {count} {store} s h = let g : to + length (s .c ++ s .e) < 2 ^ 64 = rw (s .whole) at h in omega (arith, g, s .size, length-append (s .c) (s .e))
 
 pub loading-length : {t : Bytes} {from at : ℕ} {old : List ℤ} {to count : ℕ} {store : List ℤ} → Loading t from at old to count store → length store ≡ length old
 loading-length {old = old} {to} s = ap length (s .stored) ∙ length-sets old to (s .c)
@@ -103,11 +107,12 @@ module _ {t : Bytes} {from at : ℕ} {old : List ℤ} {to count : ℕ} {store : 
       below : {e d : Clause} → e ≡ l ∷ d → highest e ≤ 70_000 → highest d ≤ 70_000
       below q h = omega (arith, rw q at h)
 
-  pub loading-last : {next : ℕ} → Last t at next → (next ≡ from + rest-size (line-rest (drop from t))) × ((count ≡ length (rest-clause (line-rest (drop from t)))) × (store ≡ sets old to (rest-clause (line-rest (drop from t)))))
-  loading-last {next} l =
+  pub loading-last : {next : ℕ} {new : List ℤ} → Last t at next → new ≡ set store (to + count) (header-of count) → (next ≡ from + rest-size (line-rest (drop from t))) × ((count ≡ length (rest-clause (line-rest (drop from t)))) × (new ≡ sets old to (closed (rest-clause (line-rest (drop from t))))))
+  loading-last {next} {new} l p =
       let z = some-both (sym (s .rest) ∙ l .rest) in
       let w = s .whole ∙ ap (λ (e : Clause). some (s .n, s .c ++ e)) (z .1) ∙ ap (λ (e : Clause). some (s .n, e)) (append-nil (s .c)) in
-      rw w (omega (arith, s .place, z .0, l .after), (s .size, s .stored))
+      let q : new ≡ sets old to (closed (s .c)) = p ∙ ap (λ (y : List ℤ). set y (to + count) (header-of count)) (s .stored) ∙ ap (λ (k : ℕ). set (sets old to (s .c)) (to + k) (header-of k)) (s .size) ∙ sets-then (s .c) (header-of (length (s .c)) ∷ []) old to in
+      rw w (omega (arith, s .place, z .0, l .after), (s .size, q))
 
   pub loading-never : {P : Type 0} → No-line t at → P
   loading-never h = absurd (no (h .high (s .m, s .e) (s .rest)) (s .small))
@@ -195,23 +200,37 @@ module _ {t : Bytes} {from : ℕ} {make : Clause → Line} (f : First t from mak
   pub first-loadable : Loadable (line-rest (drop from t))
   first-loadable = rw (f .rest) (f .small)
 
-  pub entry-stored : (to : ℕ) (old : List ℤ) {next count : ℕ} {mid new : List ℤ} {h : ℤ} → next ≡ from + rest-size (line-rest (drop from t)) → count ≡ length (rest-clause (line-rest (drop from t))) → mid ≡ sets old (to + 1) (rest-clause (line-rest (drop from t))) → new ≡ set mid to h → ((c : Clause) → count ≡ length c → h ∷ c ≡ line-entry (make c)) → (next ≡ read-size (first-read t)) × ((count + 1 ≡ length (read-entry (first-read t))) × (new ≡ sets old to (read-entry (first-read t))))
+  pub first-room : (to : ℕ) → ((c : Clause) → length (line-entry (make c)) ≡ length c + 2) → to + length (read-entry (first-read t)) < 2 ^ 64 → (to + 1 < 2 ^ 64) × (to + 1 + length (rest-clause (line-rest (drop from t))) < 2 ^ 64)
+  first-room to e h =
+      let g : to + length (line-entry (make (f .c))) < 2 ^ 64 = rw (f .read) at h in
+      rw (f .rest) (omega (arith, g, e (f .c)), omega (arith, g, e (f .c)))
+
+  pub entry-stored : (to : ℕ) (old : List ℤ) {next count : ℕ} {mid new : List ℤ} {h : ℤ} → next ≡ from + rest-size (line-rest (drop from t)) → count ≡ length (rest-clause (line-rest (drop from t))) → mid ≡ sets old (to + 1) (closed (rest-clause (line-rest (drop from t)))) → new ≡ set mid to h → ((c : Clause) → count ≡ length c → h ∷ closed c ≡ line-entry (make c)) → (next ≡ read-size (first-read t)) × ((count + 2 ≡ length (read-entry (first-read t))) × (new ≡ sets old to (read-entry (first-read t))))
   entry-stored to old {next} {count} {mid} {new} {h} p q r s e =
       let size : count ≡ length (f .c) = rw (f .rest) at q in
       let whole = e (f .c) size in
       rw (f .read) (
         rw (f .rest) at p,
         (
-          rw (← whole) (omega arith),
-          s ∙ ap (λ (x : List ℤ). set x to h) (rw (f .rest) at r) ∙ ap (λ (k : ℕ). set (sets old k (f .c)) to h) (add-one to) ∙ sets-first (f .c) old to h ∙ ap (sets old to) whole,
+          rw (← whole) (omega (arith, length-append (f .c) (header-of (length (f .c)) ∷ []))),
+          s ∙ ap (λ (x : List ℤ). set x to h) (rw (f .rest) at r) ∙ ap (λ (k : ℕ). set (sets old k (closed (f .c))) to h) (add-one to) ∙ sets-first (closed (f .c)) old to h ∙ ap (sets old to) whole,
         ),
       )
 
-pub deletion-header : {h : ℤ} {count : ℕ} → h ≡ flip (header-of count) → (c : Clause) → count ≡ length c → h ∷ c ≡ line-entry (deletion c)
-deletion-header p c q = ap (λ (x : ℤ). x ∷ c) (p ∙ ap (λ (k : ℕ). flip (header-of k)) q)
+pub deletion-header : {h : ℤ} {count : ℕ} → h ≡ flip (header-of count) → (c : Clause) → count ≡ length c → h ∷ closed c ≡ line-entry (deletion c)
+deletion-header p c q = ap (λ (x : ℤ). x ∷ closed c) (p ∙ ap (λ (k : ℕ). flip (header-of k)) q)
 
-pub addition-header : {h : ℤ} {count : ℕ} → h ≡ header-of count → (c : Clause) → count ≡ length c → h ∷ c ≡ line-entry (addition c)
-addition-header p c q = ap (λ (x : ℤ). x ∷ c) (p ∙ ap header-of q)
+pub addition-header : {h : ℤ} {count : ℕ} → h ≡ header-of count → (c : Clause) → count ≡ length c → h ∷ closed c ≡ line-entry (addition c)
+addition-header p c q = ap (λ (x : ℤ). x ∷ closed c) (p ∙ ap header-of q)
+
+closed-size : (c : Clause) → length (closed c) ≡ length c + 1
+closed-size c = length-append c (header-of (length c) ∷ [])
+
+pub deletion-size : (c : Clause) → length (line-entry (deletion c)) ≡ length c + 2
+deletion-size c = omega (arith, closed-size c)
+
+pub addition-size : (c : Clause) → length (line-entry (addition c)) ≡ length c + 2
+addition-size c = omega (arith, closed-size c)
 
 -- ---- the lines of a log
 
@@ -262,7 +281,6 @@ pub record Lines-loaded (log : Bytes) (kept at n : ℕ) (old : List ℤ) (end to
   pub read : read-log kept log ≡ value all
   pub place : from-line ss (kept - n) (drop at log) ≡ value all
   pub next : to ≡ end + length (line-entries ss)
-  pub room : to ≤ end + at
   pub stored : store ≡ sets old end (line-entries ss)
 
 pub lines-start : (log : Bytes) (kept : ℕ) (old : List ℤ) (end : ℕ) → Faultless (read-log kept log) → Lines-loaded log kept 0 0 old end end old
@@ -282,7 +300,6 @@ lines-start log kept old end h =
       read = a .1;
       place = ap (λ (k : ℕ). from-line [] k log) none ∙ r .1 ∙ ap value same;
       next = omega arith;
-      room = omega arith;
       stored = refl;
     }
 
@@ -290,10 +307,21 @@ entries-snoc : (ss : List Line) (s : Line) → line-entries ss ++ line-entry s �
 unfolding for-each
 entries-snoc ss s = sym (for-each-++ ss (s ∷ []) line-entry ∙ ap (λ (x : List ℤ). line-entries ss ++ x) (append-nil (line-entry s)))
 
-pub entry-size : (s : Line) → length (line-entry s) ≡ length (literals s) + 1
+pub entry-size : (s : Line) → length (line-entry s) ≡ length (literals s) + 2
 unfolding literals
-entry-size (addition c) = omega arith
-entry-size (deletion c) = omega arith
+entry-size (addition c) = addition-size c
+entry-size (deletion c) = deletion-size c
+
+-- more lines, more entries
+entries-grow : (kept : ℕ) (ss all : List Line) (t : Bytes) → from-line ss kept t ≡ value all → length (line-entries ss) ≤ length (line-entries all)
+unfolding read-line
+entries-grow kept ss all t e = through-keeps read-line (λ xs. length (line-entries ss) ≤ length (line-entries xs)) more ss (take kept (text-lines t)) all (omega arith) e
+  where
+    more : (xs : List Line) (l : TextLine) (ys : List Line) → length (line-entries ss) ≤ length (line-entries xs) → read-line xs l ≡ value ys → length (line-entries ss) ≤ length (line-entries ys)
+    more xs l ys h q =
+        let z = refuse-value (not (l .ended)) 31 (read-line-fields (fields (l .text)) >>= λ s. value (xs ++ (s ∷ []))) ys q in
+        let w = bind-value (read-line-fields (fields (l .text))) (λ s. value (xs ++ (s ∷ []))) ys (z .1) in
+        rw (← value-same (xs ++ (w .0 ∷ [])) ys (w .2), ← entries-snoc xs (w .0), length-append) (omega arith)
 
 module _ {log : Bytes} {kept at n : ℕ} {old : List ℤ} {end to : ℕ} {store : List ℤ} (s : Lines-loaded log kept at n old end to store) where
   pub lines-length : length store ≡ length old
@@ -319,27 +347,35 @@ module _ {log : Bytes} {kept at n : ℕ} {old : List ℤ} {end to : ℕ} {store 
     pub line-accepted : Faultless (first-read (take (length log - at) (drop at log)))
     line-accepted = rw first-rest tt
 
-    pub line-room : (count : ℕ) {next : ℕ} → next ≡ read-size (first-read (take (length log - at) (drop at log))) → count + 1 ≡ length (read-entry (first-read (take (length log - at) (drop at log)))) → (at + next ≤ length log) × (count + 1 ≤ next)
-    line-room count p q =
-        let x = rw first-rest at p in
-        let y = rw first-rest at q in
-        (omega (arith, lines-next .line .within, length-drop at log, s .inside), omega (arith, entry-size (lines-next .s), lines-next .line .room))
+    -- the next line's entry lies within all entries
+    abbrev text-rest : Bytes
+    text-rest = take (length log - at) (drop at log)
 
-    pub lines-step : (count : ℕ) {next : ℕ} {new : List ℤ} → next ≡ read-size (first-read (take (length log - at) (drop at log))) → count + 1 ≡ length (read-entry (first-read (take (length log - at) (drop at log)))) → new ≡ sets store to (read-entry (first-read (take (length log - at) (drop at log)))) → Lines-loaded log kept (at + next) (n + 1) old end (to + (count + 1)) new
+    after-next : from-line (s .ss ++ (lines-next .s ∷ [])) (kept - (n + 1)) (drop (at + lines-next .next) log) ≡ value (s .all)
+    after-next = ap (from-line (s .ss ++ (lines-next .s ∷ [])) (kept - (n + 1))) (sym (drop-drop (lines-next .next) at log)) ∙ sym (line-step (s .ss) (kept - (n + 1)) (drop at log) (lines-next .line)) ∙ rw left at (s .place)
+
+    pub line-room : end + length (read-entries (read-log kept log)) < 2 ^ 64 → to + length (read-entry (first-read text-rest)) < 2 ^ 64
+    line-room h =
+        let g : end + length (line-entries (s .all)) < 2 ^ 64 = rw (s .read) at h in
+        let m = entries-grow (kept - (n + 1)) (s .ss ++ (lines-next .s ∷ [])) (s .all) (drop (at + lines-next .next) log) after-next in
+        rw first-rest (omega (arith, g, m, s .next, ap length (entries-snoc (s .ss) (lines-next .s)), length-append (line-entries (s .ss)) (line-entry (lines-next .s))))
+
+    pub line-within : {next : ℕ} → next ≡ read-size (first-read text-rest) → at + next ≤ length log
+    line-within p = let x = rw first-rest at p in omega (arith, lines-next .line .within, length-drop at log, s .inside)
+
+    pub lines-step : (count : ℕ) {next : ℕ} {new : List ℤ} → next ≡ read-size (first-read text-rest) → count + 2 ≡ length (read-entry (first-read text-rest)) → new ≡ sets store to (read-entry (first-read text-rest)) → Lines-loaded log kept (at + next) (n + 1) old end (to + (count + 2)) new
     lines-step count {next} {new} p q r =
-        let fit = line-room count p q in
         let x : next ≡ lines-next .next = rw first-rest at p in
-        let y : count + 1 ≡ length (line-entry (lines-next .s)) = rw first-rest at q in
+        let y : count + 2 ≡ length (line-entry (lines-next .s)) = rw first-rest at q in
         let z : new ≡ sets store to (line-entry (lines-next .s)) = rw first-rest at r in record {
           ss = s .ss ++ (lines-next .s ∷ []);
           all = s .all;
           few = omega arith;
           enough = s .enough;
           count = omega (arith, s .count, length-append (s .ss) (lines-next .s ∷ []));
-          inside = fit .0;
+          inside = line-within p;
           read = s .read;
-          place = ap (λ (k : ℕ). from-line (s .ss ++ (lines-next .s ∷ [])) (kept - (n + 1)) (drop (at + k) log)) x ∙ ap (from-line (s .ss ++ (lines-next .s ∷ [])) (kept - (n + 1))) (sym (drop-drop (lines-next .next) at log)) ∙ sym (line-step (s .ss) (kept - (n + 1)) (drop at log) (lines-next .line)) ∙ rw left at (s .place);
+          place = ap (λ (k : ℕ). from-line (s .ss ++ (lines-next .s ∷ [])) (kept - (n + 1)) (drop (at + k) log)) x ∙ after-next;
           next = omega (arith, s .next, y, ap length (entries-snoc (s .ss) (lines-next .s)), length-append (line-entries (s .ss)) (line-entry (lines-next .s)));
-          room = omega (arith, s .room, fit .1);
           stored = z ∙ ap (λ (l : List ℤ). sets l to (line-entry (lines-next .s))) (s .stored) ∙ ap (λ (k : ℕ). sets (sets old end (line-entries (s .ss))) k (line-entry (lines-next .s))) (s .next) ∙ sets-then (line-entries (s .ss)) (line-entry (lines-next .s)) old end ∙ ap (sets old end) (entries-snoc (s .ss) (lines-next .s));
         }

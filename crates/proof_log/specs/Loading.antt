@@ -1,6 +1,7 @@
--- The lines of a log as entries of a store: an addition stands, a deletion is marked deleted.
+-- The lines of a log in a lent slice: the entry of a line is its header, its literals and their number once more, so that the lines can be walked
+-- from either end. The header n of n literals is an addition, -1 - n a deletion.
 use mathlib.Core.Path.{_≡_, refl}
-use mathlib.Core.List.{List, [], _∷_}
+use mathlib.Core.List.{List, [], _∷_, _++_}
 use mathlib.Core.Option.{Option, some, none}
 use Prim.Native.Nat.{ℕ, _+_, _≤_}
 use lib.IntN.{ℤ, pos, negsuc}
@@ -19,9 +20,13 @@ use Rattle.definition.specs.LogReading as LogReading
 use Rattle.literals.specs.Literal.{header-of, flip}
 use Rattle.proof_log.specs.Reading.{first-ended}
 
+-- literals and their number
+abbrev pub closed : Clause → List ℤ
+closed c = c ++ (header-of (length c) ∷ [])
+
 abbrev pub line-entry : Line → List ℤ
-line-entry (addition c) = header-of (length c) ∷ c
-line-entry (deletion c) = flip (header-of (length c)) ∷ c
+line-entry (addition c) = header-of (length c) ∷ closed c
+line-entry (deletion c) = flip (header-of (length c)) ∷ closed c
 
 abbrev pub line-entries : List Line → List ℤ
 line-entries ss = for-each ss line-entry
@@ -68,6 +73,6 @@ abbrev pub read-entries : Checked (List Line) → List ℤ
 read-entries (fault n) = []
 read-entries (value ss) = line-entries ss
 
-examples : read-entries (read-log 2 (bytes "d -12 3 0\n1 0\n")) ≡ negsuc 2 ∷ negsuc 11 ∷ pos 3 ∷ pos 1 ∷ pos 1 ∷ []
+examples : read-entries (read-log 2 (bytes "d -12 3 0\n1 0\n")) ≡ negsuc 2 ∷ negsuc 11 ∷ pos 3 ∷ pos 2 ∷ pos 1 ∷ pos 1 ∷ pos 1 ∷ []
 unfolding Literals.computing LogReading.computing Checked.computing Text.computing Lists.computing
 examples = refl

@@ -18,7 +18,7 @@ ghost use Rattle.clauses.specs.Store.{Formed, stored, past};
 ghost use Rattle.stamps.specs.Stamps.{Fresh, At-most};
 ghost use Rattle.proof_log.specs.Lines.{line-of, header-text, entry-text};
 ghost use Rattle.proof_log.specs.Reading.{stops, literal-answer, line-word, line-rest, rest-answer, line-answer, begins-deletion, log-answer};
-ghost use Rattle.proof_log.specs.Loading.{rest-clause, rest-size, Loadable, first-read, read-size, read-entry, Faultless, read-entries};
+ghost use Rattle.proof_log.specs.Loading.{closed, rest-clause, rest-size, Loadable, first-read, read-size, read-entry, Faultless, read-entries};
 
 // ---- writing
 
@@ -359,13 +359,13 @@ fn store_number(store: &mut [i32], at: usize, l: i32)
     }
 }
 
-// Stores the literals of a line that starts at a place.
+// Stores the literals of a line that starts at a place, and their number after them.
 fn load_clause(text: &[u8], from: usize, store: &mut [i32], to: usize) -> Loaded
     requires { ⌜ Loadable (line-rest (drop from (now text))) ⌝ }
-    requires { ⌜ to + length (now text) < 2 ^ 64 ⌝ }
+    requires { ⌜ to + length (rest-clause (line-rest (drop from (now text)))) < 2 ^ 64 ⌝ }
     ensures next { λ r. ⌜ r .next ≡ from + rest-size (line-rest (drop from (now (text .entry)))) ⌝ }
     ensures count { λ r. ⌜ r .count ≡ length (rest-clause (line-rest (drop from (now (text .entry))))) ⌝ }
-    ensures stored { λ _. ⌜ now (store .exit) ≡ sets (now (store .entry)) to (rest-clause (line-rest (drop from (now (text .entry))))) ⌝ }
+    ensures stored { λ _. ⌜ now (store .exit) ≡ sets (now (store .entry)) to (closed (rest-clause (line-rest (drop from (now (text .entry)))))) ⌝ }
 {
     let mut at = from;
     let mut count: usize = 0;
@@ -377,6 +377,7 @@ fn load_clause(text: &[u8], from: usize, store: &mut [i32], to: usize) -> Loaded
                 count += 1;
             }
             LineWord::End(next) => {
+                store_number(store, to + count, literals::header(count));
                 return Loaded {
                     next: next,
                     count: count,
@@ -395,9 +396,9 @@ fn load_clause(text: &[u8], from: usize, store: &mut [i32], to: usize) -> Loaded
 // Stores the entry of the first line of a text.
 fn load_line(text: &[u8], store: &mut [i32], to: usize) -> Loaded
     requires { ⌜ Faultless (first-read (now text)) ⌝ }
-    requires { ⌜ to + 1 + length (now text) < 2 ^ 64 ⌝ }
+    requires { ⌜ to + length (read-entry (first-read (now text))) < 2 ^ 64 ⌝ }
     ensures next { λ r. ⌜ r .next ≡ read-size (first-read (now (text .entry))) ⌝ }
-    ensures count { λ r. ⌜ r .count + 1 ≡ length (read-entry (first-read (now (text .entry)))) ⌝ }
+    ensures count { λ r. ⌜ r .count + 2 ≡ length (read-entry (first-read (now (text .entry)))) ⌝ }
     ensures stored { λ _. ⌜ now (store .exit) ≡ sets (now (store .entry)) to (read-entry (first-read (now (text .entry)))) ⌝ }
 {
     if starts_deletion(text) {
@@ -415,7 +416,7 @@ fn load_line(text: &[u8], store: &mut [i32], to: usize) -> Loaded
 // Stores the entries of the kept lines of a log from a place on; the result is the place past them.
 pub fn load_log(log: &[u8], kept: usize, store: &mut [i32], end: usize) -> usize
     requires { ⌜ Faultless (read-log kept (now log)) ⌝ }
-    requires { ⌜ end + length (now log) + 1 < 2 ^ 64 ⌝ }
+    requires { ⌜ end + length (read-entries (read-log kept (now log))) < 2 ^ 64 ⌝ }
     ensures next { λ r. ⌜ r ≡ end + length (read-entries (read-log kept (now (log .entry)))) ⌝ }
     ensures stored { λ _. ⌜ now (store .exit) ≡ sets (now (store .entry)) end (read-entries (read-log kept (now (log .entry)))) ⌝ }
 {
@@ -425,7 +426,7 @@ pub fn load_log(log: &[u8], kept: usize, store: &mut [i32], end: usize) -> usize
     while lines < kept {
         let r = load_line(&log[at..], store, to);
         at += r.next;
-        to += r.count + 1;
+        to += r.count + 2;
         lines += 1;
     }
     to

@@ -2,5 +2,6 @@
 -- Carrying, Replaying and Answering serve the functions of this crate.
 pub mod Lines
 pub mod Carrying
+pub mod Copying
 pub mod Replaying
 pub mod Answering

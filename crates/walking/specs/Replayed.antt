@@ -1,22 +1,38 @@
--- What a replay answers, beside the definition's outcome.
+-- What a replay wants and answers, beside the definition's outcome.
 use mathlib.Core.Path.{_≡_}
 use mathlib.Core.List.{List}
-use Prim.Native.Nat.{ℕ, _≤_}
+use Prim.Native.Nat.{ℕ, _+_, _-_, _*_, _≤_}
 use lib.IntN.{ℤ}
-use lib.ListN.{take}
+use lib.ListN.{length, take, drop}
 use Rattle.definition.specs.Checked.{Checked, fault, value}
 use Rattle.definition.specs.Literals.{Formula}
+use Rattle.definition.specs.LogReading.{numbers-in}
 use Rattle.clauses.specs.Store.{Formed, stored}
+use Rattle.walking.specs.Lines.{Loaded, lines-in}
 use Rattle.walking.specs.declared.Replayed.{Replayed}
 use Rattle.walking.specs.declared.Replayed.the-variants as Replayed
 
--- the entries up to `end` hold what stands; they fill no more than a bound
-pub record Stands (f : Formula) (bound end : ℕ) (work : List ℤ) : Type 0 where
+-- the elements from place a up to place b
+abbrev pub between : ℕ → ℕ → List ℤ → List ℤ
+between a b s = take (b - a) (drop a s)
+
+-- the lines lie before `store`, the clauses behind it, with room for what the lines add, and for links as many as what stands and what is added has numbers
+pub record Replayable (work : List ℤ) (lines store end : ℕ) : Type 0 where
+  pub before : lines ≤ store
+  pub behind : store ≤ end
+  pub room : end + (store - lines) ≤ length work
+  pub links : store + 2 * ((end - store) + numbers-in (lines-in (between lines store work))) ≤ length work
+  pub loaded : Loaded (between lines store work)
+  pub formed : Formed (between store end work)
+
+-- the entries between `store` and `end` hold what stands; they end before a bound
+pub record Stands (f : Formula) (store bound end : ℕ) (work : List ℤ) : Type 0 where
+  pub order : store ≤ end
   pub small : end ≤ bound
-  pub formed : Formed (take end work)
-  pub same : stored (take end work) ≡ f
+  pub formed : Formed (between store end work)
+  pub same : stored (between store end work) ≡ f
 
 -- a deletion without its clause, or what stands
-abbrev pub Replays : Checked Formula → ℕ → Replayed → List ℤ → Type 0
-Replays o bound (Replayed.Standing end) work = (f : Formula) × (o ≡ value f) × Stands f bound end work
-Replays o bound Replayed.NoClause work = o ≡ fault 32
+abbrev pub Replays : Checked Formula → ℕ → ℕ → Replayed → List ℤ → Type 0
+Replays o store bound (Replayed.Standing end) work = (f : Formula) × (o ≡ value f) × Stands f store bound end work
+Replays o store bound Replayed.NoClause work = o ≡ fault 32

@@ -1,15 +1,16 @@
 // Walking back over a log: an assignment tested against what stands, carried back over loaded lines, and the lines replayed.
 ghost use mathlib.Core.Path.{_≡_};
-ghost use Prim.Native.Nat.{_+_, _≤_, _<_, _^_};
+ghost use Prim.Native.Nat.{_+_, _-_, _≤_, _<_, _^_};
 ghost use lib.ListN.{length, take, drop};
+ghost use lib.Seq.{sets};
 ghost use Rattle.definition.specs.Literals.{highest};
-ghost use Rattle.definition.specs.Standing.{addition, deletion, literals as literals-of-line, highest-in, replay-line, replay as replay-all};
+ghost use Rattle.definition.specs.Standing.{deletion, literals as literals-of-line, highest-in, replay-line, replay as replay-all};
 ghost use Rattle.definition.specs.Assignments.{satisfies, repaired, carried, carried-back};
 ghost use Rattle.definition.specs.Calls.{carry-answer};
 ghost use Rattle.answers.specs.Table.{marked};
-ghost use Rattle.clauses.specs.Store.{Formed, stored, size-at};
+ghost use Rattle.clauses.specs.Store.{Formed, stored, entry, size-at};
 ghost use Rattle.walking.specs.Lines.{holds-at, Loaded, lines-in, line-at, past-line, Last-line};
-ghost use Rattle.walking.specs.Replayed.{Replays};
+ghost use Rattle.walking.specs.Replayed.{between, Replayable, Replays};
 ghost use Rattle.walking.specs.Carried.{input, tested-text, Carries};
 
 // ---- testing an assignment
@@ -101,53 +102,74 @@ pub enum Replayed {
     NoClause,
 }
 
-// Adds a clause to what stands up to a place.
-fn add_line(work: &mut [i32], end: usize, clause: &[i32]) -> Replayed
-    requires { ⌜ (end + length (now clause) < length (now work)) × (length (now clause) < 2 ^ 31) × Formed (take end (now work)) ⌝ }
-    ensures { λ r. ⌜ Replays (replay-line (stored (take end (now (work .entry)))) (addition (now (clause .entry)))) (end + length (now (clause .entry)) + 1) r (now (work .exit)) ⌝ }
+// Copies n elements further on.
+fn copy_up(work: &mut [i32], to: usize, from: usize, n: usize)
+    requires { ⌜ (from + n ≤ to) × (to + n ≤ length (now work)) ⌝ }
+    ensures { λ _. ⌜ now (work .exit) ≡ sets (now (work .entry)) to (take n (drop from (now (work .entry)))) ⌝ }
 {
-    match clauses::append_clause(work, end, clause) {
-        clauses::Added::To(next) => Replayed::Standing(next),
-        clauses::Added::Full => Replayed::NoClause,
+    let mut i = 0;
+    while i < n {
+        let x = work[from + i];
+        work[to + i] = x;
+        i += 1;
     }
 }
 
-// Deletes a clause from what stands up to a place.
-fn delete_line(work: &mut [i32], end: usize, clause: &[i32]) -> Replayed
-    requires { ⌜ (end ≤ length (now work)) × Formed (take end (now work)) ⌝ }
-    ensures { λ r. ⌜ Replays (replay-line (stored (take end (now (work .entry)))) (deletion (now (clause .entry)))) end r (now (work .exit)) ⌝ }
+// Adds the clause of n literals from first on to what stands before a place.
+fn append_part(work: &mut [i32], end: usize, first: usize, n: usize) -> usize
+    requires { ⌜ (first + n ≤ end) × (end + (n + 1) ≤ length (now work)) ⌝ }
+    ensures next { λ r. ⌜ r ≡ end + (n + 1) ⌝ }
+    ensures written { λ _. ⌜ now (work .exit) ≡ sets (now (work .entry)) end (entry (take n (drop first (now (work .entry))))) ⌝ }
 {
-    if clauses::delete_clause(&mut work[0..end], clause) {
-        return Replayed::Standing(end);
-    }
-    Replayed::NoClause
+    copy_up(work, end + 1, first, n);
+    work[end] = literals::header(n);
+    end + (n + 1)
 }
 
-// Replays the line at a place over what stands up to an end.
-fn replay_line(work: &mut [i32], end: usize, lines: &[i32], at: usize) -> Replayed
-    requires { ⌜ (past-line (now lines) at ≤ length (now lines)) × (end + (size-at (now lines) at + 2) ≤ length (now work)) × Formed (take end (now work)) ⌝ }
-    ensures { λ r. ⌜ Replays (replay-line (stored (take end (now (work .entry)))) (line-at (now (lines .entry)) at)) (end + (size-at (now (lines .entry)) at + 2)) r (now (work .exit)) ⌝ }
+// Deletes the clause of n literals from first on from what stands between two places.
+fn delete_part(work: &mut [i32], store: usize, end: usize, first: usize, n: usize) -> Replayed
+    requires { ⌜ (first + n ≤ store) × (store ≤ end) × (end ≤ length (now work)) × Formed (between store end (now work)) ⌝ }
+    ensures result { λ r. ⌜ Replays (replay-line (stored (between store end (now (work .entry)))) (deletion (take n (drop first (now (work .entry)))))) store end r (now (work .exit)) ⌝ }
+    ensures kept { λ _. ⌜ take store (now (work .exit)) ≡ take store (now (work .entry)) ⌝ }
 {
-    let next = clauses::next_at(lines, at);
+    let next = first + n;
+    match clauses::find_same_set(&work[store..end], &work[first..next]) {
+        clauses::Found::At(at) => {
+            clauses::mark_deleted(work, store + at);
+            Replayed::Standing(end)
+        }
+        clauses::Found::Nothing => Replayed::NoClause,
+    }
+}
+
+// Replays the line at a place over what stands between two places.
+fn replay_line(work: &mut [i32], at: usize, store: usize, end: usize) -> Replayed
+    requires { ⌜ (past-line (now work) at ≤ store) × (store ≤ end) × (end + (size-at (now work) at + 2) ≤ length (now work)) × Formed (between store end (now work)) ⌝ }
+    ensures result { λ r. ⌜ Replays (replay-line (stored (between store end (now (work .entry)))) (line-at (now (work .entry)) at)) store (end + (size-at (now (work .entry)) at + 2)) r (now (work .exit)) ⌝ }
+    ensures kept { λ _. ⌜ take store (now (work .exit)) ≡ take store (now (work .entry)) ⌝ }
+{
+    let n = literals::header_length(work[at]);
     let first = at + 1;
-    if literals::is_negative(lines[at]) {
-        return delete_line(work, end, &lines[first..next]);
+    if literals::is_negative(work[at]) {
+        return delete_part(work, store, end, first, n);
     }
-    add_line(work, end, &lines[first..next])
+    Replayed::Standing(append_part(work, end, first, n))
 }
 
-// Replays the lines in order over what stands up to an end.
-pub fn replay(work: &mut [i32], end: usize, lines: &[i32]) -> Replayed
-    requires { ⌜ (end + length (now lines) ≤ length (now work)) × Formed (take end (now work)) × Loaded (now lines) ⌝ }
-    ensures { λ r. ⌜ Replays (replay-all (stored (take end (now (work .entry)))) (lines-in (now (lines .entry)))) (end + length (now (lines .entry))) r (now (work .exit)) ⌝ }
+// Replays the lines at lines..store over what stands at store..end.
+pub fn replay(work: &mut [i32], lines: usize, store: usize, end: usize) -> Replayed
+    requires { ⌜ Replayable (now work) lines store end ⌝ }
+    ensures result { λ r. ⌜ Replays (replay-all (stored (between store end (now (work .entry)))) (lines-in (between lines store (now (work .entry))))) store (end + (store - lines)) r (now (work .exit)) ⌝ }
+    ensures kept { λ _. ⌜ take store (now (work .exit)) ≡ take store (now (work .entry)) ⌝ }
 {
     let mut filled = end;
-    let mut at = 0;
-    while at < lines.len() {
-        match replay_line(work, filled, lines, at) {
+    let mut at = lines;
+    while at < store {
+        let past = clauses::next_at(work, at) + 1;
+        match replay_line(work, at, store, filled) {
             Replayed::Standing(next) => {
                 filled = next;
-                at = clauses::next_at(lines, at) + 1;
+                at = past;
             }
             Replayed::NoClause => {
                 return Replayed::NoClause;

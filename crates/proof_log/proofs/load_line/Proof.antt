@@ -4,7 +4,7 @@ use lib.ListN.{set}
 use denote.Ref.{now}
 use Rattle.literals.specs.Literal.{flip}
 use Rattle.literals.proofs.Laws.{answer}
-use Rattle.proof_log.proofs.Loading.{deletion-first, addition-first, first-loadable, entry-stored, deletion-header, addition-header}
+use Rattle.proof_log.proofs.Loading.{deletion-first, addition-first, deletion-size, addition-size, first-room, first-loadable, entry-stored, deletion-header, addition-header}
 use borrow.Author.Needs.{needs}
 use Rattle.proof_log.proofs.load_line.Statement.{statement}
 use Rattle.proof_log.proofs.load_line.Tie as tie
@@ -13,10 +13,10 @@ starts-deletion-requires : tie.Need-starts-deletion-requires
 starts-deletion-requires c κs = search needs
 
 add-load-clause : tie.Need-add-load-clause
-add-load-clause c = search needs
+add-load-clause c = record { fits = first-room (deletion-first (c .before .before .before .before .args .text .now) (sym (c .before .before .starts-deletion .ensures) ∙ c .before .if1 .taken) (c .before .before .before .before .pre .0)) (c .before .before .before .before .args .to) deletion-size (c .before .before .before .before .pre .1) .0 }
 
 load-clause-requires : tie.Need-load-clause-requires
-load-clause-requires c κs = (first-loadable (deletion-first (c .before .before .before .before .args .text .now) (sym (c .before .before .starts-deletion .ensures) ∙ c .before .if1 .taken) (c .before .before .before .before .pre .0)), c .before .before .before .before .pre .1)
+load-clause-requires c κs = (first-loadable (deletion-first (c .before .before .before .before .args .text .now) (sym (c .before .before .starts-deletion .ensures) ∙ c .before .if1 .taken) (c .before .before .before .before .pre .0)), first-room (deletion-first (c .before .before .before .before .args .text .now) (sym (c .before .before .starts-deletion .ensures) ∙ c .before .if1 .taken) (c .before .before .before .before .pre .0)) (c .before .before .before .before .args .to) deletion-size (c .before .before .before .before .pre .1) .1)
 
 header-requires : tie.Need-header-requires
 header-requires c κs = search needs
@@ -28,10 +28,10 @@ store-number-requires : tie.Need-store-number-requires
 store-number-requires c κs = search needs
 
 add-load-clause-2 : tie.Need-add-load-clause-2
-add-load-clause-2 c = search needs
+add-load-clause-2 c = record { fits = first-room (addition-first (c .before .before .before .before .args .text .now) (sym (c .before .before .starts-deletion .ensures) ∙ c .before .if1 .left) (c .before .before .before .before .pre .0)) (c .before .before .before .before .args .to) addition-size (c .before .before .before .before .pre .1) .0 }
 
 load-clause-requires-2 : tie.Need-load-clause-requires-2
-load-clause-requires-2 c κs = (first-loadable (addition-first (c .before .before .before .before .args .text .now) (sym (c .before .before .starts-deletion .ensures) ∙ c .before .if1 .left) (c .before .before .before .before .pre .0)), c .before .before .before .before .pre .1)
+load-clause-requires-2 c κs = (first-loadable (addition-first (c .before .before .before .before .args .text .now) (sym (c .before .before .starts-deletion .ensures) ∙ c .before .if1 .left) (c .before .before .before .before .pre .0)), first-room (addition-first (c .before .before .before .before .args .text .now) (sym (c .before .before .starts-deletion .ensures) ∙ c .before .if1 .left) (c .before .before .before .before .pre .0)) (c .before .before .before .before .args .to) addition-size (c .before .before .before .before .pre .1) .1)
 
 header-requires-2 : tie.Need-header-requires-2
 header-requires-2 c κs = search needs

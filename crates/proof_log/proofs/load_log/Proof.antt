@@ -1,9 +1,8 @@
 use borrow.Author.Needs.{needs}
-use borrow.Author.Needs.{needs}
 use native.Mathlib.Omega.{arith}
 use Prim.Native.Nat.{_-_}
 use denote.Ref.{now}
-use Rattle.proof_log.proofs.Loading.{Lines-loaded, lines-start, lines-end, lines-step, lines-length, line-accepted, line-room}
+use Rattle.proof_log.proofs.Loading.{Lines-loaded, lines-start, lines-end, lines-step, lines-length, line-accepted, line-room, line-within}
 use Rattle.proof_log.proofs.load_log.Statement.{statement}
 use Rattle.proof_log.proofs.load_log.Tie as tie
 
@@ -26,16 +25,16 @@ part-load-line-end : tie.Need-part-load-line-end Inv-loop μ-loop
 part-load-line-end c = search needs
 
 load-line-requires : tie.Need-load-line-requires Inv-loop μ-loop
-load-line-requires c κs = (line-accepted (c .before .before .before .loop .inv) (c .before .before .loop-test .taken), omega (arith, c .before .before .before .loop .inv .room, c .before .before .before .loop .inv .inside, c .before .before .before .before .before .pre .1))
+load-line-requires c κs = (line-accepted (c .before .before .before .loop .inv) (c .before .before .loop-test .taken), line-room (c .before .before .before .loop .inv) (c .before .before .loop-test .taken) (c .before .before .before .before .before .pre .1))
 
 add-at : tie.Need-add-at Inv-loop μ-loop
-add-at c = let f = line-room (c .before .before .before .before .before .before .loop .inv) (c .before .before .before .before .before .loop-test .taken) (c .before .before .load-line .result .count) (c .before .before .load-line .ensures .0) (c .before .before .load-line .ensures .1 .0) in record { fits = omega (arith, f .0) }
+add-at c = record { fits = omega (arith, line-within (c .before .before .before .before .before .before .loop .inv) (c .before .before .before .before .before .loop-test .taken) (c .before .before .load-line .ensures .0)) }
 
 add-to : tie.Need-add-to Inv-loop μ-loop
-add-to c = let f = line-room (c .before .before .before .before .before .before .before .loop .inv) (c .before .before .before .before .before .before .loop-test .taken) (c .before .before .before .load-line .result .count) (c .before .before .before .load-line .ensures .0) (c .before .before .before .load-line .ensures .1 .0) in record { fits = omega (arith, f .0, f .1) }
+add-to c = record { fits = omega (arith, line-room (c .before .before .before .before .before .before .before .loop .inv) (c .before .before .before .before .before .before .loop-test .taken) (c .before .before .before .before .before .before .before .before .before .pre .1), c .before .before .before .load-line .ensures .1 .0) }
 
 add-to-2 : tie.Need-add-to-2 Inv-loop μ-loop
-add-to-2 c = let f = line-room (c .before .before .before .before .before .before .before .loop .inv) (c .before .before .before .before .before .before .loop-test .taken) (c .before .before .before .load-line .result .count) (c .before .before .before .load-line .ensures .0) (c .before .before .before .load-line .ensures .1 .0) in record { fits = omega (arith, f .0, f .1, c .before .before .before .before .before .before .before .loop .inv .room, c .before .before .before .before .before .before .before .before .before .pre .1) }
+add-to-2 c = record { fits = omega (arith, line-room (c .before .before .before .before .before .before .before .loop .inv) (c .before .before .before .before .before .before .loop-test .taken) (c .before .before .before .before .before .before .before .before .before .pre .1), c .before .before .before .load-line .ensures .1 .0) }
 
 add-lines : tie.Need-add-lines Inv-loop μ-loop
 add-lines c = search needs

@@ -1,0 +1,3 @@
+pub mod TextsRead
+pub mod Workspace
+pub mod Outcome

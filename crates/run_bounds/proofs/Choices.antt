@@ -1,0 +1,303 @@
+-- What is known where a choice is taken. Assumes that the formula was accepted.
+use mathlib.Core.Path.{_≡_, refl, sym, _∙_, ap}
+use mathlib.Core.Logic.{⊎-elim}
+use mathlib.Core.Bool.{Bool, true, false, not}
+use mathlib.Core.List.{List, [], _∷_, _++_, append-assoc, append-nil, List·Memᴰ, List·Memᴰ·head as here, Memᴰ·append-left, Memᴰ·append-right, List·Memᴰ·append-cases}
+use Prim.Native.Nat.{ℕ, _+_, _-_, _≤_}
+use native.Mathlib.Omega.{arith}
+use lib.ListN.{length}
+use Rattle.definition.specs.Lists.{sum-of, only-if, for-each}
+use Rattle.definition.specs.Literals.{Clause, Formula, opposes, opposed}
+use Rattle.definition.specs.Standing.{addition, deletion, after}
+use Rattle.definition.specs.Reading.{Input, input-limits}
+use Rattle.definition.specs.Events.{Choice, Event, clause-replaced, literals-deleted}
+use Rattle.definition.specs.Counter.{below-new, last-new, size, counter, take-choice}
+use Rattle.definition.specs.Order.{replacement-lines, replaced, replace, order-events}
+use Rattle.definition.specs.Reencoding.{lines-of, lines, Form, counter-form, order-form, Settings, choice-events, choices-events, cleared, chosen, input, events, log, result}
+use Rattle.definition.specs.Calls.{workspace-need, numbers-of}
+use Rattle.laws.proofs.Members.{Parted, Proper-all, Fits}
+use Rattle.laws.proofs.Sums.{sum-++, sum-≤, sum-for-each}
+use Rattle.laws.proofs.Fitting.{Fit-all, Proper-to, proper-fit, fit-up}
+use Rattle.laws.proofs.Replay.{All-clauses, after-++, lines-++}
+use Rattle.soundness.proofs.Times.{unique-at}
+use Rattle.soundness.proofs.Removals.{mem-removes}
+use Rattle.clearing.proofs.Cleared.{cleared-facts}
+use Rattle.counter_form.proofs.Ready.{Ready}
+use Rattle.counter_form.proofs.Pairs.{missing-mem}
+use Rattle.counter_form.proofs.Front.{front, own-fit, well-formed, front-own, front-removes, front-fits}
+use Rattle.counter_form.proofs.Counter.{after-choice}
+use Rattle.order_form.proofs.Order.{Before, order-events-are}
+use Rattle.order_form.proofs.Pass.{results, added as results-of}
+use Rattle.round_trips.proofs.Accepted.{Accepted}
+use Rattle.room.proofs.Weights.{gained, added, weight}
+use Rattle.room.proofs.Choice.{pairs-to}
+use Rattle.room.proofs.Lines.{Arranges, new-variables, ordered-length, ordered-proper, ordered-size, ordered-new, choices-standing-to}
+use Rattle.room.proofs.Cleared.{clearing, cleared-after}
+use Rattle.room.proofs.Rises.{risen, taken-changes}
+use Rattle.room.proofs.Additions.{numbers}
+use Rattle.room.proofs.Runs.{Run, order-of, choosing, events-are, chosen-mem, standing-to, arranges, run-risen, weight-after, few-new-variables, literal-weight, literal-most, literal-least, weight-most, weight-least}
+use Rattle.room.proofs.Compaction.{events-of-first, standing-after-first, next-choice}
+use Rattle.theorems.proofs.Log.{chosen-parted}
+use Rattle.theorems.proofs.Texts.{accepted-run}
+use Rattle.theorems.proofs.Steps.{steps}
+use Rattle.run_bounds.specs.Choices.{events-up-to, Takeable, At-choice, Choices-taken}
+use Rattle.run_bounds.proofs.Splits.{choices-after, choice-alone, All-ready, ready-after}
+use Rattle.run_bounds.proofs.Variables.{chosen-few}
+
+-- ---- what the events of a choice add, counted in numbers
+
+numbers-sum : (f : Formula) → numbers-of f ≤ sum-of numbers f
+unfolding numbers-of
+numbers-sum f = omega (arith, weight-least 1 1 (λ _. 1) (λ _. omega arith) f)
+
+taken-space : (F : Formula) (k : Choice) → numbers-of (counter k) ≤ added numbers (lines-of (take-choice F k))
+taken-space F k = omega (arith, taken-changes numbers k F .0, numbers-sum (counter k))
+
+choice-space : (form : Form) (F : Formula) (k : Choice) → numbers-of (counter k) ≤ added numbers (lines (choice-events form F k))
+unfolding choice-events lines for-each
+choice-space counter-form F k = omega (arith, taken-space F k, sum-++ (gained numbers) (lines-of (take-choice F k)) [])
+choice-space order-form F k = omega (arith, taken-space F k, sum-++ (gained numbers) (lines-of (take-choice F k)) (lines (order-events k (after F (lines-of (take-choice F k))))))
+
+result-space : (k : Choice) (d : Clause) → sum-of numbers (results k d) ≤ sum-of (λ e. added numbers (lines-of e)) (replace k d)
+unfolding replace only-if sum-of lines-of replacement-lines
+result-space k d = go (opposes (k .literals) d)
+  where
+    r : Clause
+    r = replaced k d
+
+    one : (u : Bool) → sum-of numbers (only-if u (r ∷ [])) ≤ added numbers (only-if u (addition r ∷ []) ++ (deletion d ∷ []))
+    one true = omega arith
+    one false = omega arith
+
+    go : (t : Bool) → sum-of numbers (only-if t (only-if (not (opposed r)) (r ∷ []))) ≤ sum-of (λ e. added numbers (lines-of e)) (only-if t (clause-replaced d r ∷ []))
+    go true = omega (arith, one (not (opposed r)))
+    go false = omega arith
+
+module _ (F : Formula) (k : Choice) (f : Fits (k .below) F) (r : Ready F k) where
+  order-space-of : numbers-of (counter k) + numbers-of (results-of k (front F k)) ≤ added numbers (lines (choice-events order-form F k))
+  unfolding choice-events lines for-each
+  order-space-of =
+      let E = front F k in
+      let es = order-events k (after F (lines-of (take-choice F k))) in
+      let n : Event → ℕ = λ e. added numbers (lines-of e) in
+      omega (
+        arith,
+        taken-space F k,
+        numbers-sum (results-of k E),
+        sum-++ (gained numbers) (lines-of (take-choice F k)) (for-each es lines-of),
+        sum-for-each (gained numbers) es lines-of,
+        ap (sum-of n) (ap (order-events k) (after-choice F k f r) ∙ order-events-are k E),
+        sum-++ n (for-each E (replace k)) (literals-deleted k ∷ []),
+        sum-for-each n E (replace k),
+        sum-for-each numbers E (results k),
+        sum-≤ (λ d. sum-of numbers (results k d)) (λ d. sum-of n (replace k d)) E (λ d _. result-space k d),
+      )
+
+  front-proper-of : Proper-all F → Proper-all (front F k)
+  front-proper-of p d m =
+      ⊎-elim (p d) (λ i. pairs-to (k .below) (k .literals) (r .proper, λ x j. own-fit F k f r x j .1) d (missing-mem F (k .literals) d i) .0)
+      (List·Memᴰ·append-cases F (mem-removes (front-removes F k f r) m))
+
+  -- belongs in crate theorems (before-order, not exported there)
+  before-of : Before (front F k) k
+  before-of = record { well-formed = well-formed F k f r; fits = front-fits F k f r; absent = front-own F k f r }
+
+-- ---- a run
+module _ (i : Input) (a : Accepted input-limits i) (s : Settings) where
+  run : Run s i
+  run = accepted-run s i a
+
+  parted : Parted (chosen s i)
+  parted = chosen-parted s i (a .proper) (a .fits)
+
+  few-variables : i .variables ≤ 8_000
+  unfolding input-limits
+  few-variables = a .variables-few
+
+  -- the choices are ready where the first is taken; belongs in crate theorems (ready, not exported there)
+  ready-first : All-ready (order-of s i) (cleared (i .formula)) (chosen s i)
+  unfolding size
+  ready-first c m n =
+      let o = arranges s i run c m in
+      let r = chosen-mem s i c m in
+      record {
+        proper = o .2;
+        proper-clause = o .0 .0;
+        long = ordered-size (i .variables) (order-of s i) (chosen s i) (arranges s i run) c m n;
+        standing = r .0;
+        same = o .3;
+        alone = λ x j. unique-at (cleared (i .formula)) c (r .3) x (o .3 .0 x j);
+      }
+
+  module _ (cs ds : List Clause) (c : Clause) (e : chosen s i ≡ cs ++ (c ∷ ds)) where
+    -- what stands before the choice
+    F : Formula
+    F = standing-after-first s i cs
+
+    -- the choice
+    k : Choice
+    k = next-choice s i cs c
+
+    arranged-first : Arranges (i .variables) (order-of s i) cs
+    arranged-first d m = arranges s i run d (rw e (Memᴰ·append-left (c ∷ ds) m))
+
+    next-in : List·Memᴰ c (chosen s i)
+    next-in = rw e (Memᴰ·append-right cs (here refl))
+
+    F-to : All-clauses (Proper-to (i .variables + new-variables cs)) F
+    unfolding F standing-after-first events-of-first
+    F-to = choices-standing-to (s .form) (order-of s i) (i .variables) (cleared (i .formula)) cs (standing-to s i run) arranged-first
+
+    ready-k : Ready F k
+    unfolding F k standing-after-first events-of-first
+    ready-k =
+        ready-after (s .form) (order-of s i) (i .variables) (cleared (i .formula)) cs (c ∷ ds) (cleared-facts (a .proper) (a .fits) .1)
+        (λ d m. ready-first d (rw e m)) (rw e at parted) c (here refl) (i .variables + new-variables cs)
+
+    fits-k : Fits (k .below) F
+    unfolding k below-new
+    fits-k d m = proper-fit (F-to d m)
+
+    k-length : length (k .literals) ≡ length c
+    unfolding k
+    k-length = ordered-length (i .variables) (order-of s i) (chosen s i) (arranges s i run) c next-in
+
+    old-k : Fit-all (i .variables) (k .literals)
+    unfolding k
+    old-k = proper-fit (ordered-proper (i .variables) (order-of s i) (chosen s i) (arranges s i run) c next-in)
+
+    first-new : new-variables cs ≤ i .variables
+    unfolding new-variables
+    first-new = omega (arith, chosen-few s i run parted .1, ap new-variables e, sum-++ (λ d. length d - 1) cs (c ∷ ds))
+
+    -- ---- the events
+    -- its events, and those that follow
+    es : List Event
+    es = choice-events (s .form) F k
+
+    rest : List Event
+    rest = choices-events (s .form) (order-of s i) (last-new k) (after F (lines es)) ds
+
+    first-split : choosing s i ≡ events-of-first s i cs ++ (es ++ rest)
+    unfolding choosing F k es rest standing-after-first events-of-first choices-events
+    first-split =
+        ap (choices-events (s .form) (order-of s i) (i .variables) (cleared (i .formula))) e
+        ∙ choices-after (s .form) (order-of s i) (i .variables) (cleared (i .formula)) cs (c ∷ ds) arranged-first
+
+    events-split : events s i ≡ events-up-to s i cs ++ (es ++ rest)
+    unfolding events-up-to
+    events-split =
+        events-are s i
+        ∙ ap (λ (xs : List Event). clearing (i .formula) ++ xs) first-split
+        ∙ sym (append-assoc (clearing (i .formula)) (events-of-first s i cs) (es ++ rest))
+
+    first-more : events-of-first s i (cs ++ (c ∷ [])) ≡ events-of-first s i cs ++ es
+    unfolding F k es standing-after-first events-of-first
+    first-more =
+        choices-after (s .form) (order-of s i) (i .variables) (cleared (i .formula)) cs (c ∷ []) arranged-first
+        ∙ ap (λ (xs : List Event). events-of-first s i cs ++ xs) (choice-alone (s .form) (order-of s i) (i .variables + new-variables cs) F c)
+
+    stands-F : after (i .formula) (lines (events-up-to s i cs)) ≡ F
+    unfolding F events-up-to standing-after-first
+    stands-F =
+        let xs = events-of-first s i cs in
+        ap (after (i .formula)) (lines-++ (clearing (i .formula)) xs)
+        ∙ after-++ (i .formula) (lines (clearing (i .formula))) (lines xs)
+        ∙ ap (λ (X : Formula). after X (lines xs)) (sym (cleared-after (i .formula)))
+
+    next-stands-of : standing-after-first s i (cs ++ (c ∷ [])) ≡ after F (lines es)
+    unfolding F standing-after-first
+    next-stands-of =
+        let xs = events-of-first s i cs in
+        ap (λ (ys : List Event). after (cleared (i .formula)) (lines ys)) first-more
+        ∙ ap (after (cleared (i .formula))) (lines-++ xs es)
+        ∙ after-++ (cleared (i .formula)) (lines xs) (lines es)
+
+    next-events-of : events-up-to s i (cs ++ (c ∷ [])) ≡ events-up-to s i cs ++ es
+    unfolding events-up-to
+    next-events-of =
+        ap (λ (xs : List Event). clearing (i .formula) ++ xs) first-more
+        ∙ sym (append-assoc (clearing (i .formula)) (events-of-first s i cs) es)
+
+    next-below-of : last-new k ≡ i .variables + new-variables (cs ++ (c ∷ []))
+    unfolding k new-variables sum-of
+    next-below-of =
+        omega (
+          arith,
+          ordered-new (i .variables) (order-of s i) (chosen s i) (arranges s i run) c next-in (i .variables + new-variables cs),
+          sum-++ (λ d. length d - 1) cs (c ∷ []),
+        )
+
+    -- ---- sizes
+    few-F : length F ≤ 300_000
+    unfolding input-limits
+    few-F =
+        let xs = events-up-to s i cs in
+        let w = literal-weight 0 (chosen s i) in
+        omega (
+          arith,
+          weight-after s i run 1 0 xs (es ++ rest) events-split,
+          weight-most 1 0 w (literal-most 0 (chosen s i)) (i .formula),
+          weight-least 1 0 w (literal-least 0 (chosen s i)) F,
+          ap (sum-of (weight 1 w)) stands-F,
+          run-risen s i run 4,
+          ap (sum-of (risen 4)) events-split,
+          sum-++ (risen 4) xs (es ++ rest),
+          few-new-variables s i run,
+          a .clauses-few,
+          a .literals-few,
+        )
+
+    room-F : numbers-of F + added numbers (lines es) ≤ workspace-need i
+    unfolding F k es
+    room-F = steps i a s .choice cs ds c e
+
+    pub takeable-choice : Takeable s i (standing-after-first s i cs) (next-choice s i cs c)
+    unfolding F k es below-new
+    takeable-choice =
+        let t = chosen-mem s i c next-in in
+        let least : 5 ≤ length c = t .1 in
+        let most : length c ≤ 64 = t .2 in
+        record {
+          proper = λ d m. F-to d m .0;
+          fits = fits-k;
+          ready = ready-k;
+          least = omega (arith, k-length);
+          most = omega (arith, k-length);
+          old = old-k;
+          reach = λ x m. fit-up 8_000 (i .variables) x few-variables (old-k x m);
+          new-few = omega (arith, first-new, few-variables);
+          few = few-F;
+          space = omega (arith, room-F, choice-space (s .form) F k);
+          order-space = λ o. omega (arith, room-F, order-space-of F k fits-k ready-k, ap (λ (form : Form). added numbers (lines (choice-events form F k))) o);
+          before = before-of F k fits-k ready-k;
+          front-proper = front-proper-of F k fits-k ready-k (λ d m. F-to d m .0);
+        }
+
+    pub at-choice : At-choice s i cs c (standing-after-first s i cs) (next-choice s i cs c)
+    unfolding F k es below-new
+    at-choice = record {
+      takeable = takeable-choice;
+      below = refl;
+      next-below = next-below-of;
+      stands = stands-F;
+      next-stands = next-stands-of;
+      next-events = next-events-of;
+      rest = rest;
+      split = events-split;
+    }
+
+  pub choices-taken : Choices-taken s i
+  unfolding events-up-to events-of-first standing-after-first choices-events choosing clearing new-variables sum-of lines for-each after result log input
+  choices-taken =
+      let f = i .formula in
+      record {
+        at = at-choice;
+        start-below = omega arith;
+        start-stands = refl;
+        start-events = append-nil (clearing f);
+        end-stands =
+            ap (λ (X : Formula). after X (lines (choosing s i))) (cleared-after f)
+            ∙ sym (ap (after f) (ap lines (events-are s i) ∙ lines-++ (clearing f) (choosing s i)) ∙ after-++ f (lines (clearing f)) (lines (choosing s i)));
+        end-events = sym (events-are s i);
+      }

@@ -1,0 +1,3 @@
+-- What the code may rely on along a run.
+pub mod Choices
+pub mod Sizes

@@ -1,0 +1,3 @@
+pub mod Choice
+pub mod Pairs
+pub mod Growth

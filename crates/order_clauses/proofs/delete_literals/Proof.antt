@@ -1,0 +1,59 @@
+use borrow.Author.Needs.{needs}
+use native.Mathlib.Omega.{arith}
+use Prim.Native.Nat.{_-_, _+_}
+use lib.ListN.{length}
+use denote.Ref.{now}
+use Rattle.definition.specs.Order.{deletions-of}
+use Rattle.order_clauses.specs.Order.{of-literals}
+use Rattle.order_clauses.proofs.Deleting.{Deleting, deleting-start, deleting-room, deleting-step, deleting-end}
+use Rattle.order_clauses.proofs.delete_literals.Statement.{statement}
+use Rattle.order_clauses.proofs.delete_literals.Tie as tie
+
+abbrev Inv-loop : tie.InvT-loop
+Inv-loop store₀ log₀ choice below size q₀ i₀ store log q i = Deleting (deletions-of (of-literals choice below)) (length choice) store₀ log₀ q₀ i store log q
+
+abbrev μ-loop : tie.MeasureT-loop
+μ-loop store₀ log₀ choice below size q₀ i₀ store log q i = length choice + 1 - i
+
+cast-size : tie.Need-cast-size Inv-loop μ-loop
+cast-size c = search needs
+
+loop-holds : tie.Need-loop-holds Inv-loop μ-loop
+loop-holds c = deleting-start (deletions-of (of-literals (now (c .before .args .choice)) (c .before .args .below))) (length (now (c .before .args .choice))) (now (c .before .args .store)) (now (c .before .args .log)) (c .before .args .p) (c .before .pre .1 .formed)
+
+delete-literal-requires : tie.Need-delete-literal-requires Inv-loop μ-loop
+delete-literal-requires c κs = ((c .before .before .before .loop .inv .from, c .before .before .loop-test .taken, c .before .before .before .before .before .pre .0), deleting-room (c .before .before .before .loop .inv) (c .before .before .loop-test .taken) (c .before .before .before .before .before .pre .1))
+
+add-i : tie.Need-add-i Inv-loop μ-loop
+add-i c = search needs
+
+loop-less : tie.Need-loop-less Inv-loop μ-loop
+loop-less c = omega (arith, c .before .before .before .before .before .before .loop-test .taken)
+
+loop-again : tie.Need-loop-again Inv-loop μ-loop
+loop-again c = deleting-step (c .before .before .before .before .before .before .before .loop .inv) (c .before .before .before .before .before .before .loop-test .taken) (c .before .before .before .delete-literal .kept .0) (c .before .before .before .delete-literal .ensures)
+
+same-length : tie.Need-same-length Inv-loop μ-loop
+same-length c = c .before .loop .inv .size
+
+same-length-2 : tie.Need-same-length-2 Inv-loop μ-loop
+same-length-2 c = c .before .loop .inv .log-size
+
+returns : tie.Need-returns Inv-loop μ-loop
+returns c = deleting-end (c .before .loop .inv) (c .loop-test .left)
+
+pub delete-literals-spec : {M : Type 1} → statement M
+delete-literals-spec =
+    tie.close
+    (tie.spec
+    Inv-loop
+    μ-loop
+    cast-size
+    loop-holds
+    delete-literal-requires
+    add-i
+    loop-less
+    loop-again
+    same-length
+    same-length-2
+    returns)

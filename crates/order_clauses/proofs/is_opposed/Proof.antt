@@ -1,0 +1,34 @@
+use mathlib.Core.Path.{ap, _∙_}
+use mathlib.Core.List.{List}
+use Prim.Native.Nat.{ℕ}
+use denote.Ref.{now}
+use Rattle.definition.specs.Lists.{any}
+use Rattle.order_clauses.specs.Table.{next-in}
+use borrow.Author.Needs.{needs}
+use Rattle.order_clauses.proofs.is_opposed.Statement.{statement}
+use Rattle.order_clauses.proofs.is_opposed.Tie as tie
+
+slice-aggregate-mark-places : tie.Need-slice-aggregate-mark-places
+slice-aggregate-mark-places c = search needs
+
+mark-places-requires : tie.Need-mark-places-requires
+mark-places-requires c κs = search needs
+
+slice-aggregate-any-next : tie.Need-slice-aggregate-any-next
+slice-aggregate-any-next c = search needs
+
+any-next-requires : tie.Need-any-next-requires
+any-next-requires c κs = search needs
+
+returns : tie.Need-returns
+returns c = c .any-next .ensures ∙ ap (λ (w : List ℕ). any (next-in (now (c .before .before .before .before .before .before .args .places)) w) (now (c .before .before .before .before .before .before .args .clause))) (c .before .before .before .mark-places .ensures)
+
+pub is-opposed-spec : {M : Type 1} → statement M
+is-opposed-spec =
+    tie.close
+    (tie.spec
+    slice-aggregate-mark-places
+    mark-places-requires
+    slice-aggregate-any-next
+    any-next-requires
+    returns)

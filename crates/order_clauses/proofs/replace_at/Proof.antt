@@ -1,0 +1,130 @@
+use native.Mathlib.Omega.{arith}
+use denote.Ref.{now}
+use borrow.Author.Needs.{sfits-of}
+use Rattle.literals.specs.Literal.{negative, header-literals}
+use Rattle.literals.proofs.Laws.{answer, answered}
+use Rattle.clauses.specs.Store.{header-at}
+use Rattle.order_clauses.proofs.Steps.{step-deleted, step-other, step-addable, deletion-room, step-replaced}
+use borrow.Author.Needs.{needs}
+use Rattle.order_clauses.proofs.replace_at.Statement.{statement}
+use Rattle.order_clauses.proofs.replace_at.Tie as tie
+
+mul-is-negative : tie.Need-mul-is-negative
+mul-is-negative c = search needs
+
+slice-copy-out-is-negative : tie.Need-slice-copy-out-is-negative
+slice-copy-out-is-negative c = search needs
+
+is-negative-requires : tie.Need-is-negative-requires
+is-negative-requires c κs = search needs
+
+returns : tie.Need-returns
+returns c = let s = now (c .before .before .before .before .before .args .work) in step-deleted (now (c .before .before .before .before .before .args .places)) (c .before .before .before .before .before .args .size) (c .before .before .before .before .before .args .below) s (c .before .before .before .before .before .args .at) (now (c .before .before .before .before .before .args .log)) (c .before .before .before .before .before .args .p) (answered negative (header-at s (c .before .before .before .before .before .args .at)) (sfits-of (c .before .before .is-negative-arg .given)) (c .before .is-negative .ensures) (c .if1 .taken))
+
+mul-header-length : tie.Need-mul-header-length
+mul-header-length c = search needs
+
+slice-copy-out-header-length : tie.Need-slice-copy-out-header-length
+slice-copy-out-header-length c = search needs
+
+header-length-requires : tie.Need-header-length-requires
+header-length-requires c κs = search needs
+
+add-first : tie.Need-add-first
+add-first c = search needs
+
+add-next : tie.Need-add-next
+add-next c = let s = now (c .before .before .before .before .before .before .before .args .work) in let k = answer header-literals (header-at s (c .before .before .before .before .before .before .before .args .at)) (sfits-of (c .before .header-length-arg .given)) (c .header-length .ensures) in
+    omega (arith, k, c .before .before .before .before .before .before .before .pre .before, c .before .before .before .before .before .before .before .pre .within)
+
+mul-any-negated : tie.Need-mul-any-negated
+mul-any-negated c = search needs
+
+sub-any-negated : tie.Need-sub-any-negated
+sub-any-negated c = search needs
+
+part-any-negated-start : tie.Need-part-any-negated-start
+part-any-negated-start c = search needs
+
+part-any-negated-end : tie.Need-part-any-negated-end
+part-any-negated-end c = let s = now (c .before .before .before .before .before .before .before .before .args .work) in let k = answer header-literals (header-at s (c .before .before .before .before .before .before .before .before .args .at)) (sfits-of (c .before .before .header-length-arg .given)) (c .before .header-length .ensures) in
+    omega (arith, k, c .before .before .before .before .before .before .before .before .pre .before, c .before .before .before .before .before .before .before .before .pre .within)
+
+any-negated-requires : tie.Need-any-negated-requires
+any-negated-requires c κs = search needs
+
+add-result-requires : tie.Need-add-result-requires
+add-result-requires c κs = let s = now (c .before .before .before .before .before .before .before .before .before .before .before .before .before .args .work) in let k = answer header-literals (header-at s (c .before .before .before .before .before .before .before .before .before .before .before .before .before .args .at)) (sfits-of (c .before .before .before .before .before .before .before .header-length-arg .given)) (c .before .before .before .before .before .before .header-length .ensures) in
+    let d = answered negative (header-at s (c .before .before .before .before .before .before .before .before .before .before .before .before .before .args .at)) (sfits-of (c .before .before .before .before .before .before .before .before .before .before .is-negative-arg .given)) (c .before .before .before .before .before .before .before .before .before .is-negative .ensures) (c .before .before .before .before .before .before .before .before .if1 .left) in
+    ((omega (arith, k, c .before .before .before .before .before .before .before .before .before .before .before .before .before .pre .before), c .before .before .before .before .before .before .before .before .before .before .before .before .before .pre .within, c .before .before .before .before .before .before .before .before .before .before .before .before .before .pre .table), step-addable (now (c .before .before .before .before .before .before .before .before .before .before .before .before .before .args .places)) (c .before .before .before .before .before .before .before .before .before .before .before .before .before .args .size) (c .before .before .before .before .before .before .before .before .before .before .before .before .before .args .below) s (c .before .before .before .before .before .before .before .before .before .before .before .before .before .args .at) (c .before .before .before .before .before .before .header-length .result) k d (c .before .before .before .before .before .before .before .before .before .before .before .before .before .pre) (c .before .before .before .any-negated .ensures) (c .before .before .if2 .taken))
+
+mul-record-line : tie.Need-mul-record-line
+mul-record-line c = search needs
+
+sub-record-line : tie.Need-sub-record-line
+sub-record-line c = search needs
+
+part-record-line-start : tie.Need-part-record-line-start
+part-record-line-start c = search needs
+
+part-record-line-end : tie.Need-part-record-line-end
+part-record-line-end c = let s = now (c .before .before .before .before .before .before .before .before .before .before .before .before .before .before .before .before .before .before .before .args .work) in let k = answer header-literals (header-at s (c .before .before .before .before .before .before .before .before .before .before .before .before .before .before .before .before .before .before .before .args .at)) (sfits-of (c .before .before .before .before .before .before .before .before .before .before .before .before .before .header-length-arg .given)) (c .before .before .before .before .before .before .before .before .before .before .before .before .header-length .ensures) in
+    omega (arith, k, c .before .before .before .before .before .before .before .before .before .before .before .before .before .before .before .before .before .before .before .pre .before, c .before .before .before .before .before .before .before .before .before .before .before .before .before .before .before .before .before .before .before .pre .within, c .before .before .before .before .before .add-result .kept .0)
+
+record-line-requires : tie.Need-record-line-requires
+record-line-requires c κs = let s = now (c .before .before .before .before .before .before .before .before .before .before .before .before .before .before .before .before .before .before .before .before .args .work) in let k = answer header-literals (header-at s (c .before .before .before .before .before .before .before .before .before .before .before .before .before .before .before .before .before .before .before .before .args .at)) (sfits-of (c .before .before .before .before .before .before .before .before .before .before .before .before .before .before .header-length-arg .given)) (c .before .before .before .before .before .before .before .before .before .before .before .before .before .header-length .ensures) in
+    let d = answered negative (header-at s (c .before .before .before .before .before .before .before .before .before .before .before .before .before .before .before .before .before .before .before .before .args .at)) (sfits-of (c .before .before .before .before .before .before .before .before .before .before .before .before .before .before .before .before .before .is-negative-arg .given)) (c .before .before .before .before .before .before .before .before .before .before .before .before .before .before .before .before .is-negative .ensures) (c .before .before .before .before .before .before .before .before .before .before .before .before .before .before .before .if1 .left) in
+    deletion-room (now (c .before .before .before .before .before .before .before .before .before .before .before .before .before .before .before .before .before .before .before .before .args .places)) (c .before .before .before .before .before .before .before .before .before .before .before .before .before .before .before .before .before .before .before .before .args .size) (c .before .before .before .before .before .before .before .before .before .before .before .before .before .before .before .before .before .before .before .before .args .below) s (c .before .before .before .before .before .before .before .before .before .before .before .before .before .before .before .before .before .before .before .before .args .at) (c .before .before .before .before .before .before .before .before .before .before .before .before .before .header-length .result) k d (c .before .before .before .before .before .before .before .before .before .before .before .before .before .before .before .before .before .before .before .before .pre) (c .before .before .before .before .before .before .before .before .before .before .any-negated .ensures) (c .before .before .before .before .before .before .before .before .before .if2 .taken) (c .before .before .before .before .before .before .add-result .ensures) (sfits-of (c .before .before .before .before .before .before .before .before .before .before .before .before .before .before .header-length-arg .given))
+
+mark-deleted-requires : tie.Need-mark-deleted-requires
+mark-deleted-requires c κs = search needs
+
+same-length : tie.Need-same-length
+same-length c = search needs
+
+same-length-2 : tie.Need-same-length-2
+same-length-2 c = search needs
+
+returns-2 : tie.Need-returns-2
+returns-2 c = let s = now (c .before .before .before .before .before .before .before .before .before .before .before .before .before .before .before .before .before .before .before .before .before .before .before .before .before .before .args .work) in let k = answer header-literals (header-at s (c .before .before .before .before .before .before .before .before .before .before .before .before .before .before .before .before .before .before .before .before .before .before .before .before .before .before .args .at)) (sfits-of (c .before .before .before .before .before .before .before .before .before .before .before .before .before .before .before .before .before .before .before .before .header-length-arg .given)) (c .before .before .before .before .before .before .before .before .before .before .before .before .before .before .before .before .before .before .before .header-length .ensures) in
+    let d = answered negative (header-at s (c .before .before .before .before .before .before .before .before .before .before .before .before .before .before .before .before .before .before .before .before .before .before .before .before .before .before .args .at)) (sfits-of (c .before .before .before .before .before .before .before .before .before .before .before .before .before .before .before .before .before .before .before .before .before .before .before .is-negative-arg .given)) (c .before .before .before .before .before .before .before .before .before .before .before .before .before .before .before .before .before .before .before .before .before .before .is-negative .ensures) (c .before .before .before .before .before .before .before .before .before .before .before .before .before .before .before .before .before .before .before .before .before .if1 .left) in
+    step-replaced (now (c .before .before .before .before .before .before .before .before .before .before .before .before .before .before .before .before .before .before .before .before .before .before .before .before .before .before .args .places)) (c .before .before .before .before .before .before .before .before .before .before .before .before .before .before .before .before .before .before .before .before .before .before .before .before .before .before .args .size) (c .before .before .before .before .before .before .before .before .before .before .before .before .before .before .before .before .before .before .before .before .before .before .before .before .before .before .args .below) s (c .before .before .before .before .before .before .before .before .before .before .before .before .before .before .before .before .before .before .before .before .before .before .before .before .before .before .args .at) (c .before .before .before .before .before .before .before .before .before .before .before .before .before .before .before .before .before .before .before .header-length .result) k d (c .before .before .before .before .before .before .before .before .before .before .before .before .before .before .before .before .before .before .before .before .before .before .before .before .before .before .pre) (c .before .before .before .before .before .before .before .before .before .before .before .before .before .before .before .before .any-negated .ensures) (c .before .before .before .before .before .before .before .before .before .before .before .before .before .before .before .if2 .taken) (c .before .before .before .before .before .before .before .before .before .before .before .before .add-result .ensures) (c .before .before .before .before .before .record-line .ensures .0) (c .before .before .before .before .before .record-line .ensures .1) (c .before .mark-deleted .ensures)
+
+same-length-3 : tie.Need-same-length-3
+same-length-3 c = search needs
+
+returns-3 : tie.Need-returns-3
+returns-3 c = let s = now (c .before .before .before .before .before .before .before .before .before .before .before .args .work) in let k = answer header-literals (header-at s (c .before .before .before .before .before .before .before .before .before .before .before .args .at)) (sfits-of (c .before .before .before .before .before .header-length-arg .given)) (c .before .before .before .before .header-length .ensures) in
+    let d = answered negative (header-at s (c .before .before .before .before .before .before .before .before .before .before .before .args .at)) (sfits-of (c .before .before .before .before .before .before .before .before .is-negative-arg .given)) (c .before .before .before .before .before .before .before .is-negative .ensures) (c .before .before .before .before .before .before .if1 .left) in
+    step-other (now (c .before .before .before .before .before .before .before .before .before .before .before .args .places)) (c .before .before .before .before .before .before .before .before .before .before .before .args .size) (c .before .before .before .before .before .before .before .before .before .before .before .args .below) s (c .before .before .before .before .before .before .before .before .before .before .before .args .at) (c .before .before .before .before .header-length .result) k d (now (c .before .before .before .before .before .before .before .before .before .before .before .args .log)) (c .before .before .before .before .before .before .before .before .before .before .before .args .p) (c .before .any-negated .ensures) (c .if2 .left)
+
+pub replace-at-spec : {M : Type 1} → statement M
+replace-at-spec =
+    tie.close
+    (tie.spec
+    mul-is-negative
+    slice-copy-out-is-negative
+    is-negative-requires
+    returns
+    mul-header-length
+    slice-copy-out-header-length
+    header-length-requires
+    add-first
+    add-next
+    mul-any-negated
+    sub-any-negated
+    part-any-negated-start
+    part-any-negated-end
+    any-negated-requires
+    add-result-requires
+    mul-record-line
+    sub-record-line
+    part-record-line-start
+    part-record-line-end
+    record-line-requires
+    mark-deleted-requires
+    same-length
+    same-length-2
+    returns-2
+    same-length-3
+    returns-3)

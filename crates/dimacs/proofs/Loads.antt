@@ -276,19 +276,19 @@ module _ (m : Code.Limits) (k : Countable m) (t : Bytes) (a : Code-header.Header
 
 -- ---- the new formula read back
 
-checked-fault : (o : Checked Input) (n : ℕ) → checked-of o ≡ Answer.Fault n → o ≡ fault n
+pub checked-fault : (o : Checked Input) (n : ℕ) → checked-of o ≡ Answer.Fault n → o ≡ fault n
 checked-fault (fault x) n e = cc
 checked-fault (value i) n e = absurd (let z : _≡_ {A = ℕ} 0 1 = cc in omega arith)
 
 -- the formula of V, C and L
-record Formula-is (o : Checked Input) (v c l : ℕ) : Type 0 where
-  formula : Input
-  is : o ≡ value formula
-  variables : formula .variables ≡ v
-  clauses : length (formula .formula) ≡ c
-  literals : literals-of (formula .formula) ≡ l
+pub record Formula-is (o : Checked Input) (v c l : ℕ) : Type 0 where
+  pub formula : Input
+  pub is : o ≡ value formula
+  pub variables : formula .variables ≡ v
+  pub clauses : length (formula .formula) ≡ c
+  pub literals : literals-of (formula .formula) ≡ l
 
-checked-formula : (o : Checked Input) (v c l : ℕ) → checked-of o ≡ Answer.Formula v c l → Formula-is o v c l
+pub checked-formula : (o : Checked Input) (v c l : ℕ) → checked-of o ≡ Answer.Formula v c l → Formula-is o v c l
 checked-formula (fault x) v c l e = absurd (let z : _≡_ {A = ℕ} 0 1 = cc in omega arith)
 checked-formula (value i) v c l e = record { formula = i; is = refl; variables = cc; clauses = cc; literals = cc }
 

@@ -34,7 +34,7 @@ use Rattle.walking.specs.declared.Carried as Carried-code
 use Rattle.walking.specs.declared.Carried.the-variants as Carried
 use Rattle.walking.specs.declared.Replayed as Replayed-code
 use Rattle.walking.specs.declared.Replayed.the-variants as Replayed
-use Rattle.walking.proofs.Replaying.{slice-is}
+use Rattle.walking.proofs.Parts.{slice-is}
 use Rattle.walk_back.specs.declared.WalkedBack as Code
 use Rattle.walk_back.specs.declared.WalkedBack.the-variants as WalkedBack
 use Rattle.walk_back.specs.declared.Texts as Texts-code

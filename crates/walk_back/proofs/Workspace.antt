@@ -8,14 +8,13 @@ use lib.ListN.{length, take, drop, length-append}
 use lib.Seq.{sets, length-sets, sets-eq, take-at, drop-at}
 use Rattle.definition.specs.Lists.{for-each, sum-of}
 use Rattle.definition.specs.Literals.{Formula}
-use Rattle.definition.specs.Standing.{Line, addition, deletion, literals}
+use Rattle.definition.specs.Standing.{Line, literals}
 use Rattle.definition.specs.LogReading.{numbers-in}
 use Rattle.laws.proofs.Slices.{sets-then, sets-rest}
 use Rattle.laws.proofs.Fitting.{line-to, proper-length}
 use Rattle.dimacs.specs.Loading.{entries}
 use Rattle.proof_log.specs.Loading.{line-entry, line-entries}
 use Rattle.proof_log.proofs.Answers.{All-fit}
-use Rattle.walking.specs.Lines as Walked
 use Rattle.walking.specs.Lines.{Loaded, lines-in}
 use Rattle.walking.proofs.Lines.{lines-none, lines-++, loaded-++, loaded-more, lines-more}
 use Rattle.walk_back.specs.Texts.{laid-out}
@@ -34,19 +33,14 @@ loads-joined f lines w₀ w₁ w₂ part n m en em e₁ e₂ e₃ =
 
 -- ---- the lines' entries
 
--- a line stands as a replay reads it
-same-entry : (s : Line) → line-entry s ≡ Walked.line-entry s
-same-entry (addition c) = refl
-same-entry (deletion c) = refl
-
 pub lines-loaded : (ss : List Line) → All-fit ss → Loaded (line-entries ss) × (lines-in (line-entries ss) ≡ ss)
 unfolding for-each
 lines-loaded [] h = (tt, lines-none)
 lines-loaded (s ∷ ss) h =
     let r = lines-loaded ss (λ x i. h x (there i)) in
     let small = proper-length 70_000 (literals s) (line-to 70_000 s (h s (here refl))) in
-    let one : Loaded (line-entry s) = rw (same-entry s) (loaded-more [] s tt (omega arith)) in
-    let line : lines-in (line-entry s) ≡ s ∷ [] = rw (same-entry s) (lines-more [] s tt (omega arith) ∙ ap (λ (xs : List Line). xs ++ (s ∷ [])) lines-none) in
+    let one : Loaded (line-entry s) = loaded-more [] s tt (omega arith) in
+    let line : lines-in (line-entry s) ≡ s ∷ [] = lines-more [] s tt (omega arith) ∙ ap (λ (xs : List Line). xs ++ (s ∷ [])) lines-none in
     (loaded-++ (line-entry s) (line-entries ss) one (r .0), lines-++ (line-entry s) (line-entries ss) one ∙ ap₂ (λ (xs ys : List Line). xs ++ ys) line (r .1))
 
 -- each line has a number of its own, its 0

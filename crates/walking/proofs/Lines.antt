@@ -16,7 +16,8 @@ use Rattle.literals.proofs.Laws.{literals-flip, literals-header}
 use Rattle.clauses.specs.Store.{header-at, size-at}
 use Rattle.laws.proofs.Slices.{drop-step, drop-end}
 use Rattle.clauses.proofs.Laws.{prefix-clause}
-use Rattle.walking.specs.Lines.{line-of, Loaded-from, Loaded, lines-from, lines-in, line-entry, line-at, past-line, Last-line}
+use Rattle.proof_log.specs.Loading.{line-entry}
+use Rattle.walking.specs.Lines.{line-of, Loaded-from, Loaded, lines-from, lines-in, line-at, past-line, Last-line}
 
 -- ---- what follows a line's elements
 

@@ -1,70 +1,45 @@
 -- Lines replayed over a store in the same slice. Assumes nothing.
 use mathlib.Core.Path.{_≡_, refl, sym, ap, _∙_}
-use mathlib.Core.Bool.{Bool, true, false}
+use mathlib.Core.Bool.{true, false}
 use mathlib.Core.List.{List, [], _∷_, _++_}
-use Prim.Native.Nat.{ℕ, zero, suc, _+_, _-_, _≤_, _<_, _^_}
-use native.Mathlib.Nat.{sub-zero}
+use Prim.Native.Nat.{ℕ, _+_, _-_, _/_, _≤_, _<_}
 use native.Mathlib.Omega.{arith}
 use lib.IntN.{ℤ, pos}
-use lib.ListN.{length, getD, set, take, drop, length-take, length-drop}
-use lib.Seq.{sets, take-nil, drop-nil, length-take-le, take-set-le, take-set-lt, drop-set-add, drop-append-le, getD-take, getD-drop, take-take}
+use lib.ListN.{length, take, drop, length-take, length-drop, replicate}
+use lib.Seq.{length-take-le, getD-take, take-take}
 use Rattle.definition.specs.Checked.{Checked, fault, value, _>>=_, refuse-if, through}
 use Rattle.definition.specs.Literals.{Clause, Formula}
-use Rattle.definition.specs.Standing.{Line, addition, deletion, stands, take-out, changed, replay-line, replay}
-use Rattle.literals.specs.Literal.{flip, largest}
-use Rattle.clauses.specs.Store.{Formed, stored, entry, header-at, size-at, deleted-at, clause-at, marked, place-of, Deleted}
+use Rattle.definition.specs.LogReading.{numbers-in}
+use Rattle.definition.specs.Lists.{sum-of}
+use Rattle.definition.specs.Standing.{Line, addition, deletion, literals, take-out, changed, replay-line, replay}
+use Rattle.literals.specs.Literal.{largest}
+use Rattle.clauses.specs.Store.{Formed, stored, header-at, size-at, deleted-at, clause-at, marked, place-of}
 use Rattle.clauses.specs.declared.Found.the-variants.{At, Nothing}
 use Rattle.clauses.proofs.Laws.{added-formed, added-stored, prefix-clause}
 use Rattle.clauses.proofs.Finding.{hit, deleted-hit, deleted-miss}
-use Rattle.laws.proofs.Slices.{taken-sets, sets-before}
 use Rattle.walking.specs.declared.Replayed.{Replayed}
 use Rattle.walking.specs.declared.Replayed.the-variants as Replayed
 use Rattle.walking.specs.Lines.{line-of, Loaded, lines-in, line-at, past-line}
-use Rattle.walking.specs.Replayed.{between, Replayable, Replays}
-use Rattle.walking.proofs.Lines.{lines-end, lines-next, loaded-next, line-deletion, line-addition}
-
--- ---- parts of a slice
-
-pub slice-is : (a b : ℕ) (w : List ℤ) → drop a (take b w) ≡ between a b w
-slice-is zero b w = ap (λ (k : ℕ). take k w) (sym (sub-zero b))
-slice-is (suc a) zero w = let e : 0 - suc a ≡ 0 = omega arith in ap (λ (k : ℕ). take k (drop (suc a) w)) (sym e)
-slice-is (suc a) (suc b) [] = sym (take-nil (suc b - suc a))
-slice-is (suc a) (suc b) (x ∷ w) = let e : suc b - suc a ≡ b - a = omega arith in slice-is a b w ∙ ap (λ (k : ℕ). take k (drop a w)) (sym e)
-
-module _ (a b : ℕ) (w : List ℤ) where
-  pub length-between : b ≤ length w → length (between a b w) ≡ b - a
-  length-between h = length-take-le (b - a) (drop a w) (omega (arith, length-drop a w))
-
-  -- the element at a place of a part
-  pub at-between : (p : ℕ) → p < b - a → header-at (between a b w) p ≡ header-at w (a + p)
-  at-between p h = getD-take (b - a) (drop a w) p (pos 0) h ∙ getD-drop a w p (pos 0)
-
-  pub set-between : (p : ℕ) (x : ℤ) → p < b - a → between a b (set w (a + p) x) ≡ set (between a b w) p x
-  set-between p x h = ap (take (b - a)) (drop-set-add a w p x) ∙ take-set-lt (b - a) (drop a w) p x h
-
-  pub marked-between : (p : ℕ) → p < b - a → between a b (marked w (a + p)) ≡ marked (between a b w) p
-  marked-between p h = set-between p (flip (header-at w (a + p))) h ∙ ap (λ (x : ℤ). set (between a b w) p (flip x)) (sym (at-between p h))
-
-  -- a part with a run behind it
-  pub sets-between : (xs : List ℤ) → a ≤ b → b + length xs ≤ length w → between a (b + length xs) (sets w b xs) ≡ between a b w ++ xs
-  sets-between xs h l =
-      sym (slice-is a (b + length xs) (sets w b xs))
-      ∙ ap (drop a) (taken-sets xs w b l)
-      ∙ drop-append-le a (take b w) xs (omega (arith, length-take-le b w (omega arith)))
-      ∙ ap (λ (r : List ℤ). r ++ xs) (slice-is a b w)
+use Rattle.walking.specs.Replayed.{between, Replayable, Clause-added, Replays}
+use Rattle.walking.specs.Index.{keys, Linkable, Linked, Linked-after}
+use Rattle.walking.proofs.Parts.{slice-is, length-between, marked-between, kept-between}
+use Rattle.walking.proofs.Lines.{lines-end, lines-next, loaded-next, line-deletion, line-addition, line-literals}
 
 -- ---- one line
 
-module _ (old new : List ℤ) (store end n : ℕ) (c : Clause) (o : store ≤ end) (k : length c ≡ n) (room : end + (n + 1) ≤ length old) (small : length c ≤ largest) (f : Formed (between store end old)) where
-  pub added-line : (r : ℕ) → r ≡ end + (n + 1) → new ≡ sets old end (entry c) → Replays (replay-line (stored (between store end old)) (addition c)) store (end + (n + 2)) (Replayed.Standing r) new
-  unfolding replay-line changed
-  added-line r e w =
-      let m : end + length (entry c) ≡ r = omega arith in
-      let b : between store r new ≡ between store end old ++ entry c = rw (sym m, w) (sets-between store end old (entry c) o (omega arith)) in (
-        stored (between store end old) ++ (c ∷ []),
-        refl,
-        record { order = omega arith; small = omega arith; formed = rw b (added-formed (between store end old) c f small); same = ap stored b ∙ added-stored (between store end old) c f small },
-      )
+pub added-line : (old new : List ℤ) (store end r : ℕ) (c : Clause) → store ≤ end → length c ≤ largest → Formed (between store end old) → Clause-added old store end c r new
+    → Replays (replay-line (stored (between store end old)) (addition c)) store (end + (length c + 1)) (Replayed.Standing r) new
+unfolding replay-line changed
+added-line old new store end r c o small f a = (
+  stored (between store end old) ++ (c ∷ []),
+  refl,
+  record {
+    order = omega (arith, a .next);
+    small = omega (arith, a .next);
+    formed = rw (a .filled) (added-formed (between store end old) c f small);
+    same = ap stored (a .filled) ∙ added-stored (between store end old) c f small;
+  },
+)
 
 module _ (old : List ℤ) (store end : ℕ) (c : Clause) (o : store ≤ end) (l : end ≤ length old) (f : Formed (between store end old)) where
   pub found-inside : (p : ℕ) → place-of c (between store end old) ≡ At p → p < end - store
@@ -97,31 +72,38 @@ module _ (f : Formula) (s : List ℤ) (at store a b : ℕ) (r : Replayed) (work 
   pub replays-deletion : deleted-at s at ≡ true → Replays (replay-line f (deletion (clause-at s at))) store a r work → Replays (replay-line f (line-at s at)) store b r work
   replays-deletion e p = rw (line-deletion (header-at s at) (clause-at s at) e) (replays-within (replay-line f (deletion (clause-at s at))) store a b r work h p)
 
--- ---- the loop of `replay`: the lines before `at` are replayed, and what stands after them lies before `end`
+-- ---- the loop of `replay_lines`: the lines before `at` are replayed, what stands after them lies before `end`, and the numbers of the lines from `at` on fit before `links`
 
-pub record Replaying (old work : List ℤ) (lines store first end at : ℕ) : Type 0 where
+pub record Replaying (old work : List ℤ) (heads : List ℕ) (lines store first links end at : ℕ) : Type 0 where
   pub begun : lines ≤ at
   pub inside : at ≤ store
-  pub order : store ≤ end
   pub small : end + lines ≤ first + at
+  pub room : end + numbers-in (lines-in (drop at (take store old))) ≤ links
   pub len : length work ≡ length old
   pub kept : take store work ≡ take store old
   pub loaded : Loaded (drop at (take store old))
-  pub formed : Formed (between store end work)
+  pub linked : Linked work heads store end links
   pub same : replay (stored (between store end work)) (lines-in (drop at (take store old))) ≡ replay (stored (between store first old)) (lines-in (between lines store old))
 
-pub replaying-start : (work : List ℤ) (lines store first : ℕ) → Replayable work lines store first → Replaying work work lines store first first lines
-replaying-start work lines store first p = record {
+pub replaying-start : (work : List ℤ) (heads : List ℕ) (lines store first links : ℕ) → Replayable work lines store first → first + numbers-in (lines-in (between lines store work)) ≤ links → Linked work heads store first links
+    → Replaying work work heads lines store first links first lines
+replaying-start work heads lines store first links p n l = record {
   begun = omega arith;
   inside = p .before;
-  order = p .behind;
   small = omega arith;
+  room = rw (slice-is lines store work) n;
   len = refl;
   kept = refl;
   loaded = rw (slice-is lines store work) (p .loaded);
-  formed = p .formed;
+  linked = l;
   same = ap (λ (s : List ℤ). replay (stored (between store first work)) (lines-in s)) (slice-is lines store work);
 }
+
+-- the numbers of the first line and of the rest
+-- belongs in crate laws (Clauses, beside numbers-snoc)
+numbers-first : (x : Line) (xs : List Line) → numbers-in (x ∷ xs) ≡ (length (literals x) + 1) + numbers-in xs
+unfolding numbers-in sum-of
+numbers-first x xs = refl
 
 -- one line of a replay
 replay-value : (f g : Formula) (x : Line) (xs : List Line) → replay-line f x ≡ value g → replay f (x ∷ xs) ≡ replay g xs
@@ -132,7 +114,7 @@ replay-fault : (f : Formula) (x : Line) (xs : List Line) → replay-line f x ≡
 unfolding replay through _>>=_
 replay-fault f x xs e = rw e refl
 
-module _ (old work : List ℤ) (lines store first end at : ℕ) (i : Replaying old work lines store first end at) (h : at < store) (p : Replayable old lines store first) where
+module _ (old work : List ℤ) (heads : List ℕ) (lines store first links end at : ℕ) (i : Replaying old work heads lines store first links end at) (h : at < store) (p : Replayable old lines store first) where
   abbrev front : List ℤ
   front = take store old
 
@@ -155,42 +137,90 @@ module _ (old work : List ℤ) (lines store first end at : ℕ) (i : Replaying o
       ∙ ap (λ (d : Clause). line-of (header-at (take store work) at) d) (prefix-clause work store at h l (omega (arith, line-fits)))
       ∙ ap (λ (x : ℤ). line-of x (clause-at work at)) (getD-take store work at (pos 0) h)
 
-  pub line-room : end + (size-at work at + 2) ≤ length work
-  line-room = omega (arith, line-fits, i .small, i .len, i .begun, p .room, p .before, p .behind)
+  -- the first of the lines that are left
+  next-line : lines-in (drop at front) ≡ line-at work at ∷ lines-in (drop (past-line work at) front)
+  next-line = lines-next front at (omega (arith, front-length)) ∙ rw (same-line, same-header) refl
+
+  -- its numbers and those of what is left
+  next-numbers : numbers-in (lines-in (drop at front)) ≡ (size-at work at + 1) + numbers-in (lines-in (drop (past-line work at) front))
+  next-numbers =
+      let n : length (literals (line-at work at)) ≡ size-at work at = ap length (line-literals (header-at work at) (clause-at work at)) ∙ length-take-le (size-at work at) (drop (at + 1) work) (omega (arith, line-fits, i .len, p .room, p .behind, length-drop (at + 1) work)) in
+      ap numbers-in next-line ∙ numbers-first (line-at work at) (lines-in (drop (past-line work at) front)) ∙ ap (λ (k : ℕ). (k + 1) + numbers-in (lines-in (drop (past-line work at) front))) n
+
+  pub line-room : end + (size-at work at + 1) ≤ links
+  line-room = omega (arith, i .room, next-numbers)
 
   line-first : replay (stored (between store end work)) (line-at work at ∷ lines-in (drop (past-line work at) front)) ≡ replay (stored (between store first old)) (lines-in (between lines store old))
-  line-first =
-      let e : lines-in (drop at front) ≡ line-at work at ∷ lines-in (drop (past-line work at) front) = lines-next front at (omega (arith, front-length)) ∙ rw (same-line, same-header) refl in
-      ap (replay (stored (between store end work))) (sym e) ∙ i .same
+  line-first = ap (replay (stored (between store end work))) (sym next-line) ∙ i .same
 
-  pub replaying-step : (new : List ℤ) (r : Replayed) (k past : ℕ) → length new ≡ length work → take store new ≡ take store work → past ≡ past-line work at → r ≡ Replayed.Standing k
-      → Replays (replay-line (stored (between store end work)) (line-at work at)) store (end + (size-at work at + 2)) r new → Replaying old new lines store first k past
-  replaying-step new r k past n t d e x =
-      let q : Replays (replay-line (stored (between store end work)) (line-at work at)) store (end + (size-at work at + 2)) (Replayed.Standing k) new = rw e at x in
+  pub replaying-step : (new : List ℤ) (table : List ℕ) (r : Replayed) (k past : ℕ) → length new ≡ length work → take store new ≡ take store work → past ≡ past-line work at → r ≡ Replayed.Standing k
+      → Replays (replay-line (stored (between store end work)) (line-at work at)) store (end + (size-at work at + 1)) r new → Linked-after r new table store links → Replaying old new table lines store first links k past
+  replaying-step new table r k past n t d e x y =
+      let q : Replays (replay-line (stored (between store end work)) (line-at work at)) store (end + (size-at work at + 1)) (Replayed.Standing k) new = rw e at x in
       rw d (record {
         begun = omega (arith, i .begun);
         inside = line-fits;
-        order = q .2 .order;
         small = omega (arith, q .2 .small, i .small);
+        room = omega (arith, q .2 .small, i .room, next-numbers);
         len = n ∙ i .len;
         kept = t ∙ i .kept;
         loaded = rw same-header at (next .1);
-        formed = q .2 .formed;
+        linked = let z : Linked-after (Replayed.Standing k) new table store links = rw e at y in z;
         same =
             ap (λ (f : Formula). replay f (lines-in (drop (past-line work at) front))) (q .2 .same)
             ∙ sym (replay-value (stored (between store end work)) (q .0) (line-at work at) (lines-in (drop (past-line work at) front)) (q .1))
             ∙ line-first;
       })
 
-  pub replaying-none : (new : List ℤ) (r : Replayed) → r ≡ Replayed.NoClause → Replays (replay-line (stored (between store end work)) (line-at work at)) store (end + (size-at work at + 2)) r new
+  pub replaying-none : (new : List ℤ) (r : Replayed) → r ≡ Replayed.NoClause → Replays (replay-line (stored (between store end work)) (line-at work at)) store (end + (size-at work at + 1)) r new
       → replay (stored (between store first old)) (lines-in (between lines store old)) ≡ fault 32
   replaying-none new r e x =
       let q : replay-line (stored (between store end work)) (line-at work at) ≡ fault 32 = rw e at x in
       sym line-first ∙ replay-fault (stored (between store end work)) (line-at work at) (lines-in (drop (past-line work at) front)) q
 
-pub replaying-end : (old work : List ℤ) (lines store first end at : ℕ) → Replaying old work lines store first end at → Replayable old lines store first → store ≤ at
+pub replaying-end : (old work : List ℤ) (heads : List ℕ) (lines store first links end at : ℕ) → Replaying old work heads lines store first links end at → Replayable old lines store first → store ≤ at
     → Replays (replay (stored (between store first old)) (lines-in (between lines store old))) store (first + (store - lines)) (Replayed.Standing end) work
 unfolding replay through
-replaying-end old work lines store first end at i p h =
+replaying-end old work heads lines store first links end at i p h =
     let e : lines-in (drop at (take store old)) ≡ [] = lines-end (take store old) at (omega (arith, length-take store old)) in
-    (stored (between store end work), sym (rw e at (i .same)), record { order = i .order; small = omega (arith, i .small, i .inside, p .before); formed = i .formed; same = refl })
+    (stored (between store end work), sym (rw e at (i .same)), record { order = i .linked .order; small = omega (arith, i .small, i .inside, p .before); formed = i .linked .formed; same = refl })
+
+-- ---- with an index: the links begin in the middle of the room behind the lines, and only what lies there is changed
+module _ (old : List ℤ) (lines store first links : ℕ) (p : Replayable old lines store first) (e : links ≡ store + (length old - store) / 2) where
+  -- what stands and what the lines add fit before the links, and as many links behind them
+  pub links-room : (first + numbers-in (lines-in (between lines store old)) ≤ links) × (links + (links - store) ≤ length old)
+  links-room = (omega (arith, e, p .links, p .behind), omega (arith, e, p .links, p .behind))
+
+  pub linkable : (heads : List ℕ) → heads ≡ replicate keys 0 → Linkable old heads store first links
+  linkable heads h = record { order = p .behind; within = omega (arith, links-room .0); room = links-room .1; none = h; formed = p .formed }
+
+  module _ (work : List ℤ) (n : length work ≡ length old) (k : take links work ≡ take links old) where
+    same-standing : between store first work ≡ between store first old
+    same-standing = kept-between store first links work old (omega (arith, links-room .0)) k
+
+    same-lines : between lines store work ≡ between lines store old
+    same-lines = kept-between lines store links work old (omega (arith, links-room .0, p .behind)) k
+
+    pub same-front : take store work ≡ take store old
+    same-front =
+        sym (take-take store links work (omega (arith, links-room .0, p .behind)))
+        ∙ ap (take store) k
+        ∙ take-take store links old (omega (arith, links-room .0, p .behind))
+
+    pub still-replayable : Replayable work lines store first
+    still-replayable = record {
+      before = p .before;
+      behind = p .behind;
+      room = omega (arith, p .room, n);
+      links = rw (same-lines, n) (p .links);
+      loaded = rw same-lines (p .loaded);
+      formed = rw same-standing (p .formed);
+    }
+
+    -- the lines still fit before the links
+    pub still-room : first + numbers-in (lines-in (between lines store work)) ≤ links
+    still-room = rw same-lines (links-room .0)
+
+    pub replays-so : (r : Replayed) (new : List ℤ) → Replays (replay (stored (between store first work)) (lines-in (between lines store work))) store (first + (store - lines)) r new
+        → Replays (replay (stored (between store first old)) (lines-in (between lines store old))) store (first + (store - lines)) r new
+    replays-so r new x = rw (same-standing, same-lines) at x

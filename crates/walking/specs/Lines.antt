@@ -1,16 +1,16 @@
--- Log lines in a lent slice: a line is its header, its literals and its size once more. The header n of n literals is an addition, -1 - n a deletion;
--- the last element is a header of as many literals, so that the lines can be walked from either end.
+-- Log lines in a lent slice, as they are loaded (proof_log's line-entry): the lines that a list holds, and the line at a place.
 use mathlib.Core.Path.{_≡_, refl}
 use mathlib.Core.Bool.{Bool, _||_}
 use mathlib.Core.List.{List, [], _∷_, _++_}
 use Prim.Native.Nat.{ℕ, zero, suc, _+_}
 use lib.IntN.{ℤ, pos, negsuc}
-use lib.ListN.{length, take}
+use lib.ListN.{take}
 use Rattle.definition.specs.Literals.{Clause}
 use Rattle.definition.specs.Standing.{Line, addition, deletion}
 use Rattle.definition.specs.Assignments.{Assignment, has-true}
-use Rattle.literals.specs.Literal.{header-of, flip, header-literals}
+use Rattle.literals.specs.Literal.{header-literals}
 use Rattle.clauses.specs.Store.{header-at, size-at, deleted-at, clause-at}
+use Rattle.proof_log.specs.Loading.{line-entry}
 
 -- the line of a header and its literals
 abbrev pub line-of : ℤ → Clause → Line
@@ -37,11 +37,6 @@ lines-from (suc k) (x ∷ s) = lines-from k s
 -- the lines of a list
 abbrev pub lines-in : List ℤ → List Line
 lines-in s = lines-from 0 s
-
--- a line as it stands in a list
-abbrev pub line-entry : Line → List ℤ
-line-entry (addition c) = header-of (length c) ∷ (c ++ (header-of (length c) ∷ []))
-line-entry (deletion c) = flip (header-of (length c)) ∷ (c ++ (header-of (length c) ∷ []))
 
 -- ---- the line at a place
 

@@ -1,13 +1,13 @@
 -- What a replay wants and answers, beside the definition's outcome.
 use mathlib.Core.Path.{_≡_}
-use mathlib.Core.List.{List}
+use mathlib.Core.List.{List, _++_}
 use Prim.Native.Nat.{ℕ, _+_, _-_, _*_, _≤_}
 use lib.IntN.{ℤ}
 use lib.ListN.{length, take, drop}
 use Rattle.definition.specs.Checked.{Checked, fault, value}
-use Rattle.definition.specs.Literals.{Formula}
+use Rattle.definition.specs.Literals.{Clause, Formula}
 use Rattle.definition.specs.LogReading.{numbers-in}
-use Rattle.clauses.specs.Store.{Formed, stored}
+use Rattle.clauses.specs.Store.{Formed, stored, entry}
 use Rattle.walking.specs.Lines.{Loaded, lines-in}
 use Rattle.walking.specs.declared.Replayed.{Replayed}
 use Rattle.walking.specs.declared.Replayed.the-variants as Replayed
@@ -31,6 +31,12 @@ pub record Stands (f : Formula) (store bound end : ℕ) (work : List ℤ) : Type
   pub small : end ≤ bound
   pub formed : Formed (between store end work)
   pub same : stored (between store end work) ≡ f
+
+-- a clause added behind what stands
+pub record Clause-added (old : List ℤ) (store end : ℕ) (c : Clause) (r : ℕ) (new : List ℤ) : Type 0 where
+  pub next : r ≡ end + (length c + 1)
+  pub filled : between store r new ≡ between store end old ++ entry c
+  pub kept : take store new ≡ take store old
 
 -- a deletion without its clause, or what stands
 abbrev pub Replays : Checked Formula → ℕ → ℕ → Replayed → List ℤ → Type 0

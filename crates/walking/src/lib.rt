@@ -1,16 +1,21 @@
 // Walking back over a log: an assignment tested against what stands, carried back over loaded lines, and the lines replayed.
 ghost use mathlib.Core.Path.{_≡_};
-ghost use Prim.Native.Nat.{_+_, _-_, _≤_, _<_, _^_};
-ghost use lib.ListN.{length, take, drop};
+ghost use mathlib.Core.Bool.{cond};
+ghost use Prim.Native.Nat.{_+_, _-_, _≤_, _<_, _^_, min, max};
+ghost use lib.ListN.{length, getD, set, take, drop};
 ghost use lib.Seq.{sets};
 ghost use Rattle.definition.specs.Literals.{highest};
 ghost use Rattle.definition.specs.Standing.{deletion, literals as literals-of-line, highest-in, replay-line, replay as replay-all};
+ghost use Rattle.definition.specs.LogReading.{numbers-in};
 ghost use Rattle.definition.specs.Assignments.{satisfies, repaired, carried, carried-back};
 ghost use Rattle.definition.specs.Calls.{carry-answer};
 ghost use Rattle.answers.specs.Table.{marked};
-ghost use Rattle.clauses.specs.Store.{Formed, stored, entry, size-at};
+ghost use Rattle.clauses.specs.Store.{Formed, stored, entry, size-at, begins-with, place-of};
 ghost use Rattle.walking.specs.Lines.{holds-at, Loaded, lines-in, line-at, past-line, Last-line};
-ghost use Rattle.walking.specs.Replayed.{between, Replayable, Replays};
+ghost use Rattle.clauses.specs.declared.Found.the-variants.{At};
+ghost use Rattle.literals.specs.Literal.{header-of};
+ghost use Rattle.walking.specs.Index.{keys, lowest-index, greatest-index, key-of, key-at, Indexed, Linkable, Linked, Linked-after};
+ghost use Rattle.walking.specs.Replayed.{between, Replayable, Clause-added, Replays};
 ghost use Rattle.walking.specs.Carried.{input, tested-text, Carries};
 
 // ---- testing an assignment
@@ -94,6 +99,159 @@ pub fn carry_back(marks: &mut [u8], lines: &[i32])
     }
 }
 
+// ---- an index of the clauses by key: a table of the last entry of each key, and a link from each entry to the one before it with the same key
+
+// The lower of two numbers.
+fn lower(a: usize, b: usize) -> usize
+    ensures { λ r. ⌜ r ≡ min a b ⌝ }
+{
+    if b < a { b } else { a }
+}
+
+// The higher of two numbers.
+fn higher(a: usize, b: usize) -> usize
+    ensures { λ r. ⌜ r ≡ max a b ⌝ }
+{
+    if a < b { b } else { a }
+}
+
+// The lowest index of a clause's literals, no more than 140,001.
+fn lowest(clause: &[i32]) -> usize
+    ensures { λ r. ⌜ r ≡ lowest-index (now (clause .entry)) ⌝ }
+{
+    let mut low = 140001;
+    let mut i = 0;
+    while i < clause.len() {
+        low = lower(low, literals::literal_index(clause[i]));
+        i += 1;
+    }
+    low
+}
+
+// The greatest index of a clause's literals, counted up to 140,001.
+fn greatest(clause: &[i32]) -> usize
+    ensures { λ r. ⌜ r ≡ greatest-index (now (clause .entry)) ⌝ }
+{
+    let mut top = 0;
+    let mut i = 0;
+    while i < clause.len() {
+        top = higher(top, lower(140001, literals::literal_index(clause[i])));
+        i += 1;
+    }
+    top
+}
+
+// The key of a clause, from both ends, so that clauses with one literal in common mostly differ.
+fn key_of(clause: &[i32]) -> usize
+    ensures { λ r. ⌜ r ≡ key-of (now (clause .entry)) ⌝ }
+{
+    let low = lowest(clause);
+    let top = greatest(clause);
+    (613 * low + top) % 140002
+}
+
+// The key of the clause at a place.
+fn key_at(store: &[i32], at: usize) -> usize
+    requires { ⌜ (at < length (now store)) × Formed (drop at (now store)) ⌝ }
+    ensures { λ r. ⌜ r ≡ key-at (now (store .entry)) at ⌝ }
+{
+    let next = clauses::next_at(store, at);
+    let first = at + 1;
+    key_of(&store[first..next])
+}
+
+// Makes the entry at a place the last one of a key.
+fn link_entry(work: &mut [i32], heads: &mut [usize], links: usize, at: usize, key: usize)
+    requires { ⌜ (links + at < length (now work)) × (key < length (now heads)) ⌝ }
+    ensures linked { λ _. ⌜ now (work .exit) ≡ set (now (work .entry)) (links + at) (header-of (getD (now (heads .entry)) key 0)) ⌝ }
+    ensures newest { λ _. ⌜ now (heads .exit) ≡ set (now (heads .entry)) key (at + 1) ⌝ }
+{
+    work[links + at] = literals::header(heads[key]);
+    heads[key] = at + 1;
+}
+
+// Enters the clause at a place of a store in the index.
+fn index_entry(
+    work: &mut [i32],
+    heads: &mut [usize],
+    store: usize,
+    end: usize,
+    links: usize,
+    at: usize,
+)
+    requires { ⌜ (store + at < end) × (end ≤ links) × (links + at < length (now work)) × (length (now heads) ≡ keys) × Formed (drop at (between store end (now work))) ⌝ }
+    ensures linked { λ _. ⌜ now (work .exit) ≡ set (now (work .entry)) (links + at) (header-of (getD (now (heads .entry)) (key-at (between store end (now (work .entry))) at) 0)) ⌝ }
+    ensures newest { λ _. ⌜ now (heads .exit) ≡ set (now (heads .entry)) (key-at (between store end (now (work .entry))) at) (at + 1) ⌝ }
+{
+    let key = key_at(&work[store..end], at);
+    link_entry(work, heads, links, at, key);
+}
+
+// Enters the clauses of a store in an empty index.
+fn index_all(work: &mut [i32], heads: &mut [usize], store: usize, end: usize, links: usize)
+    requires { ⌜ Linkable (now work) (now heads) store end links ⌝ }
+    ensures linked { λ _. ⌜ Linked (now (work .exit)) (now (heads .exit)) store end links ⌝ }
+    ensures kept { λ _. ⌜ take links (now (work .exit)) ≡ take links (now (work .entry)) ⌝ }
+{
+    let n = end - store;
+    let mut at = 0;
+    while at < n {
+        index_entry(work, heads, store, end, links, at);
+        at = clauses::next_at(&work[store..end], at);
+    }
+}
+
+// The clause at a place if it stands and has the same set of literals, else the best match so far.
+fn better(store: &[i32], at: usize, clause: &[i32], best: clauses::Found) -> clauses::Found
+    requires { ⌜ (at < length (now store)) × Formed (drop at (now store)) ⌝ }
+    ensures { λ r. ⌜ r ≡ cond (begins-with (now (clause .entry)) (drop at (now (store .entry)))) (At at) best ⌝ }
+{
+    if literals::is_negative(store[at]) {
+        return best;
+    }
+    let next = clauses::next_at(store, at);
+    let first = at + 1;
+    if clauses::same_set(clause, &store[first..next]) {
+        return clauses::Found::At(at);
+    }
+    best
+}
+
+// The place of the first standing clause with the same set of literals, by the links of its key.
+fn find_linked(store: &[i32], links: &[i32], heads: &[usize], clause: &[i32]) -> clauses::Found
+    requires { ⌜ Formed (now store) × (length (now store) ≤ length (now links)) × (length (now heads) ≡ keys) × Indexed (now store) (length (now store)) (now links) (now heads) ⌝ }
+    ensures { λ r. ⌜ r ≡ place-of (now (clause .entry)) (now (store .entry)) ⌝ }
+{
+    let mut best = clauses::Found::Nothing;
+    let mut p = heads[key_of(clause)];
+    while 0 < p {
+        let at = p - 1;
+        best = better(store, at, clause, best);
+        p = literals::header_length(links[at]);
+    }
+    best
+}
+
+// The place of the first standing clause with the literals of the n elements from first on; without the index where links may not fit.
+fn find_clause(
+    work: &[i32],
+    heads: &[usize],
+    store: usize,
+    end: usize,
+    links: usize,
+    first: usize,
+    n: usize,
+) -> clauses::Found
+    requires { ⌜ (first + n ≤ store) × Linked (now work) (now heads) store end links ⌝ }
+    ensures { λ r. ⌜ r ≡ place-of (take n (drop first (now (work .entry)))) (between store end (now (work .entry))) ⌝ }
+{
+    let next = first + n;
+    if 2147483647 < links - store {
+        return clauses::find_same_set(&work[store..end], &work[first..next]);
+    }
+    find_linked(&work[store..end], &work[links..], heads, &work[first..next])
+}
+
 // ---- replaying the lines
 
 // The outcome of a replay: the place past what stands, or a deletion without its clause.
@@ -126,14 +284,41 @@ fn append_part(work: &mut [i32], end: usize, first: usize, n: usize) -> usize
     end + (n + 1)
 }
 
+// Adds the clause of n literals from first on to what stands between two places, and to the index.
+fn add_part(
+    work: &mut [i32],
+    heads: &mut [usize],
+    store: usize,
+    end: usize,
+    links: usize,
+    first: usize,
+    n: usize,
+) -> usize
+    requires { ⌜ (first + n ≤ store) × (end + (n + 1) ≤ links) × (n < 2 ^ 31) × Linked (now work) (now heads) store end links ⌝ }
+    ensures added { λ r. ⌜ Clause-added (now (work .entry)) store end (take n (drop first (now (work .entry)))) r (now (work .exit)) ⌝ }
+    ensures linked { λ r. ⌜ Linked (now (work .exit)) (now (heads .exit)) store r links ⌝ }
+{
+    let next = append_part(work, end, first, n);
+    index_entry(work, heads, store, next, links, end - store);
+    next
+}
+
 // Deletes the clause of n literals from first on from what stands between two places.
-fn delete_part(work: &mut [i32], store: usize, end: usize, first: usize, n: usize) -> Replayed
-    requires { ⌜ (first + n ≤ store) × (store ≤ end) × (end ≤ length (now work)) × Formed (between store end (now work)) ⌝ }
+fn delete_part(
+    work: &mut [i32],
+    heads: &[usize],
+    store: usize,
+    end: usize,
+    links: usize,
+    first: usize,
+    n: usize,
+) -> Replayed
+    requires { ⌜ (first + n ≤ store) × Linked (now work) (now heads) store end links ⌝ }
     ensures result { λ r. ⌜ Replays (replay-line (stored (between store end (now (work .entry)))) (deletion (take n (drop first (now (work .entry)))))) store end r (now (work .exit)) ⌝ }
     ensures kept { λ _. ⌜ take store (now (work .exit)) ≡ take store (now (work .entry)) ⌝ }
+    ensures linked { λ r. ⌜ Linked-after r (now (work .exit)) (now (heads .entry)) store links ⌝ }
 {
-    let next = first + n;
-    match clauses::find_same_set(&work[store..end], &work[first..next]) {
+    match find_clause(work, heads, store, end, links, first, n) {
         clauses::Found::At(at) => {
             clauses::mark_deleted(work, store + at);
             Replayed::Standing(end)
@@ -143,22 +328,37 @@ fn delete_part(work: &mut [i32], store: usize, end: usize, first: usize, n: usiz
 }
 
 // Replays the line at a place over what stands between two places.
-fn replay_line(work: &mut [i32], at: usize, store: usize, end: usize) -> Replayed
-    requires { ⌜ (past-line (now work) at ≤ store) × (store ≤ end) × (end + (size-at (now work) at + 2) ≤ length (now work)) × Formed (between store end (now work)) ⌝ }
-    ensures result { λ r. ⌜ Replays (replay-line (stored (between store end (now (work .entry)))) (line-at (now (work .entry)) at)) store (end + (size-at (now (work .entry)) at + 2)) r (now (work .exit)) ⌝ }
+fn replay_line(
+    work: &mut [i32],
+    heads: &mut [usize],
+    at: usize,
+    store: usize,
+    end: usize,
+    links: usize,
+) -> Replayed
+    requires { ⌜ (past-line (now work) at ≤ store) × (end + (size-at (now work) at + 1) ≤ links) × Linked (now work) (now heads) store end links ⌝ }
+    ensures result { λ r. ⌜ Replays (replay-line (stored (between store end (now (work .entry)))) (line-at (now (work .entry)) at)) store (end + (size-at (now (work .entry)) at + 1)) r (now (work .exit)) ⌝ }
     ensures kept { λ _. ⌜ take store (now (work .exit)) ≡ take store (now (work .entry)) ⌝ }
+    ensures linked { λ r. ⌜ Linked-after r (now (work .exit)) (now (heads .exit)) store links ⌝ }
 {
     let n = literals::header_length(work[at]);
     let first = at + 1;
     if literals::is_negative(work[at]) {
-        return delete_part(work, store, end, first, n);
+        return delete_part(work, heads, store, end, links, first, n);
     }
-    Replayed::Standing(append_part(work, end, first, n))
+    Replayed::Standing(add_part(work, heads, store, end, links, first, n))
 }
 
-// Replays the lines at lines..store over what stands at store..end.
-pub fn replay(work: &mut [i32], lines: usize, store: usize, end: usize) -> Replayed
-    requires { ⌜ Replayable (now work) lines store end ⌝ }
+// Replays the lines at lines..store over what stands at store..end, with its index.
+fn replay_lines(
+    work: &mut [i32],
+    heads: &mut [usize],
+    lines: usize,
+    store: usize,
+    end: usize,
+    links: usize,
+) -> Replayed
+    requires { ⌜ Replayable (now work) lines store end × (end + numbers-in (lines-in (between lines store (now work))) ≤ links) × Linked (now work) (now heads) store end links ⌝ }
     ensures result { λ r. ⌜ Replays (replay-all (stored (between store end (now (work .entry)))) (lines-in (between lines store (now (work .entry))))) store (end + (store - lines)) r (now (work .exit)) ⌝ }
     ensures kept { λ _. ⌜ take store (now (work .exit)) ≡ take store (now (work .entry)) ⌝ }
 {
@@ -166,7 +366,7 @@ pub fn replay(work: &mut [i32], lines: usize, store: usize, end: usize) -> Repla
     let mut at = lines;
     while at < store {
         let past = clauses::next_at(work, at) + 1;
-        match replay_line(work, at, store, filled) {
+        match replay_line(work, heads, at, store, filled, links) {
             Replayed::Standing(next) => {
                 filled = next;
                 at = past;
@@ -177,6 +377,18 @@ pub fn replay(work: &mut [i32], lines: usize, store: usize, end: usize) -> Repla
         }
     }
     Replayed::Standing(filled)
+}
+
+// Replays the lines at lines..store over what stands at store..end; the links of the index begin in the middle of the room behind the lines.
+pub fn replay(work: &mut [i32], lines: usize, store: usize, end: usize) -> Replayed
+    requires { ⌜ Replayable (now work) lines store end ⌝ }
+    ensures result { λ r. ⌜ Replays (replay-all (stored (between store end (now (work .entry)))) (lines-in (between lines store (now (work .entry))))) store (end + (store - lines)) r (now (work .exit)) ⌝ }
+    ensures kept { λ _. ⌜ take store (now (work .exit)) ≡ take store (now (work .entry)) ⌝ }
+{
+    let mut heads = [0usize; 140002];
+    let links = store + (work.len() - store) / 2;
+    index_all(work, &mut heads, store, end, links);
+    replay_lines(work, &mut heads, lines, store, end, links)
 }
 
 // ---- an answer carried back

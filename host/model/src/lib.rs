@@ -16,6 +16,7 @@ pub mod order;
 pub mod reading;
 pub mod standing;
 pub mod texts;
+pub mod valleys;
 pub mod walk_back;
 
 pub use walk_back::walk_back;

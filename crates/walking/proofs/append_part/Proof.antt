@@ -11,44 +11,31 @@ use Rattle.walking.proofs.Copying.{entry-written}
 use borrow.Author.Needs.{needs}
 use Rattle.walking.proofs.append_part.Statement.{statement}
 use Rattle.walking.proofs.append_part.Tie as tie
-use Rattle.walking.proofs.append_part.Reads as reads
-use Rattle.walking.proofs.append_part.Lts as lts
-use Rattle.literals.proofs.header.Reads as header-reads
-use Rattle.walking.proofs.copy_up.Reads as copy-up-reads
 
--- src/lib.rt:124:19
 add-copy-up : tie.Need-add-copy-up
 add-copy-up c = search needs
 
--- src/lib.rt:124:5
 copy-up-requires : tie.Need-copy-up-requires
 copy-up-requires c κs = search needs
 
--- src/lib.rt:125:17
 header-requires : tie.Need-header-requires
 header-requires c κs = search needs
 
--- src/lib.rt:125:5
 mul-t8 : tie.Need-mul-t8
 mul-t8 c = search needs
 
--- src/lib.rt:125:5
 slice-set-from-work : tie.Need-slice-set-from-work
 slice-set-from-work c = search needs
 
--- src/lib.rt:126:12
 add-result : tie.Need-add-result
 add-result c = search needs
 
--- src/lib.rt:126:5
 add-result-2 : tie.Need-add-result-2
 add-result-2 c = search needs
 
--- src/lib.rt:119:1
 same-length : tie.Need-same-length
 same-length c = search needs
 
--- src/lib.rt:119:1
 returns : tie.Need-returns
 returns c = let w = now (c .before .before .before .before .args .work) in
     (refl, entry-written w _ (c .before .before .before .before .args .end) (c .before .before .before .before .args .n) (take (c .before .before .before .before .args .n) (drop (c .before .before .before .before .args .first) w)) _ (length-take-le (c .before .before .before .before .args .n) (drop (c .before .before .before .before .args .first) w) (omega (arith, c .before .before .before .before .pre .0, c .before .before .before .before .pre .1, length-drop (c .before .before .before .before .args .first) w))) (c .before .before .copy-up .ensures) (at-arg (λ (z : ℤ). z) (c .header .result) (sfits-of (c .header .ok)) ∙ c .header .ensures))

@@ -1,17 +1,14 @@
 use borrow.Author.Needs.{needs}
 use borrow.Author.Needs.{needs, sfits-of}
 use native.Mathlib.Omega.{arith}
-use mathlib.Core.Path.{_≡_}
 use Prim.Native.Nat.{_+_, _-_}
 use lib.IntN.{ℤ, pos}
-use lib.ListN.{getD, length}
+use lib.ListN.{getD}
 use denote.Ref.{now}
 use Rattle.literals.proofs.Laws.{at-arg}
 use Rattle.walking.proofs.Copying.{Copying, copying-start, copying-step, copying-end}
 use Rattle.walking.proofs.copy_up.Statement.{statement}
 use Rattle.walking.proofs.copy_up.Tie as tie
-use Rattle.walking.proofs.copy_up.Reads as reads
-use Rattle.walking.proofs.copy_up.Lts as lts
 
 abbrev Inv-loop : tie.InvT-loop
 Inv-loop work₀ to from n i₀ work i = Copying work₀ to from n work i
@@ -19,51 +16,39 @@ Inv-loop work₀ to from n i₀ work i = Copying work₀ to from n work i
 abbrev μ-loop : tie.MeasureT-loop
 μ-loop work₀ to from n i₀ work i = n - i
 
--- src/lib.rt:111:5
 loop-holds : tie.Need-loop-holds Inv-loop μ-loop
 loop-holds c = copying-start (now (c .args .work)) (c .args .to) (c .args .from) (c .args .n)
 
--- src/lib.rt:112:22
 add-x : tie.Need-add-x Inv-loop μ-loop
 add-x c = search needs
 
--- src/lib.rt:112:17
 mul-x : tie.Need-mul-x Inv-loop μ-loop
 mul-x c = search needs
 
--- src/lib.rt:112:17
 slice-copy-out-x : tie.Need-slice-copy-out-x Inv-loop μ-loop
 slice-copy-out-x c = omega (arith, c .before .loop .inv .size, c .before .before .pre .0, c .before .before .pre .1)
 
--- src/lib.rt:113:14
 add-x-2 : tie.Need-add-x-2 Inv-loop μ-loop
 add-x-2 c = search needs
 
--- src/lib.rt:113:9
 mul-x-2 : tie.Need-mul-x-2 Inv-loop μ-loop
 mul-x-2 c = search needs
 
--- src/lib.rt:113:9
 slice-set-from-x : tie.Need-slice-set-from-x Inv-loop μ-loop
 slice-set-from-x c = omega (arith, c .before .before .loop .inv .size, c .before .before .before .pre .0, c .before .before .before .pre .1)
 
--- src/lib.rt:114:9
 add-i : tie.Need-add-i Inv-loop μ-loop
 add-i c = search needs
 
--- src/lib.rt:111:5
 loop-less : tie.Need-loop-less Inv-loop μ-loop
 loop-less c = search needs
 
--- src/lib.rt:111:5
 loop-again : tie.Need-loop-again Inv-loop μ-loop
 loop-again c = copying-step (c .before .before .loop .inv) (c .before .loop-test .taken) (c .before .before .before .pre .0) (omega (arith, c .before .before .before .pre .1)) (at-arg (λ (z : ℤ). z) (getD (c .before .before .loop .work) (c .before .before .before .args .from + c .before .before .loop .i) (pos 0)) (sfits-of (c .x .given)))
 
--- src/lib.rt:106:1
 same-length : tie.Need-same-length Inv-loop μ-loop
 same-length c = c .before .loop .inv .size
 
--- src/lib.rt:106:1
 returns : tie.Need-returns Inv-loop μ-loop
 returns c = copying-end (c .before .loop .inv) (c .loop-test .left) (omega (arith, c .before .before .pre .0, c .before .before .pre .1))
 

@@ -1,0 +1,5 @@
+pub mod Taking
+pub mod Turns
+pub mod Counting
+pub mod Phases
+pub mod Call

@@ -1,0 +1,251 @@
+//! The calls with buffers of their own: made by the size of the texts, and larger until they fit.
+
+use crate::calls::{self, Counts, Form, Tally, Wish};
+use crate::refusals::Refusal;
+use std::alloc::{alloc_zeroed, Layout};
+use std::fmt;
+
+/// Why a call with its own buffers gives no result.
+#[derive(Debug, Clone, Copy, PartialEq, Eq)]
+pub enum Error {
+    Refused(Refusal),
+    /// The system has no memory for a buffer of so many bytes.
+    NoMemory(usize),
+}
+
+impl fmt::Display for Error {
+    fn fmt(&self, to: &mut fmt::Formatter) -> fmt::Result {
+        match self {
+            Error::Refused(refusal) => refusal.fmt(to),
+            Error::NoMemory(bytes) => write!(to, "no memory for a buffer of {bytes} bytes"),
+        }
+    }
+}
+
+impl std::error::Error for Error {}
+
+/// Exact sizes of a reencoding's buffers; those left open are made large enough.
+#[derive(Debug, Clone, Copy, Default, PartialEq, Eq)]
+pub struct ReencodeRoom {
+    /// 32-bit entries.
+    pub work: Option<usize>,
+    /// Bytes.
+    pub log: Option<usize>,
+    /// Bytes.
+    pub formula: Option<usize>,
+}
+
+/// Exact sizes of a walk-back's buffers; those left open are made large enough.
+#[derive(Debug, Clone, Copy, Default, PartialEq, Eq)]
+pub struct WalkBackRoom {
+    /// 32-bit entries.
+    pub work: Option<usize>,
+    /// Bytes.
+    pub line: Option<usize>,
+}
+
+#[derive(Debug, Clone, PartialEq, Eq)]
+pub struct Reencoded {
+    pub tally: Tally,
+    pub log: Vec<u8>,
+    pub formula: Vec<u8>,
+}
+
+/// Clauses as `read_back` leaves them.
+#[derive(Debug, Clone, PartialEq, Eq)]
+pub struct ReadBack {
+    pub counts: Counts,
+    store: Vec<i32>,
+}
+
+impl ReadBack {
+    /// The clauses in order, each a part of the store.
+    pub fn clauses(&self) -> impl Iterator<Item = &[i32]> {
+        let mut rest = self.store.as_slice();
+        (0..self.counts.clauses).map(move |_| {
+            let (clause, after) = rest[1..].split_at(rest[0] as usize);
+            rest = after;
+            clause
+        })
+    }
+}
+
+/// Gives a formula's log and new formula.
+///
+/// Refuses with 1 to 9; with 11, 12 and 13 only where the room for it is set.
+///
+/// ```
+/// use sirgholyn::{reencode, Form, ReencodeRoom, Wish};
+/// let text = b"p cnf 3 2\n1 2 0\n-1 3 0\n";
+/// let new = reencode(text, Form::Counter, Wish::None, ReencodeRoom::default()).unwrap();
+/// assert_eq!(new.log, b"2 3 0\nd 1 2 0\nd -1 3 0\nd 2 3 0\n");
+/// assert_eq!(new.formula, b"p cnf 3 0\n");
+/// ```
+pub fn reencode(
+    text: &[u8],
+    form: Form,
+    wish: Wish,
+    room: ReencodeRoom,
+) -> Result<Reencoded, Error> {
+    let mut work = Buffer::new(
+        room.work,
+        20 * words(text).min(60_000) + 2 * 20_000 + 6 * 8_000 + 8_192,
+    )?;
+    let guess = text.len().min(1 << 20);
+    let mut log = Buffer::new(room.log, guess * 16 + (1 << 20))?;
+    let mut formula = Buffer::new(room.formula, guess * 4 + (1 << 18))?;
+    loop {
+        let outcome = calls::reencode(
+            text,
+            form,
+            wish,
+            &mut work.entries,
+            &mut log.entries,
+            &mut formula.entries,
+        );
+        match outcome {
+            Ok(tally) => {
+                let log = log.into_first(tally.log_bytes);
+                let formula = formula.into_first(tally.formula_bytes);
+                return Ok(Reencoded {
+                    tally,
+                    log,
+                    formula,
+                });
+            }
+            Err(11) if work.grow()? => {}
+            Err(12) if log.grow()? => {}
+            Err(13) if formula.grow()? => {}
+            Err(number) => return Err(Error::Refused(Refusal(number))),
+        }
+    }
+}
+
+/// Carries a solver's answer back over the first `kept` lines of a log, to a line for the formula.
+///
+/// Refuses with 1 to 9, 31 to 34, 41 to 44; with 11 and 14 only where the room for it is set.
+///
+/// ```
+/// use sirgholyn::{walk_back, WalkBackRoom};
+/// let formula = b"p cnf 3 2\n1 2 0\n-1 3 0\n";
+/// let log = b"2 3 0\nd 1 2 0\nd -1 3 0\nd 2 3 0\n";
+/// let line = walk_back(formula, log, 4, b"s SATISFIABLE\nv 0\n", WalkBackRoom::default());
+/// assert_eq!(line.unwrap(), b"v -1 2 -3 0\n");
+/// ```
+pub fn walk_back(
+    formula: &[u8],
+    log: &[u8],
+    kept: usize,
+    answer: &[u8],
+    room: WalkBackRoom,
+) -> Result<Vec<u8>, Error> {
+    let mut work = Buffer::new(
+        room.work,
+        4 * (words(formula) + words(log)) + 4 * 70_000 + 64,
+    )?;
+    let mut line = Buffer::new(room.line, 1 << 16)?;
+    loop {
+        match calls::walk_back(
+            formula,
+            log,
+            kept,
+            answer,
+            &mut work.entries,
+            &mut line.entries,
+        ) {
+            Ok(bytes) => return Ok(line.into_first(bytes)),
+            Err(11) if work.grow()? => {}
+            Err(14) if line.grow()? => {}
+            Err(number) => return Err(Error::Refused(Refusal(number))),
+        }
+    }
+}
+
+/// Reads a new formula back. Refuses with 1 to 9; with 11 only where `store` is set.
+///
+/// ```
+/// let new = sirgholyn::read_back(b"p cnf 3 2\n1 -2 0\n0\n", None).unwrap();
+/// assert_eq!(new.clauses().collect::<Vec<_>>(), [&[1, -2][..], &[]]);
+/// ```
+pub fn read_back(text: &[u8], store: Option<usize>) -> Result<ReadBack, Error> {
+    let mut store = Buffer::new(store, 20 * words(text).min(1_300_000) + 6 * 70_000 + 8_192)?;
+    loop {
+        match calls::read_back(text, &mut store.entries) {
+            Ok(counts) => {
+                let store = store.into_first((counts.clauses + counts.literals) as usize);
+                return Ok(ReadBack { counts, store });
+            }
+            Err(11) if store.grow()? => {}
+            Err(number) => return Err(Error::Refused(Refusal(number))),
+        }
+    }
+}
+
+/// The words of a text: at least as many as its numbers.
+fn words(text: &[u8]) -> usize {
+    let separator = |byte: u8| matches!(byte, b' ' | b'\t' | b'\r' | b'\n');
+    let mut count = 0;
+    let mut inside = false;
+    for &byte in text {
+        let word = !separator(byte);
+        count += usize::from(word && !inside);
+        inside = word;
+    }
+    count
+}
+
+/// No buffer grows beyond this; a call that wants more is refused.
+const MOST_BYTES: usize = 16 << 30;
+
+/// Entries lent to a call.
+struct Buffer<T> {
+    entries: Vec<T>,
+    exact: bool,
+}
+
+impl<T: Number> Buffer<T> {
+    fn new(exact: Option<usize>, guess: usize) -> Result<Self, Error> {
+        Ok(Buffer {
+            entries: zeroed(exact.unwrap_or(guess))?,
+            exact: exact.is_some(),
+        })
+    }
+
+    /// Takes four times the room, unless the size is exact or there is no more to have.
+    fn grow(&mut self) -> Result<bool, Error> {
+        let larger = self.entries.len() * 4;
+        if self.exact || larger * size_of::<T>() > MOST_BYTES {
+            return Ok(false);
+        }
+        self.entries = Vec::new();
+        self.entries = zeroed(larger)?;
+        Ok(true)
+    }
+
+    fn into_first(mut self, count: usize) -> Vec<T> {
+        self.entries.truncate(count);
+        self.entries
+    }
+}
+
+/// Numbers whose bytes may all be zero.
+trait Number: Copy {}
+impl Number for u8 {}
+impl Number for i32 {}
+
+/// Zeros. The system hands their memory out as they are first written, so a guess may be generous.
+fn zeroed<T: Number>(count: usize) -> Result<Vec<T>, Error> {
+    let none = Error::NoMemory(count.saturating_mul(size_of::<T>()));
+    let layout = Layout::array::<T>(count).map_err(|_| none)?;
+    if layout.size() == 0 {
+        return Ok(Vec::new());
+    }
+    // SAFETY: the layout is that of `count` numbers, is not empty, and zero bytes are numbers.
+    unsafe {
+        let start = alloc_zeroed(layout).cast::<T>();
+        if start.is_null() {
+            return Err(none);
+        }
+        Ok(Vec::from_raw_parts(start, count, count))
+    }
+}

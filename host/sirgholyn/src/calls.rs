@@ -1,0 +1,213 @@
+//! The proved library's C functions on lent slices: one call each, the refusal's number as it comes.
+
+use std::thread;
+
+#[derive(Debug, Clone, Copy, PartialEq, Eq)]
+pub enum Form {
+    Counter,
+    Order,
+}
+
+/// What the caller wishes for the order of the choices' literals.
+#[derive(Debug, Clone, Copy, PartialEq, Eq)]
+pub enum Wish {
+    None,
+    Alignment,
+}
+
+/// What a reencoding tells beside its two texts.
+#[derive(Debug, Clone, Copy, PartialEq, Eq)]
+pub struct Tally {
+    pub choices: u64,
+    /// H, the highest variable used.
+    pub highest: u64,
+    /// M, the standing clauses.
+    pub clauses: u64,
+    /// Log lines.
+    pub lines: u64,
+    pub log_bytes: usize,
+    pub formula_bytes: usize,
+}
+
+/// What reading back tells beside the clauses.
+#[derive(Debug, Clone, Copy, PartialEq, Eq)]
+pub struct Counts {
+    pub variables: u64,
+    pub clauses: u64,
+    pub literals: u64,
+}
+
+/// The C functions as they are: pointer and length for a slice; the tally takes as many numbers as fit.
+pub mod library {
+    extern "C" {
+        pub fn sirgholyn_reencode(
+            text: *const u8,
+            text_len: usize,
+            form: u32,
+            wish: u32,
+            work: *mut i32,
+            work_len: usize,
+            log: *mut u8,
+            log_len: usize,
+            formula: *mut u8,
+            formula_len: usize,
+            tally: *mut u64,
+            tally_len: usize,
+        ) -> u32;
+
+        pub fn sirgholyn_walk_back(
+            formula: *const u8,
+            formula_len: usize,
+            log: *const u8,
+            log_len: usize,
+            kept: usize,
+            answer: *const u8,
+            answer_len: usize,
+            work: *mut i32,
+            work_len: usize,
+            out: *mut u8,
+            out_len: usize,
+            tally: *mut u64,
+            tally_len: usize,
+        ) -> u32;
+
+        pub fn sirgholyn_read_back(
+            text: *const u8,
+            text_len: usize,
+            store: *mut i32,
+            store_len: usize,
+            tally: *mut u64,
+            tally_len: usize,
+        ) -> u32;
+    }
+}
+
+/// The library holds its tables on the stack, more than a small thread has, and does not ask whether
+/// they fit.
+const STACK_BYTES: usize = 32 << 20;
+
+/// Runs a call on a stack that is large enough for it.
+pub fn on_large_stack<R: Send>(call: impl FnOnce() -> R + Send) -> R {
+    thread::scope(|scope| {
+        thread::Builder::new()
+            .stack_size(STACK_BYTES)
+            .spawn_scoped(scope, call)
+            .expect("a thread can be started")
+            .join()
+            .expect("the call returns")
+    })
+}
+
+/// A result, or the number of a refusal.
+fn outcome<R>(number: u32, result: R) -> Result<R, u32> {
+    match number {
+        0 => Ok(result),
+        _ => Err(number),
+    }
+}
+
+/// Writes the log and the new formula of a text. Refuses with 1 to 9, 11, 12, 13.
+pub fn reencode(
+    text: &[u8],
+    form: Form,
+    wish: Wish,
+    work: &mut [i32],
+    log: &mut [u8],
+    formula: &mut [u8],
+) -> Result<Tally, u32> {
+    let form = match form {
+        Form::Counter => 0,
+        Form::Order => 1,
+    };
+    let wish = match wish {
+        Wish::None => 0,
+        Wish::Alignment => 1,
+    };
+    let mut tally = [0u64; 6];
+    let lent = &mut tally;
+    // SAFETY: each pointer and length are those of one slice, lent to the call alone while it runs.
+    let number = on_large_stack(move || unsafe {
+        library::sirgholyn_reencode(
+            text.as_ptr(),
+            text.len(),
+            form,
+            wish,
+            work.as_mut_ptr(),
+            work.len(),
+            log.as_mut_ptr(),
+            log.len(),
+            formula.as_mut_ptr(),
+            formula.len(),
+            lent.as_mut_ptr(),
+            lent.len(),
+        )
+    });
+    let [choices, highest, clauses, lines, log_bytes, formula_bytes] = tally;
+    let tally = Tally {
+        choices,
+        highest,
+        clauses,
+        lines,
+        log_bytes: log_bytes as usize,
+        formula_bytes: formula_bytes as usize,
+    };
+    outcome(number, tally)
+}
+
+/// Writes the walked-back line, and gives its length. Refuses with 1 to 9, 31 or 34, 41 to 43, 11,
+/// 32, 44, 33, 14.
+pub fn walk_back(
+    formula: &[u8],
+    log: &[u8],
+    kept: usize,
+    answer: &[u8],
+    work: &mut [i32],
+    line: &mut [u8],
+) -> Result<usize, u32> {
+    let mut tally = [0u64; 1];
+    let lent = &mut tally;
+    // SAFETY: as in `reencode`.
+    let number = on_large_stack(move || unsafe {
+        library::sirgholyn_walk_back(
+            formula.as_ptr(),
+            formula.len(),
+            log.as_ptr(),
+            log.len(),
+            kept,
+            answer.as_ptr(),
+            answer.len(),
+            work.as_mut_ptr(),
+            work.len(),
+            line.as_mut_ptr(),
+            line.len(),
+            lent.as_mut_ptr(),
+            lent.len(),
+        )
+    });
+    outcome(number, tally[0] as usize)
+}
+
+/// Puts the clauses of a new formula into the store, each as its length and its literals, from entry
+/// 0 on. Refuses with 1 to 9, then 11.
+pub fn read_back(text: &[u8], store: &mut [i32]) -> Result<Counts, u32> {
+    let mut tally = [0u64; 3];
+    let lent = &mut tally;
+    // SAFETY: as in `reencode`.
+    let number = on_large_stack(move || unsafe {
+        library::sirgholyn_read_back(
+            text.as_ptr(),
+            text.len(),
+            store.as_mut_ptr(),
+            store.len(),
+            lent.as_mut_ptr(),
+            lent.len(),
+        )
+    });
+    let [variables, clauses, literals] = tally;
+    let counts = Counts {
+        variables,
+        clauses,
+        literals,
+    };
+    outcome(number, counts)
+}

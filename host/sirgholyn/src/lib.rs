@@ -1,0 +1,15 @@
+//! Safe bindings to the proved library.
+//!
+//! [`reencode`], [`walk_back`] and [`read_back`] bring their own buffers; [`calls`] has the same calls
+//! on slices that the caller lends. [`plan`] tests a plan by plain code that is not part of the library.
+
+pub mod buffers;
+pub mod calls;
+pub mod plan;
+pub mod refusals;
+
+pub use buffers::{
+    read_back, reencode, walk_back, Error, ReadBack, ReencodeRoom, Reencoded, WalkBackRoom,
+};
+pub use calls::{Counts, Form, Tally, Wish};
+pub use refusals::Refusal;

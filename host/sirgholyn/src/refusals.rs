@@ -1,0 +1,57 @@
+//! The numbers of document 01: what each means and who can mend it.
+
+use std::fmt;
+
+#[derive(Debug, Clone, Copy, PartialEq, Eq)]
+pub struct Refusal(pub u32);
+
+impl Refusal {
+    pub fn meaning(self) -> &'static str {
+        match self.0 {
+            1 => "the formula has no header line `p cnf V C`",
+            2 => "the header's V or C is too large",
+            3 => "a word of the formula is not a number",
+            4 => "a literal's variable is above V",
+            5 => "a literal is repeated in its clause",
+            6 => "a literal's negation is already in its clause",
+            7 => "the formula's text ends inside a clause",
+            8 => "the formula does not have exactly C clauses",
+            9 => "the formula has too many literals",
+            11 => "the workspace is too short",
+            12 => "the log's buffer is too short",
+            13 => "the new formula's buffer is too short",
+            14 => "the answer's buffer is too short",
+            31 => "a kept line of the log is not in the layout of a DRAT line, repeats or opposes a literal, or has a variable above 70000",
+            32 => "the log deletes a clause that does not stand",
+            33 => "the walked-back assignment fails the formula",
+            34 => "the log has fewer lines than are to be kept",
+            41 => "the answer is not in the layout `s SATISFIABLE`, then `v ` lines that end in 0",
+            42 => "the answer names a variable above those of formula and log",
+            43 => "the answer names a variable twice",
+            44 => "a clause that stands is false under the answer",
+            _ => "a number that is not listed",
+        }
+    }
+
+    pub fn mender(self) -> &'static str {
+        match self.0 {
+            1..=9 => "the formula's writer",
+            11..=14 => "the caller",
+            31..=34 => "the log's writer",
+            41..=44 => "the solver",
+            _ => "nobody listed",
+        }
+    }
+}
+
+impl fmt::Display for Refusal {
+    fn fmt(&self, to: &mut fmt::Formatter) -> fmt::Result {
+        write!(
+            to,
+            "refused {}: {}; {} can mend it",
+            self.0,
+            self.meaning(),
+            self.mender()
+        )
+    }
+}

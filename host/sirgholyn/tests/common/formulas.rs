@@ -1,0 +1,257 @@
+//! Random formulas with choices of named sizes, joined by clashes, linked, and negated in many ways.
+
+use model::generator::{noise, planned, Random};
+use model::reading::Formula;
+use model::texts::formula_text;
+
+/// A formula of one of the kinds, by the seed.
+pub fn any_kind(random: &mut Random) -> Formula {
+    match random.below(1_000) {
+        0..=79 => {
+            let (variables, clauses) = (random.below(12), random.below(20));
+            noise(random, variables, clauses)
+        }
+        80..=799 => {
+            let (variables, clauses) = (random.below(15), random.between(2, 26));
+            planned(random, variables, clauses)
+        }
+        800..=986 => {
+            let sizes: Vec<usize> = (0..random.between(1, 4))
+                .map(|_| *random.one_of(&[4, 5, 5, 6, 9, 13]))
+                .collect();
+            with_choices(random, &sizes)
+        }
+        _ => {
+            let sizes: Vec<usize> = (0..random.between(1, 2))
+                .map(|_| *random.one_of(&[63, 64, 64, 65]))
+                .collect();
+            with_choices(random, &sizes)
+        }
+    }
+}
+
+/// Unique literal clauses that come to have the sizes when clashes are cleared.
+pub fn with_choices(random: &mut Random, sizes: &[usize]) -> Formula {
+    let mut fresh = Fresh::default();
+    let choices: Vec<Vec<i32>> = sizes
+        .iter()
+        .map(|&size| (0..size).map(|_| fresh.literal(random)).collect())
+        .collect();
+    let fillers: Vec<i32> = (0..random.below(6))
+        .map(|_| fresh.literal(random))
+        .collect();
+    let mut clauses = negated(random, &choices, &fillers);
+    link(random, &choices, &mut clauses);
+    for choice in choices {
+        clauses.extend(split(random, &mut fresh, choice));
+    }
+    if random.chance(80) {
+        random.shuffle(&mut clauses);
+    }
+    Formula {
+        variables: fresh.variables,
+        clauses,
+    }
+}
+
+#[derive(Default)]
+struct Fresh {
+    variables: i32,
+}
+
+impl Fresh {
+    fn literal(&mut self, random: &mut Random) -> i32 {
+        self.variables += 1;
+        if random.chance(30) {
+            -self.variables
+        } else {
+            self.variables
+        }
+    }
+}
+
+/// Clauses that clashes join to the choice: in a chain, or all with the first, sometimes twice.
+fn split(random: &mut Random, fresh: &mut Fresh, choice: Vec<i32>) -> Vec<Vec<i32>> {
+    if random.chance(50) {
+        return vec![choice];
+    }
+    let pieces = random.between(2, 4);
+    let mut parts: Vec<Vec<i32>> = vec![Vec::new(); pieces];
+    for literal in choice {
+        let part = random.below(pieces);
+        parts[part].push(literal);
+    }
+    let in_a_chain = random.chance(50);
+    for part in 1..pieces {
+        let other = if in_a_chain { part - 1 } else { 0 };
+        let times = if random.chance(10) { 2 } else { 1 };
+        for _ in 0..times {
+            let literal = fresh.literal(random);
+            parts[other].push(literal);
+            parts[part].push(-literal);
+        }
+    }
+    for part in &mut parts {
+        random.shuffle(part);
+    }
+    parts
+}
+
+/// Clauses with negated literals of the choices: every one stands, few in clauses of their own.
+fn negated(random: &mut Random, choices: &[Vec<i32>], fillers: &[i32]) -> Vec<Vec<i32>> {
+    let mut clauses = Vec::new();
+    let leave_out = random.chance(10);
+    for choice in choices {
+        for &literal in choice {
+            if leave_out && random.chance(5) {
+                continue;
+            }
+            for _ in 0..2 {
+                let mut clause = vec![-literal];
+                if !fillers.is_empty() {
+                    let filler = *random.one_of(fillers);
+                    clause.push(if random.chance(50) { filler } else { -filler });
+                }
+                random.shuffle(&mut clause);
+                clauses.push(clause);
+            }
+        }
+        for _ in 0..random.below(2 * choice.len()) {
+            clauses.push(some_of(random, choice, 2));
+            if random.chance(30) {
+                let mut copy = clauses[clauses.len() - 1].clone();
+                copy.reverse();
+                clauses.push(copy);
+            }
+        }
+        for _ in 0..random.below(4) {
+            let several = random.between(2, 5);
+            let mut clause = some_of(random, choice, several);
+            for &filler in fillers.iter().take(random.below(3)) {
+                clause.push(-filler);
+            }
+            random.shuffle(&mut clause);
+            clauses.push(clause);
+        }
+    }
+    clauses
+}
+
+/// A clause of the negations of different literals of a choice, often of neighbours.
+fn some_of(random: &mut Random, choice: &[i32], wanted: usize) -> Vec<i32> {
+    let mut clause: Vec<i32> = Vec::new();
+    let mut place = random.below(choice.len());
+    while clause.len() < wanted.min(choice.len()) {
+        if !clause.contains(&-choice[place]) {
+            clause.push(-choice[place]);
+        }
+        place = if random.chance(40) {
+            (place + 1) % choice.len()
+        } else {
+            random.below(choice.len())
+        };
+    }
+    clause
+}
+
+/// Pairs between choices: as lures would link them, each choice with its lures in an order of its own, or
+/// anyhow, which can seldom be aligned.
+fn link(random: &mut Random, choices: &[Vec<i32>], clauses: &mut Vec<Vec<i32>>) {
+    let by_lure = random.chance(70);
+    let lures: Vec<Vec<i32>> = choices
+        .iter()
+        .map(|choice| {
+            let mut lures = choice.clone();
+            random.shuffle(&mut lures);
+            lures
+        })
+        .collect();
+    for (index, one) in lures.iter().enumerate() {
+        for other in &lures[index + 1..] {
+            let shared = one.len().min(other.len());
+            for _ in 0..random.below(2 * shared) {
+                let lure = random.below(shared);
+                let other_lure = if by_lure {
+                    lure
+                } else {
+                    random.below(other.len())
+                };
+                let mut pair = vec![-one[lure], -other[other_lure]];
+                random.shuffle(&mut pair);
+                clauses.push(pair);
+            }
+        }
+    }
+}
+
+/// Values for 1..highest that satisfy the clauses, if a short search finds some.
+pub fn values_for(random: &mut Random, clauses: &[Vec<i32>], highest: usize) -> Vec<bool> {
+    let mut values: Vec<bool> = (0..=highest).map(|_| random.chance(50)).collect();
+    for _ in 0..(3 * highest).min(200) {
+        let is_true = |literal: &i32| values[literal.unsigned_abs() as usize] == (*literal > 0);
+        let failing: Vec<&Vec<i32>> = clauses
+            .iter()
+            .filter(|clause| !clause.iter().any(is_true))
+            .take(3)
+            .collect();
+        if failing.is_empty() {
+            break;
+        }
+        let clause = *random.one_of(&failing);
+        if clause.is_empty() {
+            break;
+        }
+        let literal = *random.one_of(clause);
+        values[literal.unsigned_abs() as usize] = literal > 0;
+    }
+    values
+}
+
+/// V 8,000, C 20,000 and L near 60,000: choices of the size, and clauses of two or three negated literals.
+pub fn largest_with(size: usize) -> Vec<u8> {
+    let mut random = Random::new(size as u64);
+    let mut clauses: Vec<Vec<i32>> = (1..=8_000)
+        .collect::<Vec<i32>>()
+        .chunks(size)
+        .map(<[i32]>::to_vec)
+        .collect();
+    let mut literals = 8_000;
+    while clauses.len() < 20_000 {
+        let wanted = if 60_000 - literals > 3 * (20_000 - clauses.len()) {
+            3
+        } else {
+            2
+        };
+        let mut clause: Vec<i32> = Vec::new();
+        while clause.len() < wanted {
+            let literal = -(random.between(1, 8_000) as i32);
+            if !clause.contains(&literal) {
+                clause.push(literal);
+            }
+        }
+        literals += wanted;
+        clauses.push(clause);
+    }
+    formula_text(8_000, &clauses)
+}
+
+/// Clauses that clash one after the other, each with two literals of its own, which stand negated twice.
+pub fn clash_chain(clashes: i32) -> Vec<u8> {
+    let own = clashes + 1;
+    let mut clauses: Vec<Vec<i32>> = Vec::new();
+    for link in 1..=own {
+        let mut clause = vec![clashes + 2 * link - 1, clashes + 2 * link];
+        if link > 1 {
+            clause.push(-(link - 1));
+        }
+        if link <= clashes {
+            clause.push(link);
+        }
+        clauses.push(clause);
+    }
+    for literal in clashes + 1..=clashes + 2 * own {
+        clauses.push(vec![-literal]);
+        clauses.push(vec![-literal]);
+    }
+    formula_text(clashes + 2 * own, &clauses)
+}

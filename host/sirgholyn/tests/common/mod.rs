@@ -1,0 +1,246 @@
+//! What the tests share: each call beside the model's, on buffers filled with a pattern first.
+#![allow(dead_code)]
+
+pub mod drat;
+pub mod formulas;
+pub mod solvers;
+
+use model::reading::Formula;
+use sirgholyn::{calls, Form, Wish};
+use std::collections::BTreeMap;
+use std::ops::Range;
+use std::thread;
+
+pub const WAYS: [(Form, Wish); 4] = [
+    (Form::Counter, Wish::None),
+    (Form::Counter, Wish::Alignment),
+    (Form::Order, Wish::None),
+    (Form::Order, Wish::Alignment),
+];
+
+/// More than any formula of the tests wants.
+pub const PLENTY: usize = 1 << 24;
+
+/// How often each outcome occurred; 0 is a result.
+pub type Numbers = BTreeMap<u32, usize>;
+
+pub fn count(numbers: &mut Numbers, outcome: u32) {
+    *numbers.entry(outcome).or_default() += 1;
+}
+
+pub fn in_model(form: Form, wish: Wish) -> (model::Form, model::Wish) {
+    let form = match form {
+        Form::Counter => model::Form::Counter,
+        Form::Order => model::Form::Order,
+    };
+    let wish = match wish {
+        Wish::None => model::Wish::None,
+        Wish::Alignment => model::Wish::Align,
+    };
+    (form, wish)
+}
+
+pub fn run_model(formula: &Formula, form: Form, wish: Wish) -> model::encoding::Encoding {
+    let (form, wish) = in_model(form, wish);
+    model::encoding::Encoding::run(formula, form, wish)
+}
+
+/// Sizes of a reencoding's buffers.
+#[derive(Debug, Clone, Copy)]
+pub struct Room {
+    pub work: usize,
+    pub log: usize,
+    pub formula: usize,
+}
+
+/// Reencodes by library and model, and compares number, tally and every byte; the answer is the number.
+pub fn compare_reencode(text: &[u8], form: Form, wish: Wish, room: Room) -> u32 {
+    let (model_form, model_wish) = in_model(form, wish);
+    let expected = model::reencode(
+        text,
+        model_form,
+        model_wish,
+        room.work as u64,
+        room.log,
+        room.formula,
+    );
+    let mut work = vec![-7; room.work];
+    let mut log = vec![0xA5; room.log];
+    let mut formula = vec![0x5A; room.formula];
+    let found = calls::reencode(text, form, wish, &mut work, &mut log, &mut formula);
+    let seen = || format!("{} {form:?} {wish:?} {room:?}", shown(text));
+    match (&expected, found) {
+        (Ok(expected), Ok(tally)) => {
+            let expected_tally = calls::Tally {
+                choices: expected.choices as u64,
+                highest: expected.highest as u64,
+                clauses: expected.clauses as u64,
+                lines: expected.lines as u64,
+                log_bytes: expected.log.len(),
+                formula_bytes: expected.formula.len(),
+            };
+            assert_eq!(tally, expected_tally, "{}", seen());
+            assert_written(&log, &expected.log, 0xA5, &seen);
+            assert_written(&formula, &expected.formula, 0x5A, &seen);
+            0
+        }
+        (Err(expected), Err(number)) => {
+            assert_eq!(u32::from(*expected), number, "{}", seen());
+            assert!(
+                log.iter().chain(&formula).all(|&byte| byte == 0),
+                "{}",
+                seen()
+            );
+            number
+        }
+        _ => panic!("{expected:?}, found {found:?}: {}", seen()),
+    }
+}
+
+/// Walks back by library and model, and compares number and every byte; the answer is the number.
+pub fn compare_walk_back(
+    formula: &[u8],
+    log: &[u8],
+    kept: usize,
+    answer: &[u8],
+    work: usize,
+    room: usize,
+) -> u32 {
+    let expected = model::walk_back(formula, log, kept, answer, work as u64, room);
+    let mut work = vec![-7; work];
+    let mut line = vec![0xA5; room];
+    let found = calls::walk_back(formula, log, kept, answer, &mut work, &mut line);
+    let seen = || {
+        format!(
+            "{}\n{}\nkept {kept}\n{}",
+            shown(formula),
+            shown(log),
+            shown(answer)
+        )
+    };
+    match (&expected, found) {
+        (Ok(expected), Ok(bytes)) => {
+            assert_eq!(bytes, expected.len(), "{}", seen());
+            assert_written(&line, expected, 0xA5, &seen);
+            0
+        }
+        (Err(expected), Err(number)) => {
+            assert_eq!(u32::from(*expected), number, "{}", seen());
+            assert!(line.iter().all(|&byte| byte == 0), "{}", seen());
+            number
+        }
+        _ => panic!("{expected:?}, found {found:?}: {}", seen()),
+    }
+}
+
+/// Reads back by library and model, and compares number, counts and every entry; the answer is the
+/// number.
+pub fn compare_read_back(text: &[u8], store: usize) -> u32 {
+    let expected = model::read_back(text, store as u64);
+    let mut store = vec![-7; store];
+    let found = calls::read_back(text, &mut store);
+    let seen = || shown(text);
+    match (&expected, found) {
+        (Ok((variables, clauses)), Ok(counts)) => {
+            let mut entries: Vec<i32> = Vec::new();
+            for clause in clauses {
+                entries.push(clause.len() as i32);
+                entries.extend(clause);
+            }
+            let expected_counts = calls::Counts {
+                variables: *variables as u64,
+                clauses: clauses.len() as u64,
+                literals: (entries.len() - clauses.len()) as u64,
+            };
+            assert_eq!(counts, expected_counts, "{}", seen());
+            assert_written(&store, &entries, -7, &seen);
+            0
+        }
+        (Err(expected), Err(number)) => {
+            assert_eq!(u32::from(*expected), number, "{}", seen());
+            assert!(store.iter().all(|&entry| entry == 0), "{}", seen());
+            number
+        }
+        _ => panic!("found {found:?}: {}", seen()),
+    }
+}
+
+/// What was written stands at the start, and the pattern after it.
+fn assert_written<T: Copy + PartialEq>(
+    buffer: &[T],
+    expected: &[T],
+    pattern: T,
+    seen: &dyn Fn() -> String,
+) {
+    let (written, rest) = buffer.split_at(expected.len());
+    assert!(written == expected, "other bytes: {}", seen());
+    assert!(
+        rest.iter().all(|&entry| entry == pattern),
+        "written past the end: {}",
+        seen()
+    );
+}
+
+fn shown(text: &[u8]) -> String {
+    let mut shown = String::from_utf8_lossy(text).into_owned();
+    if let Some((cut, _)) = shown.char_indices().nth(4_000) {
+        shown.truncate(cut);
+    }
+    format!("{shown:?}")
+}
+
+/// The workspace that reencoding and reading back ask for, and that a formula's text does.
+pub fn work_for(formula: &Formula) -> usize {
+    formula.workspace_needed() as usize
+}
+
+/// The workspace that walk-back asks for, for a formula and a log that are in order.
+pub fn walk_back_work(formula: &Formula, log: &[u8], kept: usize) -> usize {
+    let lines = model::log_reading::read_kept_lines(log, kept).unwrap_or_default();
+    let numbers: usize = lines.iter().map(|line| line.literals.len() + 1).sum();
+    let highest = lines
+        .iter()
+        .flat_map(|line| &line.literals)
+        .map(|literal| literal.unsigned_abs() as usize)
+        .fold(formula.variables as usize, usize::max);
+    4 * (formula.literal_count() as usize + formula.clauses.len() + numbers) + 4 * highest + 64
+}
+
+/// Does the work for each seed on all processors, and gives what each processor has counted.
+pub fn over_seeds<C: Default + Send>(
+    seeds: Range<u64>,
+    work: impl Fn(u64, &mut C) + Sync,
+) -> Vec<C> {
+    let processors = thread::available_parallelism().map_or(2, usize::from) as u64;
+    let work = &work;
+    thread::scope(|scope| {
+        let threads: Vec<_> = (0..processors)
+            .map(|own| {
+                let seeds = seeds.clone();
+                scope.spawn(move || {
+                    let mut counted = C::default();
+                    for seed in seeds.filter(|seed| seed % processors == own) {
+                        work(seed, &mut counted);
+                    }
+                    counted
+                })
+            })
+            .collect();
+        threads
+            .into_iter()
+            .map(|thread| match thread.join() {
+                Ok(counted) => counted,
+                Err(panic) => std::panic::resume_unwind(panic),
+            })
+            .collect()
+    })
+}
+
+/// Counts by name or number, added up.
+pub fn sum<K: Ord>(all: impl IntoIterator<Item = BTreeMap<K, usize>>) -> BTreeMap<K, usize> {
+    let mut sum = BTreeMap::new();
+    for (what, times) in all.into_iter().flatten() {
+        *sum.entry(what).or_default() += times;
+    }
+    sum
+}

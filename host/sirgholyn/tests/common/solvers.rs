@@ -1,0 +1,87 @@
+//! Solvers that are not ours, run on texts: cadical and minisat.
+
+use std::fs;
+use std::path::PathBuf;
+use std::process::{Command, Output};
+use std::sync::atomic::{AtomicUsize, Ordering};
+
+/// A folder of its own, removed in the end.
+pub struct Folder(PathBuf);
+
+impl Folder {
+    pub fn new() -> Folder {
+        static NEXT: AtomicUsize = AtomicUsize::new(0);
+        let own = NEXT.fetch_add(1, Ordering::Relaxed);
+        let path =
+            std::env::temp_dir().join(format!("sirgholyn-test-{}-{own}", std::process::id()));
+        fs::create_dir(&path).unwrap();
+        Folder(path)
+    }
+
+    pub fn path(&self, name: &str) -> String {
+        self.0.join(name).to_string_lossy().into_owned()
+    }
+
+    pub fn write(&self, name: &str, bytes: &[u8]) -> String {
+        fs::write(self.path(name), bytes).unwrap();
+        self.path(name)
+    }
+
+    /// The names in the folder, in order.
+    pub fn names(&self) -> Vec<String> {
+        let mut names: Vec<String> = fs::read_dir(&self.0)
+            .unwrap()
+            .map(|entry| entry.unwrap().file_name().to_string_lossy().into_owned())
+            .collect();
+        names.sort();
+        names
+    }
+}
+
+impl Drop for Folder {
+    fn drop(&mut self) {
+        let _ = fs::remove_dir_all(&self.0);
+    }
+}
+
+/// A solver's answer in the competitions' layout; or that there is none, with its proof in text if it
+/// writes one.
+pub enum Answer {
+    Satisfiable(Vec<u8>),
+    Unsatisfiable(Option<String>),
+}
+
+fn run(command: &mut Command) -> Output {
+    command.output().unwrap_or_else(|error| {
+        panic!("{command:?}: {error} (host/install-tools installs the solvers)")
+    })
+}
+
+pub fn cadical(formula: &[u8]) -> Answer {
+    let folder = Folder::new();
+    let file = folder.write("formula.cnf", formula);
+    let proof = folder.path("proof.drat");
+    let output = run(Command::new("cadical").args(["-q", "--no-binary", &file, &proof]));
+    match output.status.code() {
+        Some(10) => Answer::Satisfiable(output.stdout),
+        Some(20) => Answer::Unsatisfiable(Some(fs::read_to_string(proof).unwrap())),
+        other => panic!("cadical ended with {other:?}"),
+    }
+}
+
+/// Minisat writes `SAT` and the literals into a file; it writes no proof.
+pub fn minisat(formula: &[u8]) -> Answer {
+    let folder = Folder::new();
+    let file = folder.write("formula.cnf", formula);
+    let result = folder.path("result");
+    let output = run(Command::new("minisat").args(["-verb=0", &file, &result]));
+    match output.status.code() {
+        Some(10) => {
+            let result = fs::read_to_string(result).unwrap();
+            let literals = result.strip_prefix("SAT\n").unwrap();
+            Answer::Satisfiable(format!("s SATISFIABLE\nv {literals}").into_bytes())
+        }
+        Some(20) => Answer::Unsatisfiable(None),
+        other => panic!("minisat ended with {other:?}"),
+    }
+}

@@ -1,0 +1,151 @@
+//! Texts, logs and answers with each byte dropped, doubled and changed, and random bytes: library and model
+//! agree, and nothing is read or written outside.
+
+mod common;
+
+use common::{
+    compare_read_back, compare_reencode, compare_walk_back, count, over_seeds, run_model, sum,
+    Numbers, Room, WAYS,
+};
+use model::generator::Random;
+use model::reading::{read_formula, INPUT_LIMITS};
+use model::texts::log_text;
+use sirgholyn::{Form, Wish};
+
+const F: &[u8] = b"p cnf 6 7\n1 2 3 4 5 0\n-1 -2 0\n-1 6 0\n-2 6 0\n-3 6 0\n-4 -6 0\n-5 -6 0\n";
+const TEXTS: [&[u8]; 6] = [
+    F,
+    b"p cnf 0 0",
+    b"c two lines\r\nc\np cnf 3 2\r\n1 2 0\n-1 3 0",
+    b"p cnf 2 3\n1 -2 0\t2\r\n-1 0 0\n",
+    b"p cnf 10 9\n1 2 3 4 5 0\n6 7 8 9 10 0\n-1 -8 0\n-2 -6 0\n-1 -2 0\n-2 -1 0\n-3 -4 -5 -7 0\n-3 -9 -10 0\n-4 -5 -7 -9 -10 0\n",
+    b"p cnf 8000 1\n8000 -7999 0\n",
+];
+const ROOM: Room = Room {
+    work: 60_000,
+    log: 4_000,
+    formula: 4_000,
+};
+
+/// The text with each byte dropped, doubled and changed to others, and cut before it.
+fn each_damage(text: &[u8]) -> Vec<Vec<u8>> {
+    const BYTES: &[u8] = b"0129- \t\r\ncdpsv\0\x0b\xff";
+    let mut all = Vec::new();
+    for place in 0..text.len() {
+        let with = |bytes: &[u8]| [&text[..place], bytes, &text[place + 1..]].concat();
+        all.push(text[..place].to_vec());
+        all.push(with(&[]));
+        all.push(with(&[text[place], text[place]]));
+        for &byte in BYTES {
+            all.push(with(&[byte]));
+            all.push(with(&[byte, text[place]]));
+        }
+        all.push(with(&[text[place] ^ 1]));
+        all.push(with(&[text[place] ^ 128]));
+    }
+    all
+}
+
+#[test]
+fn formulas() {
+    let counted = over_seeds(0..TEXTS.len() as u64, |index, numbers: &mut Numbers| {
+        for (turn, text) in each_damage(TEXTS[index as usize]).iter().enumerate() {
+            let (form, wish) = WAYS[turn % WAYS.len()];
+            count(numbers, compare_reencode(text, form, wish, ROOM));
+            count(numbers, compare_read_back(text, ROOM.work));
+            let answer = b"s SATISFIABLE\nv 0\n";
+            count(
+                numbers,
+                compare_walk_back(
+                    text,
+                    b"",
+                    0,
+                    answer,
+                    1_000 + 5 * text.len() + 32_000,
+                    50_000,
+                ),
+            );
+        }
+    });
+    let numbers = sum(counted);
+    println!("{numbers:?}");
+    assert!([0, 1, 2, 3, 4, 5, 6, 7, 8]
+        .iter()
+        .all(|number| numbers.contains_key(number)));
+}
+
+#[test]
+fn logs_and_answers() {
+    let read = read_formula(F, &INPUT_LIMITS).unwrap();
+    let encoding = run_model(&read, Form::Order, Wish::None);
+    let log = log_text(&encoding.log);
+    let kept = encoding.log.len();
+    let answer: &[u8] =
+        b"c first\ns SATISFIABLE\r\nv 1 2 3 4 5 \nc between\nv -6 -7\t-8 -9 10 0 \nc last\n";
+    let mut numbers = Numbers::new();
+    let logs = each_damage(&log);
+    let counted = over_seeds(0..logs.len() as u64, |index, numbers: &mut Numbers| {
+        count(
+            numbers,
+            compare_walk_back(F, &logs[index as usize], kept, answer, 4_000, 100),
+        );
+    });
+    for part in counted {
+        numbers = sum([numbers, part]);
+    }
+    for answer in each_damage(answer) {
+        count(
+            &mut numbers,
+            compare_walk_back(F, &log, kept, &answer, 4_000, 100),
+        );
+    }
+    let wrong_way = b"p cnf 1 2\n1 0\n-1 0\n";
+    count(
+        &mut numbers,
+        compare_walk_back(wrong_way, b"d 1 0\n", 1, b"s SATISFIABLE\nv 0", 1_000, 100),
+    );
+    println!("{numbers:?}");
+    assert!([0, 31, 32, 33, 34, 41, 42, 43, 44]
+        .iter()
+        .all(|number| numbers.contains_key(number)));
+}
+
+#[test]
+fn random_bytes() {
+    const OFTEN: &[u8] = b"0123456789--  \n\n\t\rcdpsv";
+    let numbers = over_seeds(0..12_000, |seed, numbers: &mut Numbers| {
+        let mut random = Random::new(seed);
+        let mut bytes = |start: &[u8]| {
+            let mut text = if random.chance(70) {
+                start.to_vec()
+            } else {
+                Vec::new()
+            };
+            let all = random.chance(30);
+            for _ in 0..random.below(60) {
+                text.push(if all {
+                    random.below(256) as u8
+                } else {
+                    *random.one_of(OFTEN)
+                });
+            }
+            text
+        };
+        let text = bytes(b"p cnf 9 3\n");
+        let log = bytes(b"d 1 2 0\n");
+        let answer = bytes(b"s SATISFIABLE\nv ");
+        let (form, wish) = WAYS[seed as usize % WAYS.len()];
+        count(numbers, compare_reencode(&text, form, wish, ROOM));
+        count(numbers, compare_read_back(&text, ROOM.work));
+        let kept = (seed % 3) as usize;
+        count(
+            numbers,
+            compare_walk_back(F, &log, kept, &answer, 1_000, 100),
+        );
+        count(
+            numbers,
+            compare_walk_back(&text, &log, kept, &answer, 1_000, 100),
+        );
+    });
+    println!("{:?}", sum(numbers));
+}

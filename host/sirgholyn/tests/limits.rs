@@ -1,0 +1,255 @@
+//! The limits and one past them; buffers that suffice and buffers short by one.
+
+mod common;
+
+use common::formulas::{clash_chain, largest_with};
+use common::{
+    compare_read_back, compare_reencode, compare_walk_back, run_model, walk_back_work, work_for,
+    Room, PLENTY, WAYS,
+};
+use model::generator::text_of;
+use model::reading::{read_formula, Formula, INPUT_LIMITS};
+use model::texts::log_text;
+use sirgholyn::calls::{library, on_large_stack};
+use sirgholyn::{Form, Wish};
+
+const LARGE: Room = Room {
+    work: PLENTY,
+    log: PLENTY,
+    formula: PLENTY,
+};
+
+fn reencode(text: &str) -> u32 {
+    compare_reencode(text.as_bytes(), Form::Counter, Wish::None, LARGE)
+}
+
+fn read_back(text: &str) -> u32 {
+    compare_read_back(text.as_bytes(), 22_000_000)
+}
+
+/// A formula with so many literals, a thousand to a clause; every clause has the same.
+fn with_literals(variables: usize, literals: usize) -> String {
+    let whole = literals / 1_000;
+    let clause: String = (1..=1_000).map(|literal| format!("{literal} ")).collect();
+    let rest: String = (1..=literals % 1_000)
+        .map(|literal| format!("-{literal} "))
+        .collect();
+    format!(
+        "p cnf {variables} {}\n{}{rest}0\n",
+        whole + 1,
+        (clause + "0\n").repeat(whole)
+    )
+}
+
+#[test]
+fn variables() {
+    assert_eq!(reencode("p cnf 8000 1\n8000 -1 0"), 0);
+    assert_eq!(reencode("p cnf 8000 1\n8001 0"), 4);
+    assert_eq!(reencode("p cnf 8001 0"), 2);
+    assert_eq!(reencode("p cnf 4294967297 0"), 2);
+    assert_eq!(reencode("p cnf 18446744073709551617 0"), 2);
+    assert_eq!(reencode("p cnf 9 1\n4294967297 0"), 4);
+    assert_eq!(reencode("p cnf 9 1\n-18446744073709551617 0"), 4);
+    assert_eq!(read_back("p cnf 70000 1\n70000 -1 0"), 0);
+    assert_eq!(read_back("p cnf 70000 1\n-70001 0"), 4);
+    assert_eq!(read_back("p cnf 70001 0"), 2);
+}
+
+#[test]
+fn clauses() {
+    let empty = |count: usize| format!("p cnf 0 {count}\n{}", "0 ".repeat(count));
+    assert_eq!(reencode(&empty(20_000)), 0);
+    assert_eq!(reencode(&empty(20_001)), 2);
+    assert_eq!(reencode("p cnf 1 20000"), 8);
+    assert_eq!(read_back(&empty(300_000)), 0);
+    assert_eq!(read_back(&empty(300_001)), 2);
+}
+
+#[test]
+fn literals() {
+    assert_eq!(reencode(&with_literals(1_000, 60_000)), 0);
+    assert_eq!(reencode(&with_literals(1_000, 60_001)), 9);
+    assert_eq!(reencode(&with_literals(8_000, 60_000)), 0);
+    assert_eq!(read_back(&with_literals(1_000, 1_000_000)), 0);
+    assert_eq!(read_back(&with_literals(1_000, 1_000_001)), 9);
+}
+
+#[test]
+fn log_variables() {
+    let formula = b"p cnf 1 0\n";
+    let walk = |log: &str, answer: &str| {
+        compare_walk_back(
+            formula,
+            log.as_bytes(),
+            1,
+            answer.as_bytes(),
+            1_000_000,
+            100,
+        )
+    };
+    let none = "s SATISFIABLE\nv 0\n";
+    assert_eq!(walk("70000 0\n", "s SATISFIABLE\nv 70000 0\n"), 0);
+    assert_eq!(walk("70000 0\n", "s SATISFIABLE\nv 70000 -70001 0\n"), 42);
+    assert_eq!(walk("-70000 0\n", none), 0);
+    assert_eq!(walk("70001 0\n", none), 31);
+    assert_eq!(walk("4294967297 0\n", none), 31);
+    assert_eq!(walk("d 99999999999999999999999 0\n", none), 31);
+}
+
+#[test]
+fn kept_numbers() {
+    let answer = b"s SATISFIABLE\nv 1 0\n";
+    for kept in [0, 1, 2, 3, usize::MAX - 1, usize::MAX] {
+        let expected = if kept < 2 { 0 } else { 34 };
+        assert_eq!(
+            compare_walk_back(b"p cnf 1 0\n", b"1 0\n", kept, answer, 1_000, 100),
+            expected
+        );
+    }
+}
+
+const F: &[u8] = b"p cnf 6 7\n1 2 3 4 5 0\n-1 -2 0\n-1 6 0\n-2 6 0\n-3 6 0\n-4 -6 0\n-5 -6 0\n";
+
+#[test]
+fn short_by_one() {
+    let read = read_formula(F, &INPUT_LIMITS).unwrap();
+    for (form, wish) in WAYS {
+        let encoding = run_model(&read, form, wish);
+        let log = log_text(&encoding.log);
+        let new = Formula {
+            variables: encoding.highest,
+            clauses: encoding.standing.clauses(),
+        };
+        let new_text = text_of(&new);
+        let enough = Room {
+            work: work_for(&read),
+            log: log.len(),
+            formula: new_text.len(),
+        };
+        let reencode = |work, log, formula| {
+            let room = Room {
+                work: enough.work - work,
+                log: enough.log - log,
+                formula: enough.formula - formula,
+            };
+            compare_reencode(F, form, wish, room)
+        };
+        assert_eq!(reencode(0, 0, 0), 0);
+        assert_eq!(reencode(1, 0, 0), 11);
+        assert_eq!(reencode(1, 1, 1), 11);
+        assert_eq!(reencode(0, 1, 0), 12);
+        assert_eq!(reencode(0, 1, 1), 12);
+        assert_eq!(reencode(0, 0, 1), 13);
+        assert_eq!(reencode(enough.work, enough.log, enough.formula), 11);
+        assert_eq!(reencode(0, enough.log, enough.formula), 12);
+        for missing in 1..=enough.log {
+            assert_eq!(reencode(0, missing, 0), 12);
+        }
+        for missing in 1..=enough.formula {
+            assert_eq!(reencode(0, 0, missing), 13);
+        }
+
+        let store = work_for(&new);
+        assert_eq!(compare_read_back(&new_text, store), 0);
+        assert_eq!(compare_read_back(&new_text, store - 1), 11);
+        assert_eq!(compare_read_back(&new_text, 0), 11);
+
+        let kept = encoding.log.len();
+        // 1 and its counter, whichever form.
+        let answer = b"s SATISFIABLE\nv 1 6 7 8 9 10 0\n";
+        let line = b"v 1 -2 -3 -4 -5 6 0\n".len();
+        let work = walk_back_work(&read, &log, kept);
+        let walk = |work, room| compare_walk_back(F, &log, kept, answer, work, room);
+        assert_eq!(walk(work, line), 0);
+        assert_eq!(walk(work - 1, line), 11);
+        assert_eq!(walk(work - 1, line - 1), 11);
+        assert_eq!(walk(0, 0), 11);
+        for room in 0..line {
+            assert_eq!(walk(work, room), 14);
+        }
+    }
+}
+
+/// Formulas at the limits with much work to do, byte for byte, on the least workspace that is accepted.
+#[test]
+fn largest() {
+    for (text, (form, wish)) in [
+        (largest_with(5), WAYS[1]),
+        (largest_with(64), WAYS[2]),
+        (clash_chain(1_500), WAYS[3]),
+    ] {
+        let read = read_formula(&text, &INPUT_LIMITS).unwrap();
+        let room = Room {
+            work: work_for(&read),
+            log: 1 << 27,
+            formula: 1 << 23,
+        };
+        assert_eq!(compare_reencode(&text, form, wish, room), 0);
+    }
+}
+
+/// Calls with a tally of so many numbers: as many as fit are written, and nothing past them.
+fn expect_tally(expected: &[u64], call: impl Fn(*mut u64, usize) -> u32 + Sync) {
+    for room in 0..expected.len() + 3 {
+        let mut tally = vec![77; room];
+        let lent = &mut tally;
+        let call = &call;
+        assert_eq!(
+            on_large_stack(move || call(lent.as_mut_ptr(), lent.len())),
+            0
+        );
+        let fits = room.min(expected.len());
+        assert_eq!(tally[..fits], expected[..fits]);
+        assert!(tally[fits..].iter().all(|&number| number == 77));
+    }
+}
+
+#[test]
+fn tallies_of_any_length() {
+    let text = b"p cnf 3 2\n1 2 0\n-1 3 0\n";
+    let log = b"2 3 0\nd 1 2 0\nd -1 3 0\nd 2 3 0\n";
+    let answer = b"s SATISFIABLE\nv 0\n";
+    // SAFETY, here and below: each pointer and length are those of one slice.
+    expect_tally(&[0, 3, 0, 4, 31, 10], |tally, room| unsafe {
+        let (mut work, mut log, mut formula) = ([0; 9_000], [0; 100], [0; 100]);
+        let (t, w, l, f) = (text, &mut work, &mut log, &mut formula);
+        library::sirgholyn_reencode(
+            t.as_ptr(),
+            t.len(),
+            0,
+            0,
+            w.as_mut_ptr(),
+            w.len(),
+            l.as_mut_ptr(),
+            l.len(),
+            f.as_mut_ptr(),
+            f.len(),
+            tally,
+            room,
+        )
+    });
+    expect_tally(&[12], |tally, room| unsafe {
+        let (mut work, mut line) = ([0; 1_000], [0; 100]);
+        let (t, l, a, w, o) = (text, log, answer, &mut work, &mut line);
+        library::sirgholyn_walk_back(
+            t.as_ptr(),
+            t.len(),
+            l.as_ptr(),
+            l.len(),
+            4,
+            a.as_ptr(),
+            a.len(),
+            w.as_mut_ptr(),
+            w.len(),
+            o.as_mut_ptr(),
+            o.len(),
+            tally,
+            room,
+        )
+    });
+    expect_tally(&[3, 2, 4], |tally, room| unsafe {
+        let mut store = [0; 9_000];
+        let (t, s) = (text, &mut store);
+        library::sirgholyn_read_back(t.as_ptr(), t.len(), s.as_mut_ptr(), s.len(), tally, room)
+    });
+}

@@ -1,0 +1,147 @@
+//! The sessions listed in document 01, word for word.
+
+use sirgholyn::{
+    read_back, reencode, walk_back, Error, Form, ReencodeRoom, Reencoded, Refusal, WalkBackRoom,
+    Wish,
+};
+
+const F: &str = "p cnf 6 7\n1 2 3 4 5 0\n-1 -2 0\n-1 6 0\n-2 6 0\n-3 6 0\n-4 -6 0\n-5 -6 0\n";
+const G: &str =
+    "p cnf 10 8\n8 -7 0\n9 -8 0\n10 -9 0\n-7 6 0\n7 -8 6 0\n8 -9 6 0\n9 -10 -6 0\n10 -6 0\n";
+
+fn encode(text: &str, form: Form, wish: Wish) -> Reencoded {
+    reencode(text.as_bytes(), form, wish, ReencodeRoom::default()).unwrap()
+}
+
+fn expect(text: &str, log: &str, formula: &str) {
+    for form in [Form::Counter, Form::Order] {
+        let new = encode(text, form, Wish::None);
+        assert_eq!(String::from_utf8_lossy(&new.log), log);
+        assert_eq!(String::from_utf8_lossy(&new.formula), formula);
+        assert_eq!(new.tally.lines, log.lines().count() as u64);
+    }
+}
+
+fn walk(formula: &str, log: &[u8], kept: usize, answer: &str) -> Result<String, Error> {
+    walk_back(
+        formula.as_bytes(),
+        log,
+        kept,
+        answer.as_bytes(),
+        WalkBackRoom::default(),
+    )
+    .map(|line| String::from_utf8(line).unwrap())
+}
+
+#[test]
+fn a() {
+    expect("p cnf 0 0", "", "p cnf 0 0\n");
+}
+
+#[test]
+fn b() {
+    expect("p cnf 0 1\n0\n", "", "p cnf 0 1\n0\n");
+}
+
+#[test]
+fn c() {
+    expect(
+        "p cnf 1 2\n1 0\n-1 0\n",
+        "0\nd 1 0\nd -1 0\n",
+        "p cnf 1 1\n0\n",
+    );
+}
+
+#[test]
+fn d() {
+    expect(
+        "p cnf 2 2\n1 2 0\n-1 -2 0\n",
+        "d 1 2 0\nd -1 -2 0\n",
+        "p cnf 2 0\n",
+    );
+}
+
+#[test]
+fn e() {
+    let text = "p cnf 3 2\n1 2 0\n-1 3 0\n";
+    let log = "2 3 0\nd 1 2 0\nd -1 3 0\nd 2 3 0\n";
+    expect(text, log, "p cnf 3 0\n");
+    let line = walk(text, log.as_bytes(), 4, "s SATISFIABLE\nv -1 -2 -3 0\n");
+    assert_eq!(line.as_deref(), Ok("v -1 2 -3 0\n"));
+}
+
+#[test]
+fn f() {
+    let tally = encode(F, Form::Counter, Wish::None).tally;
+    assert_eq!((tally.highest, tally.clauses, tally.lines), (10, 21, 36));
+}
+
+#[test]
+fn g_and_h() {
+    let new = encode(F, Form::Order, Wish::None);
+    assert_eq!(new.tally.lines, 59);
+    assert_eq!(String::from_utf8_lossy(&new.formula), G);
+    let back = read_back(&new.formula, None).unwrap();
+    assert_eq!(back.counts.variables, 10);
+    let clauses: Vec<&[i32]> = back.clauses().collect();
+    assert_eq!(clauses[4], [7, -8, 6]);
+    assert_eq!(clauses.len(), 8);
+
+    let line = walk(
+        F,
+        &new.log,
+        59,
+        "s SATISFIABLE\nv 1 2 3 4 5 -6 -7 -8 -9 10 0\n",
+    );
+    assert_eq!(line.as_deref(), Ok("v -1 -2 -3 4 -5 -6 0\n"));
+}
+
+#[test]
+fn refusals_of_one_clause() {
+    let cases = [
+        ("1 1 0", 5),
+        ("1 -1 0", 6),
+        ("2 0", 4),
+        ("-0", 3),
+        ("1", 7),
+        ("1 0 1 0", 8),
+    ];
+    for (body, number) in cases {
+        let text = format!("p cnf 1 1\n{body}\n");
+        let refused = reencode(
+            text.as_bytes(),
+            Form::Counter,
+            Wish::None,
+            ReencodeRoom::default(),
+        );
+        assert_eq!(refused, Err(Error::Refused(Refusal(number))), "{body}");
+    }
+}
+
+#[test]
+fn sizes_4_5_64_65() {
+    for size in [4, 5, 64, 65] {
+        let literals: String = (1..=size).map(|literal| format!("{literal} ")).collect();
+        let negated: String = (1..=size)
+            .map(|literal| format!("-{literal} 0\n-{literal} 0\n"))
+            .collect();
+        let text = format!("p cnf {size} {}\n{literals}0\n{negated}", 2 * size + 1);
+        let new = encode(&text, Form::Counter, Wish::None);
+        let taken = [5, 64].contains(&size);
+        assert_eq!(new.tally.choices, u64::from(taken));
+        assert_eq!(String::from_utf8_lossy(&new.formula) == text, !taken);
+    }
+}
+
+#[test]
+fn alignment() {
+    let negated: String = (1..=10)
+        .map(|literal| format!("-{literal} 0\n-{literal} 0\n"))
+        .collect();
+    let text = format!("p cnf 10 24\n1 2 3 4 5 0\n6 7 8 9 10 0\n-1 -8 0\n-2 -6 0\n{negated}");
+    for form in [Form::Counter, Form::Order] {
+        let log = |wish| String::from_utf8(encode(&text, form, wish).log).unwrap();
+        assert!(log(Wish::None).contains("\nd 6 7 8 9 10 0\n"));
+        assert!(log(Wish::Alignment).contains("\nd 8 6 7 9 10 0\n"));
+    }
+}

@@ -139,7 +139,7 @@ module _ {form : Form} {work shorter : List ℤ} {p : Progress} {l : Clause} {be
     front-here = rw same-standing at (d .front-stands)
 
 module _ {work shorter : List ℤ} {p : Progress} {l : Clause} {below r : ℕ} (o : One-ready order-form work p l below) (e : length shorter ≡ length (take (p .end) work)) (c : Compacted (take (p .end) work) r shorter)
-         {log new-log : Bytes} {new-work : List ℤ} {q : Progress} (d : Taken (shorter ++ drop (p .end) work) l below log (compacted p r) new-work new-log q) where
+    {log new-log : Bytes} {new-work : List ℤ} {q : Progress} (d : Taken (shorter ++ drop (p .end) work) l below log (compacted p r) new-work new-log q) where
   abbrev G : Formula
   G = stored (take (p .end) work)
 

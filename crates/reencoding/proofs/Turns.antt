@@ -62,7 +62,7 @@ unfolding choices-events
 taken-nil form n F = refl
 
 module _ {form : Form} {F : Formula} {ls : List Clause} {below size : ℕ} {old-log : Bytes} {old : Progress} {work : List ℤ} {log : Bytes} {q : Progress} {chosen : List ℤ} {at highest : ℕ}
-         (t : Taking-turns form F ls below size old-log old work log q chosen at highest) where
+    (t : Taking-turns form F ls below size old-log old work log q chosen at highest) where
   abbrev G : Formula
   G = stored (take (q .end) work)
 
@@ -132,8 +132,8 @@ new-some s at e = rw e refl
 -- ---- from turn to turn
 
 module _ {form : Form} {F : Formula} {ls : List Clause} {below size : ℕ} {old-log : Bytes} {old : Progress} {work : List ℤ} {log : Bytes} {q : Progress} {chosen : List ℤ} {at highest : ℕ}
-         (t : Taking-turns form F ls below size old-log old work log q chosen at highest) (h : at < length chosen)
-         {w : List ℤ} {z : Bytes} {r : Progress} (a : Ran (stored (take (q .end) work)) (events-at form (stored (take (q .end) work)) chosen at highest) (length work) log q w z r) where
+    (t : Taking-turns form F ls below size old-log old work log q chosen at highest) (h : at < length chosen)
+    {w : List ℤ} {z : Bytes} {r : Progress} (a : Ran (stored (take (q .end) work)) (events-at form (stored (take (q .end) work)) chosen at highest) (length work) log q w z r) where
   abbrev D : Formula
   D = stored (take (q .end) work)
 

@@ -1,0 +1,131 @@
+-- Counts written one after the other, and number and tally from the outcome of a call.
+use mathlib.Core.Path.{_≡_, refl, sym, ap, _∙_}
+use mathlib.Core.List.{List, [], _∷_}
+use Prim.Native.Nat.{ℕ}
+use native.Mathlib.Omega.{arith}
+use lib.ListN.{length, set, replicate}
+use Rattle.definition.specs.Checked.{Checked, fault, value}
+use Rattle.definition.specs.Literals.{literals-of}
+use Rattle.definition.specs.Text.{Bytes}
+use Rattle.definition.specs.Reading.{Input}
+use Rattle.definition.specs.Alignment.{Wish}
+use Rattle.definition.specs.Reencoding.{Form, Settings}
+use Rattle.definition.specs.Calls.{Reencoded, Tally, reencode, buffer-after}
+use Rattle.dimacs.specs.declared.ReadBack.the-variants as ReadBack
+use Rattle.dimacs.specs.Outcome.{read-back-of}
+use Rattle.walk_back.specs.declared.WalkedBack.the-variants as WalkedBack
+use Rattle.walk_back.specs.Outcome.{walked-back-of}
+use Rattle.reencoding.specs.declared.Form as Code-form
+use Rattle.reencoding.specs.declared.Wish as Code-wish
+use Rattle.reencoding.specs.declared.Tally as Code
+use Rattle.reencoding.specs.declared.Reencoding as Code-outcome
+use Rattle.reencoding.specs.declared.Reencoding.the-variants as Reencoding
+use Rattle.reencoding.specs.Outcome.{named-form, named-wish, settings-of, outcome-of}
+use Rattle.exports.specs.Numbers.{form-number, wish-number, settings-number, number-of}
+use Rattle.exports.specs.Counts.{overwritten, tally-after, walk-back-counts, read-back-counts, reencoding-counts, done-counts}
+
+-- one count, three counts, six counts
+pub one-count : (t : List ℕ) (a : ℕ) → set t 0 a ≡ overwritten (a ∷ []) t
+unfolding overwritten
+one-count [] a = refl
+one-count (x ∷ t) a = refl
+
+pub three-counts : (t : List ℕ) (a b c : ℕ) → set (set (set t 0 a) 1 b) 2 c ≡ overwritten (a ∷ b ∷ c ∷ []) t
+unfolding overwritten
+three-counts [] a b c = refl
+three-counts (x ∷ []) a b c = refl
+three-counts (x ∷ y ∷ []) a b c = refl
+three-counts (x ∷ y ∷ z ∷ t) a b c = refl
+
+pub six-counts : (t : List ℕ) (a b c d e f : ℕ) → set (set (set (set (set (set t 0 a) 1 b) 2 c) 3 d) 4 e) 5 f ≡ overwritten (a ∷ b ∷ c ∷ d ∷ e ∷ f ∷ []) t
+unfolding overwritten
+six-counts [] a b c d e f = refl
+six-counts (x ∷ []) a b c d e f = refl
+six-counts (x ∷ y ∷ []) a b c d e f = refl
+six-counts (x ∷ y ∷ z ∷ []) a b c d e f = refl
+six-counts (x ∷ y ∷ z ∷ u ∷ []) a b c d e f = refl
+six-counts (x ∷ y ∷ z ∷ u ∷ v ∷ []) a b c d e f = refl
+six-counts (x ∷ y ∷ z ∷ u ∷ v ∷ w ∷ t) a b c d e f = refl
+
+-- ---- number and tally from the outcome of each call
+
+pub read-counted : (o : Checked Input) (v c l : ℕ) (before after : List ℕ) → read-back-of o ≡ ReadBack.Read v c l → after ≡ overwritten (v ∷ c ∷ l ∷ []) before → (0 ≡ number-of o) × (after ≡ tally-after o read-back-counts before)
+unfolding number-of tally-after
+read-counted (fault n) v c l before after e w = let z : _≡_ {A = ℕ} 0 1 = cc in absurd (omega arith)
+read-counted (value i) v c l before after e w =
+    let ev : i .variables ≡ v = cc in
+    let ec : length (i .formula) ≡ c = cc in
+    let el : literals-of (i .formula) ≡ l = cc in
+    (refl, rw (ev, ec, el) w)
+
+pub read-refused : (o : Checked Input) (n : ℕ) (before after : List ℕ) → read-back-of o ≡ ReadBack.Refused n → after ≡ replicate (length before) 0 → (n ≡ number-of o) × (after ≡ tally-after o read-back-counts before)
+unfolding number-of tally-after
+read-refused (fault m) n before after e w = (cc, w)
+read-refused (value i) n before after e w = let z : _≡_ {A = ℕ} 0 1 = cc in absurd (omega arith)
+
+pub walk-counted : (o : Checked Bytes) (n : ℕ) (before after : List ℕ) → walked-back-of o ≡ WalkedBack.Line n → after ≡ set before 0 n → (0 ≡ number-of o) × (after ≡ tally-after o walk-back-counts before)
+unfolding number-of tally-after
+walk-counted (fault m) n before after e w = let z : _≡_ {A = ℕ} 0 1 = cc in absurd (omega arith)
+walk-counted (value t) n before after e w =
+    let el : length t ≡ n = cc in
+    (refl, rw el (w ∙ one-count before n))
+
+pub walk-refused : (o : Checked Bytes) (n : ℕ) (before after : List ℕ) → walked-back-of o ≡ WalkedBack.Refused n → after ≡ replicate (length before) 0 → (n ≡ number-of o) × (after ≡ tally-after o walk-back-counts before)
+unfolding number-of tally-after
+walk-refused (fault m) n before after e w = (cc, w)
+walk-refused (value t) n before after e w = let z : _≡_ {A = ℕ} 0 1 = cc in absurd (omega arith)
+
+-- the code's record of a result
+abbrev result-tally : Tally → Code.Tally
+result-tally r =
+    record {
+      choices = r .choices;
+      highest = r .highest;
+      clauses = r .clauses;
+      lines = r .lines;
+      «log_bytes» = r .log-bytes;
+      «formula_bytes» = r .formula-bytes;
+    }
+
+pub reencoding-counted : (o : Checked Reencoded) (t : Code.Tally) (before after : List ℕ) → outcome-of o ≡ Reencoding.Done t → after ≡ overwritten (done-counts t) before → (0 ≡ number-of o) × (after ≡ tally-after o reencoding-counts before)
+unfolding number-of tally-after
+reencoding-counted (fault m) t before after e w = let z : _≡_ {A = ℕ} 0 1 = cc in absurd (omega arith)
+reencoding-counted (value r) t before after e w =
+    let et : result-tally (r .tally) ≡ t = cc in
+    (refl, w ∙ ap (λ (x : Code.Tally). overwritten (done-counts x) before) (sym et))
+
+pub reencoding-refused : (o : Checked Reencoded) (n : ℕ) (before after : List ℕ) → outcome-of o ≡ Reencoding.Refused n → after ≡ replicate (length before) 0 → (n ≡ number-of o) × (after ≡ tally-after o reencoding-counts before)
+unfolding number-of tally-after
+reencoding-refused (fault m) n before after e w = (cc, w)
+reencoding-refused (value r) n before after e w = let z : _≡_ {A = ℕ} 0 1 = cc in absurd (omega arith)
+
+-- the settings that two numbers name
+pub settings-named : (f : Code-form.Form) (w : Code-wish.Wish) (m n : ℕ) → named-form f ≡ form-number m → named-wish w ≡ wish-number n → settings-of f w ≡ settings-number m n
+settings-named f w m n e d =
+    ap (λ (x : Form). record { form = x; wish = named-wish w }) e ∙ ap (λ (y : Wish). record { form = form-number m; wish = y }) d
+
+-- what the exported call ensures, from what reencoding ensures for the form and the wish that the numbers name
+module _ (f : Code-form.Form) (w : Code-wish.Wish) (m n room : ℕ) (text log log' formula formula' : Bytes) (before after : List ℕ) (r : Code-outcome.Reencoding)
+    (ef : named-form f ≡ form-number m) (ew : named-wish w ≡ wish-number n)
+    (er : r ≡ outcome-of (reencode (settings-of f w) room (length log) (length formula) text))
+    (el : log' ≡ buffer-after 0 (reencode (settings-of f w) room (length log) (length formula) text) (λ o. o .log) log)
+    (eo : formula' ≡ buffer-after 0 (reencode (settings-of f w) room (length log) (length formula) text) (λ o. o .formula) formula)
+  where
+    same-settings : reencode (settings-of f w) room (length log) (length formula) text ≡ reencode (settings-number m n) room (length log) (length formula) text
+    same-settings = ap (λ (s : Settings). reencode s room (length log) (length formula) text) (settings-named f w m n ef ew)
+
+    buffers-named : (log' ≡ buffer-after 0 (reencode (settings-number m n) room (length log) (length formula) text) (λ o. o .log) log) × (formula' ≡ buffer-after 0 (reencode (settings-number m n) room (length log) (length formula) text) (λ o. o .formula) formula)
+    buffers-named = (
+      el ∙ ap (λ (o : Checked Reencoded). buffer-after 0 o (λ x. x .log) log) same-settings,
+      eo ∙ ap (λ (o : Checked Reencoded). buffer-after 0 o (λ x. x .formula) formula) same-settings,
+    )
+
+    pub exported-done : (t : Code.Tally) → r ≡ Reencoding.Done t → after ≡ overwritten (done-counts t) before → (0 ≡ number-of (reencode (settings-number m n) room (length log) (length formula) text)) × ((log' ≡ buffer-after 0 (reencode (settings-number m n) room (length log) (length formula) text) (λ o. o .log) log) × ((formula' ≡ buffer-after 0 (reencode (settings-number m n) room (length log) (length formula) text) (λ o. o .formula) formula) × (after ≡ tally-after (reencode (settings-number m n) room (length log) (length formula) text) reencoding-counts before)))
+    exported-done t e c =
+        let k = reencoding-counted (reencode (settings-number m n) room (length log) (length formula) text) t before after (ap (λ (o : Checked Reencoded). outcome-of o) (sym same-settings) ∙ sym er ∙ e) c in
+        (k .0, (buffers-named .0, (buffers-named .1, k .1)))
+
+    pub exported-refused : (k : ℕ) → r ≡ Reencoding.Refused k → after ≡ replicate (length before) 0 → (k ≡ number-of (reencode (settings-number m n) room (length log) (length formula) text)) × ((log' ≡ buffer-after 0 (reencode (settings-number m n) room (length log) (length formula) text) (λ o. o .log) log) × ((formula' ≡ buffer-after 0 (reencode (settings-number m n) room (length log) (length formula) text) (λ o. o .formula) formula) × (after ≡ tally-after (reencode (settings-number m n) room (length log) (length formula) text) reencoding-counts before)))
+    exported-refused k e c =
+        let d = reencoding-refused (reencode (settings-number m n) room (length log) (length formula) text) k before after (ap (λ (o : Checked Reencoded). outcome-of o) (sym same-settings) ∙ sym er ∙ e) c in
+        (d .0, (buffers-named .0, (buffers-named .1, d .1)))

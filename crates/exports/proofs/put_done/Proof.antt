@@ -1,0 +1,46 @@
+use Rattle.exports.proofs.Laws.{six-counts}
+use denote.Ref.{now}
+use borrow.Author.Needs.{needs}
+use Rattle.exports.proofs.put_done.Statement.{statement}
+use Rattle.exports.proofs.put_done.Tie as tie
+
+put-count-requires : tie.Need-put-count-requires
+put-count-requires c κs = search needs
+
+cast-put-count : tie.Need-cast-put-count
+cast-put-count c = search needs
+
+put-count-requires-2 : tie.Need-put-count-requires-2
+put-count-requires-2 c κs = search needs
+
+put-count-requires-3 : tie.Need-put-count-requires-3
+put-count-requires-3 c κs = search needs
+
+put-count-requires-4 : tie.Need-put-count-requires-4
+put-count-requires-4 c κs = search needs
+
+put-count-requires-5 : tie.Need-put-count-requires-5
+put-count-requires-5 c κs = search needs
+
+put-count-requires-6 : tie.Need-put-count-requires-6
+put-count-requires-6 c κs = search needs
+
+same-length : tie.Need-same-length
+same-length c = search needs
+
+returns : tie.Need-returns
+returns c = rw (c .before .before .put-count6 .ensures, c .before .before .before .before .before .before .put-count5 .ensures, c .before .before .before .before .before .before .before .before .before .before .put-count4 .ensures, c .before .before .before .before .before .before .before .before .before .before .before .before .before .before .put-count3 .ensures, c .before .before .before .before .before .before .before .before .before .before .before .before .before .before .before .before .before .before .put-count2 .ensures, c .before .before .before .before .before .before .before .before .before .before .before .before .before .before .before .before .before .before .before .before .before .before .before .put-count .ensures) (six-counts (now (c .before .before .before .before .before .before .before .before .before .before .before .before .before .before .before .before .before .before .before .before .before .before .before .before .before .before .args .tally)) _ _ _ _ _ _)
+
+pub put-done-spec : {M : Type 1} → statement M
+put-done-spec =
+    tie.close
+    (tie.spec
+    put-count-requires
+    cast-put-count
+    put-count-requires-2
+    put-count-requires-3
+    put-count-requires-4
+    put-count-requires-5
+    put-count-requires-6
+    same-length
+    returns)

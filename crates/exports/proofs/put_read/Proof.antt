@@ -1,0 +1,25 @@
+use Rattle.exports.proofs.Laws.{three-counts}
+use denote.Ref.{now}
+use borrow.Author.Needs.{needs}
+use Rattle.exports.proofs.put_read.Statement.{statement}
+use Rattle.exports.proofs.put_read.Tie as tie
+
+put-count-requires : tie.Need-put-count-requires
+put-count-requires c κs = search needs
+
+put-count-requires-2 : tie.Need-put-count-requires-2
+put-count-requires-2 c κs = search needs
+
+put-count-requires-3 : tie.Need-put-count-requires-3
+put-count-requires-3 c κs = search needs
+
+same-length : tie.Need-same-length
+same-length c = search needs
+
+returns : tie.Need-returns
+returns c = rw (c .before .before .put-count3 .ensures, c .before .before .before .before .before .before .put-count2 .ensures, c .before .before .before .before .before .before .before .before .before .before .put-count .ensures) (three-counts (now (c .before .before .before .before .before .before .before .before .before .before .before .before .before .args .tally)) _ _ _)
+
+pub put-read-spec : {M : Type 1} → statement M
+put-read-spec =
+    tie.close
+    (tie.spec put-count-requires put-count-requires-2 put-count-requires-3 same-length returns)

@@ -1,0 +1,83 @@
+use denote.Ref.{now}
+use lib.ListN.{length}
+use Rattle.exports.proofs.Laws.{exported-done, exported-refused}
+use borrow.Author.Needs.{needs}
+use Rattle.exports.proofs.sirgholyn_reencode.Statement.{statement}
+use Rattle.exports.proofs.sirgholyn_reencode.Tie as tie
+
+form-named-requires : tie.Need-form-named-requires
+form-named-requires c κs = search needs
+
+wish-named-requires : tie.Need-wish-named-requires
+wish-named-requires c κs = search needs
+
+reencode-requires : tie.Need-reencode-requires
+reencode-requires c κs = search needs
+
+enum-known-t : tie.Need-enum-known-t
+enum-known-t c = search needs
+
+put-done-requires : tie.Need-put-done-requires
+put-done-requires c κs = search needs
+
+enum-known-n : tie.Need-enum-known-n
+enum-known-n c = search needs
+
+zero-counts-requires : tie.Need-zero-counts-requires
+zero-counts-requires c κs = search needs
+
+cast-result : tie.Need-cast-result
+cast-result c = search needs
+
+same-length : tie.Need-same-length
+same-length c = search needs
+
+same-length-2 : tie.Need-same-length-2
+same-length-2 c = search needs
+
+same-length-3 : tie.Need-same-length-3
+same-length-3 c = search needs
+
+same-length-4 : tie.Need-same-length-4
+same-length-4 c = search needs
+
+returns : tie.Need-returns
+returns c = exported-done (c .before .before .before .before .before .before .before .before .before .before .before .before .before .before .before .before .before .form-named .result) (c .before .before .before .before .before .before .before .before .before .before .before .before .before .before .before .before .wish-named .result) (c .before .before .before .before .before .before .before .before .before .before .before .before .before .before .before .before .before .before .before .before .before .before .args .form) (c .before .before .before .before .before .before .before .before .before .before .before .before .before .before .before .before .before .before .before .before .before .before .args .wish) (length (now (c .before .before .before .before .before .before .before .before .before .before .before .before .before .before .before .before .before .before .before .before .before .before .args .work))) (now (c .before .before .before .before .before .before .before .before .before .before .before .before .before .before .before .before .before .before .before .before .before .before .args .text)) (now (c .before .before .before .before .before .before .before .before .before .before .before .before .before .before .before .before .before .before .before .before .before .before .args .log)) _ (now (c .before .before .before .before .before .before .before .before .before .before .before .before .before .before .before .before .before .before .before .before .before .before .args .formula)) _ (now (c .before .before .before .before .before .before .before .before .before .before .before .before .before .before .before .before .before .before .before .before .before .before .args .tally)) _ _ (c .before .before .before .before .before .before .before .before .before .before .before .before .before .before .before .before .before .form-named .ensures) (c .before .before .before .before .before .before .before .before .before .before .before .before .before .before .before .before .wish-named .ensures) (c .before .before .before .before .before .before .before .before .before .before .before .before .reencode .ensures .0) (c .before .before .before .before .before .before .before .before .before .before .before .before .reencode .ensures .1 .0) (c .before .before .before .before .before .before .before .before .before .before .before .before .reencode .ensures .1 .1) _ (c .before .before .before .before .before .t .given .1) (c .before .before .put-done .ensures)
+
+same-length-5 : tie.Need-same-length-5
+same-length-5 c = search needs
+
+same-length-6 : tie.Need-same-length-6
+same-length-6 c = search needs
+
+same-length-7 : tie.Need-same-length-7
+same-length-7 c = search needs
+
+same-length-8 : tie.Need-same-length-8
+same-length-8 c = search needs
+
+returns-2 : tie.Need-returns-2
+returns-2 c = exported-refused (c .before .before .before .before .before .before .before .before .before .before .before .before .before .before .before .before .before .form-named .result) (c .before .before .before .before .before .before .before .before .before .before .before .before .before .before .before .before .wish-named .result) (c .before .before .before .before .before .before .before .before .before .before .before .before .before .before .before .before .before .before .before .before .before .before .args .form) (c .before .before .before .before .before .before .before .before .before .before .before .before .before .before .before .before .before .before .before .before .before .before .args .wish) (length (now (c .before .before .before .before .before .before .before .before .before .before .before .before .before .before .before .before .before .before .before .before .before .before .args .work))) (now (c .before .before .before .before .before .before .before .before .before .before .before .before .before .before .before .before .before .before .before .before .before .before .args .text)) (now (c .before .before .before .before .before .before .before .before .before .before .before .before .before .before .before .before .before .before .before .before .before .before .args .log)) _ (now (c .before .before .before .before .before .before .before .before .before .before .before .before .before .before .before .before .before .before .before .before .before .before .args .formula)) _ (now (c .before .before .before .before .before .before .before .before .before .before .before .before .before .before .before .before .before .before .before .before .before .before .args .tally)) _ _ (c .before .before .before .before .before .before .before .before .before .before .before .before .before .before .before .before .before .form-named .ensures) (c .before .before .before .before .before .before .before .before .before .before .before .before .before .before .before .before .wish-named .ensures) (c .before .before .before .before .before .before .before .before .before .before .before .before .reencode .ensures .0) (c .before .before .before .before .before .before .before .before .before .before .before .before .reencode .ensures .1 .0) (c .before .before .before .before .before .before .before .before .before .before .before .before .reencode .ensures .1 .1) _ (c .before .before .before .before .before .n .given .1) (c .before .before .zero-counts .ensures)
+
+pub sirgholyn-reencode-spec : {M : Type 1} → statement M
+sirgholyn-reencode-spec =
+    tie.close
+    (tie.spec
+    form-named-requires
+    wish-named-requires
+    reencode-requires
+    enum-known-t
+    put-done-requires
+    enum-known-n
+    zero-counts-requires
+    cast-result
+    same-length
+    same-length-2
+    same-length-3
+    same-length-4
+    returns
+    same-length-5
+    same-length-6
+    same-length-7
+    same-length-8
+    returns-2)

@@ -1,0 +1,45 @@
+-- The counts of each call, and the tally after it.
+use mathlib.Core.List.{List, [], _∷_}
+use Prim.Native.Nat.{ℕ}
+use lib.ListN.{length, replicate}
+use Rattle.definition.specs.Checked.{Checked, fault, value}
+use Rattle.definition.specs.Literals.{literals-of}
+use Rattle.definition.specs.Text.{Bytes}
+use Rattle.definition.specs.Reading.{Input}
+use Rattle.definition.specs.Calls.{Reencoded, Tally}
+use Rattle.reencoding.specs.declared.Tally as Code
+
+-- as many of the counts as fit, then what lay past them
+unfoldable pub overwritten : List ℕ → List ℕ → List ℕ
+overwritten [] before = before
+overwritten (n ∷ ns) [] = []
+overwritten (n ∷ ns) (b ∷ bs) = n ∷ overwritten ns bs
+
+-- a tally after a call: all zero at a fault, else the counts
+unfoldable pub tally-after : {A : Type 0} → Checked A → (A → List ℕ) → List ℕ → List ℕ
+tally-after (fault n) counts before = replicate (length before) 0
+tally-after (value a) counts before = overwritten (counts a) before
+
+-- choices, H, M, log lines, the log's bytes and the formula's
+abbrev pub reencoding-counts : Reencoded → List ℕ
+reencoding-counts r =
+    r .tally .choices
+    ∷ r .tally .highest
+    ∷ r .tally .clauses
+    ∷ r .tally .lines
+    ∷ r .tally .log-bytes
+    ∷ r .tally .formula-bytes
+    ∷ []
+
+-- the same of the code's result
+abbrev pub done-counts : Code.Tally → List ℕ
+done-counts t =
+    t .choices ∷ t .highest ∷ t .clauses ∷ t .lines ∷ t .«log_bytes» ∷ t .«formula_bytes» ∷ []
+
+-- the bytes of the line
+abbrev pub walk-back-counts : Bytes → List ℕ
+walk-back-counts t = length t ∷ []
+
+-- V, the clauses and the literals
+abbrev pub read-back-counts : Input → List ℕ
+read-back-counts i = i .variables ∷ length (i .formula) ∷ literals-of (i .formula) ∷ []

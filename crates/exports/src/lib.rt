@@ -1,0 +1,159 @@
+// The published calls on numbers and slices, for programs in other languages to link.
+// A call answers 0, or document 01's number of the refusal; its counts go into the tally, as many as fit.
+ghost use mathlib.Core.Path.{_≡_};
+ghost use mathlib.Core.List.{[], _∷_};
+ghost use lib.IntN.{pos};
+ghost use lib.ListN.{length, set, replicate};
+ghost use Rattle.definition.specs.Calls.{reencode, walk-back, read-back, buffer-after};
+ghost use Rattle.dimacs.specs.Loading.{entries-of};
+ghost use Rattle.reencoding.specs.Outcome.{named-form, named-wish};
+ghost use Rattle.exports.specs.Numbers.{form-number, wish-number, settings-number, number-of};
+ghost use Rattle.exports.specs.Counts.{overwritten, tally-after, reencoding-counts, done-counts, walk-back-counts, read-back-counts};
+use reencoding::Form;
+use reencoding::Reencoding;
+use reencoding::Tally;
+use reencoding::Wish;
+
+// ---- the tally
+
+// Writes a count at a place, if the tally reaches so far.
+fn put_count(tally: &mut [u64], at: usize, n: u64)
+    ensures { λ _. ⌜ now (tally .exit) ≡ set (now (tally .entry)) at n ⌝ }
+{
+    if at < tally.len() {
+        tally[at] = n;
+    }
+}
+
+// Makes every count 0.
+fn zero_counts(tally: &mut [u64])
+    ensures { λ _. ⌜ now (tally .exit) ≡ replicate (length (now (tally .entry))) 0 ⌝ }
+{
+    let mut i = 0;
+    while i < tally.len() {
+        tally[i] = 0;
+        i += 1;
+    }
+}
+
+// Writes the counts of a reencoding.
+fn put_done(tally: &mut [u64], t: Tally)
+    ensures { λ _. ⌜ now (tally .exit) ≡ overwritten (done-counts t) (now (tally .entry)) ⌝ }
+{
+    put_count(tally, 0, t.choices as u64);
+    put_count(tally, 1, t.highest as u64);
+    put_count(tally, 2, t.clauses as u64);
+    put_count(tally, 3, t.lines as u64);
+    put_count(tally, 4, t.log_bytes as u64);
+    put_count(tally, 5, t.formula_bytes as u64);
+}
+
+// Writes the counts of a formula read back.
+fn put_read(tally: &mut [u64], variables: u32, clauses: u32, literals: u32)
+    ensures { λ _. ⌜ now (tally .exit) ≡ overwritten (variables ∷ clauses ∷ literals ∷ []) (now (tally .entry)) ⌝ }
+{
+    put_count(tally, 0, variables as u64);
+    put_count(tally, 1, clauses as u64);
+    put_count(tally, 2, literals as u64);
+}
+
+// ---- reencoding
+
+// The form that a number names: 0 the counter form, any other the order form.
+fn form_named(form: u32) -> Form
+    ensures { λ r. ⌜ named-form r ≡ form-number form ⌝ }
+{
+    if form == 0 {
+        return Form::Counter;
+    }
+    Form::Order
+}
+
+// The wish that a number names: 0 none, any other alignment.
+fn wish_named(wish: u32) -> Wish
+    ensures { λ r. ⌜ named-wish r ≡ wish-number wish ⌝ }
+{
+    if wish == 0 {
+        return Wish::NoWish;
+    }
+    Wish::Alignment
+}
+
+// Reencodes a formula into two buffers. form is 0 for the counter form, any other number for the order form; wish is 0 for none,
+// any other number for alignment. The tally gets choices, H, M, log lines, the log's bytes and the formula's.
+#[no_mangle]
+pub extern "C" fn sirgholyn_reencode(
+    text: &[u8],
+    form: u32,
+    wish: u32,
+    work: &mut [i32],
+    log: &mut [u8],
+    formula: &mut [u8],
+    tally: &mut [u64],
+) -> u32
+    ensures number { λ r. ⌜ r ≡ number-of (reencode (settings-number form wish) (length (now (work .entry))) (length (now (log .entry))) (length (now (formula .entry))) (now (text .entry))) ⌝ }
+    ensures log_after { λ _. ⌜ now (log .exit) ≡ buffer-after 0 (reencode (settings-number form wish) (length (now (work .entry))) (length (now (log .entry))) (length (now (formula .entry))) (now (text .entry))) (λ o. o .log) (now (log .entry)) ⌝ }
+    ensures formula_after { λ _. ⌜ now (formula .exit) ≡ buffer-after 0 (reencode (settings-number form wish) (length (now (work .entry))) (length (now (log .entry))) (length (now (formula .entry))) (now (text .entry))) (λ o. o .formula) (now (formula .entry)) ⌝ }
+    ensures counts { λ _. ⌜ now (tally .exit) ≡ tally-after (reencode (settings-number form wish) (length (now (work .entry))) (length (now (log .entry))) (length (now (formula .entry))) (now (text .entry))) reencoding-counts (now (tally .entry)) ⌝ }
+{
+    match reencoding::reencode(text, form_named(form), wish_named(wish), work, log, formula) {
+        Reencoding::Done(t) => {
+            put_done(tally, t);
+            0
+        }
+        Reencoding::Refused(n) => {
+            zero_counts(tally);
+            n as u32
+        }
+    }
+}
+
+// ---- walk-back
+
+// Walks a solver's answer back over the kept lines of a log to the formula. The tally gets the bytes of the line written.
+#[no_mangle]
+pub extern "C" fn sirgholyn_walk_back(
+    formula: &[u8],
+    log: &[u8],
+    kept: usize,
+    answer: &[u8],
+    work: &mut [i32],
+    out: &mut [u8],
+    tally: &mut [u64],
+) -> u32
+    ensures number { λ r. ⌜ r ≡ number-of (walk-back (length (now (work .entry))) (length (now (out .entry))) kept (now (formula .entry)) (now (log .entry)) (now (answer .entry))) ⌝ }
+    ensures buffer { λ _. ⌜ now (out .exit) ≡ buffer-after 0 (walk-back (length (now (work .entry))) (length (now (out .entry))) kept (now (formula .entry)) (now (log .entry)) (now (answer .entry))) (λ t. t) (now (out .entry)) ⌝ }
+    ensures counts { λ _. ⌜ now (tally .exit) ≡ tally-after (walk-back (length (now (work .entry))) (length (now (out .entry))) kept (now (formula .entry)) (now (log .entry)) (now (answer .entry))) walk-back-counts (now (tally .entry)) ⌝ }
+{
+    match walk_back::walk_back(formula, log, kept, answer, work, out) {
+        walk_back::WalkedBack::Line(n) => {
+            put_count(tally, 0, n as u64);
+            0
+        }
+        walk_back::WalkedBack::Refused(n) => {
+            zero_counts(tally);
+            n as u32
+        }
+    }
+}
+
+// ---- the new formula read back
+
+// Reads the new formula back into a store of clauses. The tally gets V, the clauses and the literals.
+#[no_mangle]
+pub extern "C" fn sirgholyn_read_back(text: &[u8], store: &mut [i32], tally: &mut [u64]) -> u32
+    ensures number { λ r. ⌜ r ≡ number-of (read-back (length (now (store .entry))) (now (text .entry))) ⌝ }
+    ensures buffer { λ _. ⌜ now (store .exit) ≡ buffer-after (pos 0) (read-back (length (now (store .entry))) (now (text .entry))) entries-of (now (store .entry)) ⌝ }
+    ensures counts { λ _. ⌜ now (tally .exit) ≡ tally-after (read-back (length (now (store .entry))) (now (text .entry))) read-back-counts (now (tally .entry)) ⌝ }
+{
+    match dimacs::read_back(text, store) {
+        dimacs::ReadBack::Read(v, c, l) => {
+            put_read(tally, v, c, l);
+            0
+        }
+        dimacs::ReadBack::Refused(n) => {
+            zero_counts(tally);
+            n as u32
+        }
+    }
+}

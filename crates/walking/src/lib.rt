@@ -10,7 +10,7 @@ ghost use Rattle.definition.specs.LogReading.{numbers-in};
 ghost use Rattle.definition.specs.Assignments.{satisfies, repaired, carried, carried-back};
 ghost use Rattle.definition.specs.Calls.{carry-answer};
 ghost use Rattle.answers.specs.Table.{marked};
-ghost use Rattle.clauses.specs.Store.{Formed, stored, entry, size-at, begins-with, place-of};
+ghost use Rattle.clauses.specs.Store.{Formed, stored, entry, header-at, size-at, past, begins-with, place-of};
 ghost use Rattle.walking.specs.Lines.{holds-at, Loaded, lines-in, line-at, past-line, Last-line};
 ghost use Rattle.clauses.specs.declared.Found.the-variants.{At};
 ghost use Rattle.literals.specs.Literal.{header-of};
@@ -20,28 +20,62 @@ ghost use Rattle.walking.specs.Carried.{input, tested-text, Carries};
 
 // ---- testing an assignment
 
-// Whether the clause at a place is deleted or has a true literal.
-fn holds_at(marks: &[u8], store: &[i32], at: usize) -> bool
-    requires { ⌜ (at < length (now store)) × Formed (drop at (now store)) ⌝ }
-    ensures { λ r. ⌜ r ≡ holds-at (marked (now (marks .entry))) (now (store .entry)) at ⌝ }
+// The header at a place of the store of read clauses or the store of added ones.
+fn header_in(read: &[i32], added: &[i32], is_added: bool, at: usize) -> i32
+    requires { ⌜ at < length (cond «is_added» (now added) (now read)) ⌝ }
+    ensures { λ r. ⌜ r ≡ header-at (cond «is_added» (now (added .entry)) (now (read .entry))) at ⌝ }
 {
-    if literals::is_negative(store[at]) {
-        return true;
+    if is_added {
+        return added[at];
     }
-    let next = clauses::next_at(store, at);
-    let first = at + 1;
-    answers::has_true(marks, &store[first..next])
+    read[at]
 }
 
-// Whether an assignment satisfies what stands in a store.
-pub fn satisfied(marks: &[u8], store: &[i32]) -> bool
-    requires { ⌜ Formed (now store) ⌝ }
-    ensures { λ r. ⌜ r ≡ satisfies (marked (now (marks .entry))) (stored (now (store .entry))) ⌝ }
+// The place past the entry at a place of one of the two stores.
+fn next_in(read: &[i32], added: &[i32], is_added: bool, at: usize) -> usize
+    requires { ⌜ at < length (cond «is_added» (now added) (now read)) ⌝ }
+    ensures { λ r. ⌜ r ≡ past (cond «is_added» (now (added .entry)) (now (read .entry))) at ⌝ }
 {
+    if is_added {
+        return clauses::next_at(added, at);
+    }
+    clauses::next_at(read, at)
+}
+
+// The length of one of the two stores.
+fn length_of(read: &[i32], added: &[i32], is_added: bool) -> usize
+    ensures { λ r. ⌜ r ≡ length (cond «is_added» (now (added .entry)) (now (read .entry))) ⌝ }
+{
+    if is_added {
+        return added.len();
+    }
+    read.len()
+}
+
+// Whether the clause at a place of one of the two stores is deleted or has a true literal.
+fn holds_at<'a>(marks: &[u8], read: &'a [i32], added: &'a [i32], is_added: bool, at: usize) -> bool
+    requires { ⌜ (at < length (cond «is_added» (now added) (now read))) × Formed (drop at (cond «is_added» (now added) (now read))) ⌝ }
+    ensures { λ r. ⌜ r ≡ holds-at (marked (now (marks .entry))) (cond «is_added» (now (added .entry)) (now (read .entry))) at ⌝ }
+{
+    let header = header_in(read, added, is_added, at);
+    if literals::is_negative(header) {
+        return true;
+    }
+    let n = literals::header_length(header);
+    let clause = clauses::clause_part(read, added, is_added, at + 1, n);
+    answers::has_true(marks, clause)
+}
+
+// Whether an assignment satisfies what stands in the store of read clauses or the store of added ones.
+pub fn satisfied<'a>(marks: &[u8], read: &'a [i32], added: &'a [i32], is_added: bool) -> bool
+    requires { ⌜ Formed (cond «is_added» (now added) (now read)) ⌝ }
+    ensures { λ r. ⌜ r ≡ satisfies (marked (now (marks .entry))) (stored (cond «is_added» (now (added .entry)) (now (read .entry)))) ⌝ }
+{
+    let end = length_of(read, added, is_added);
     let mut at = 0;
-    while at < store.len() {
-        if holds_at(marks, store, at) {
-            at = clauses::next_at(store, at);
+    while at < end {
+        if holds_at(marks, read, added, is_added, at) {
+            at = next_in(read, added, is_added, at);
         } else {
             return false;
         }
@@ -400,11 +434,17 @@ pub enum Carried {
 }
 
 // Tests an assignment against the formula and writes its line for the variables 1 to v.
-fn write_tested(out: &mut [u8], v: u32, formula: &[i32], marks: &[u8]) -> Carried
+fn write_tested<'a>(
+    out: &mut [u8],
+    v: u32,
+    formula: &'a [i32],
+    standing: &'a [i32],
+    marks: &[u8],
+) -> Carried
     requires { ⌜ (v < 2 ^ 31) × Formed (now formula) ⌝ }
     ensures { λ r. ⌜ Carries (tested-text (length (now (out .entry))) v (stored (now (formula .entry))) (marked (now (marks .entry)))) (now (out .entry)) r (now (out .exit)) ⌝ }
 {
-    if satisfied(marks, formula) {
+    if satisfied(marks, formula, standing, false) {
         let n = answers::write_answer(out, v, marks);
         if out.len() < n {
             return Carried::Fault(14);
@@ -415,20 +455,20 @@ fn write_tested(out: &mut [u8], v: u32, formula: &[i32], marks: &[u8]) -> Carrie
 }
 
 // Tests an answer against what stands, carries it back over the lines, tests it against the formula and writes its line.
-pub fn carry_answer(
+pub fn carry_answer<'a>(
     out: &mut [u8],
     v: u32,
-    formula: &[i32],
+    formula: &'a [i32],
     lines: &[i32],
-    standing: &[i32],
+    standing: &'a [i32],
     marks: &mut [u8],
 ) -> Carried
     requires { ⌜ (v < 2 ^ 31) × Formed (now formula) × Loaded (now lines) × Formed (now standing) × (highest-in (lines-in (now lines)) < length (now marks)) ⌝ }
     ensures { λ r. ⌜ Carries (carry-answer (length (now (out .entry))) (input v (stored (now (formula .entry)))) (lines-in (now (lines .entry))) (stored (now (standing .entry))) (marked (now (marks .entry)))) (now (out .entry)) r (now (out .exit)) ⌝ }
 {
-    if satisfied(marks, standing) {
+    if satisfied(marks, formula, standing, true) {
         carry_back(marks, lines);
-        return write_tested(out, v, formula, marks);
+        return write_tested(out, v, formula, standing, marks);
     }
     Carried::Fault(44)
 }

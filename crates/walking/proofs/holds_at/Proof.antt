@@ -1,71 +1,59 @@
-use mathlib.Core.Path.{_≡_, ap, _∙_}
-use Prim.Native.Nat.{ℕ, _+_, _-_}
+use mathlib.Core.Path.{_≡_, sym, ap, _∙_}
+use mathlib.Core.Bool.{cond}
+use Prim.Native.Nat.{ℕ, _+_, _<_}
 use native.Mathlib.Omega.{arith}
-use borrow.Author.Needs.{sfits-of}
-use lib.ListN.{take, drop}
+use lib.ListN.{length, take, drop}
 use denote.Ref.{now}
+use borrow.Author.Needs.{needs, sfits-of}
 use Rattle.definition.specs.Assignments.{has-true}
-use Rattle.literals.specs.Literal.{negative}
-use Rattle.literals.proofs.Laws.{answered}
-use Rattle.clauses.specs.Store.{header-at, size-at}
-use Rattle.clauses.proofs.Laws.{formed-next}
+use Rattle.laws.proofs.Tests.{by-test}
+use Rattle.literals.specs.Literal.{negative, header-literals}
+use Rattle.literals.proofs.Laws.{answer, answered}
+use Rattle.clauses.specs.Store.{size-at}
+use Rattle.clauses.proofs.Laws.{part-within}
 use Rattle.answers.specs.Table.{marked}
 use Rattle.walking.proofs.Carrying.{holds-deleted, holds-standing}
-use borrow.Author.Needs.{needs}
 use Rattle.walking.proofs.holds_at.Statement.{statement}
 use Rattle.walking.proofs.holds_at.Tie as tie
 
-mul-is-negative : tie.Need-mul-is-negative
-mul-is-negative c = search needs
-
-shared-slice-copy-out-is-negative : tie.Need-shared-slice-copy-out-is-negative
-shared-slice-copy-out-is-negative c = search needs
+header-in-requires : tie.Need-header-in-requires
+header-in-requires c κs = search needs
 
 is-negative-requires : tie.Need-is-negative-requires
 is-negative-requires c κs = search needs
 
 returns : tie.Need-returns
-returns c = let s = now (c .before .before .before .before .args .store) in let at = c .before .before .before .before .args .at in holds-deleted (marked (now (c .before .before .before .before .args .marks))) s at (answered negative (header-at s at) (sfits-of (c .before .before .is-negative-arg .given)) (c .before .is-negative .ensures) (c .if1 .taken))
+returns c = let a = c .before .before .before .before .args in holds-deleted (marked (now (a .marks))) (cond (a .is-added) (now (a .added)) (now (a .read))) (a .at) (sym (ap negative (c .before .before .header-in .ensures)) ∙ answered negative (c .before .before .header-in .result) (sfits-of (c .before .before .header-in .ok)) (c .before .is-negative .ensures) (c .if1 .taken))
 
-next-at-requires : tie.Need-next-at-requires
-next-at-requires c κs = search needs
+header-length-requires : tie.Need-header-length-requires
+header-length-requires c κs = search needs
 
-add-first : tie.Need-add-first
-add-first c = search needs
+add-clause-part : tie.Need-add-clause-part
+add-clause-part c = let a = c .before .before .before .before .before .args in by-test (a .is-added) (λ e. let h : a .at < length (now (a .added)) = rw e at (c .before .before .before .before .before .pre .0) in omega arith) (λ e. let h : a .at < length (now (a .read)) = rw e at (c .before .before .before .before .before .pre .0) in omega arith)
 
-mul-has-true : tie.Need-mul-has-true
-mul-has-true c = search needs
-
-sub-has-true : tie.Need-sub-has-true
-sub-has-true c = search needs
-
-part-has-true-start : tie.Need-part-has-true-start
-part-has-true-start c = search needs
-
-part-has-true-end : tie.Need-part-has-true-end
-part-has-true-end c = omega (arith, c .next-at .ensures, formed-next (now (c .before .before .before .before .before .args .store)) (c .before .before .before .before .before .args .at) (c .before .before .before .before .before .pre .0) (c .before .before .before .before .before .pre .1) .0)
+clause-part-requires : tie.Need-clause-part-requires
+clause-part-requires c κs = let a = c .before .before .before .before .before .args in let s = cond (a .is-added) (now (a .added)) (now (a .read)) in
+    let e : c .header-length .result ≡ size-at s (a .at) = answer header-literals (c .before .before .before .header-in .result) (sfits-of (c .before .before .before .header-in .ok)) (c .header-length .ensures) ∙ ap header-literals (c .before .before .before .header-in .ensures) in
+    rw e (part-within s (a .at) (c .before .before .before .before .before .pre .0) (c .before .before .before .before .before .pre .1))
 
 has-true-requires : tie.Need-has-true-requires
 has-true-requires c κs = search needs
 
 returns-2 : tie.Need-returns-2
-returns-2 c = let s = now (c .before .before .before .before .before .before .before .args .store) in let at = c .before .before .before .before .before .before .before .args .at in
-    let e : c .before .before .next-at .result - (at + 1) ≡ size-at s at = omega (arith, c .before .before .next-at .ensures) in
-    c .has-true .ensures ∙ ap (λ (k : ℕ). has-true (marked (now (c .before .before .before .before .before .before .before .args .marks))) (take k (drop (at + 1) s))) e ∙ holds-standing (marked (now (c .before .before .before .before .before .before .before .args .marks))) s at (answered negative (header-at s at) (sfits-of (c .before .before .before .before .before .is-negative-arg .given)) (c .before .before .before .before .is-negative .ensures) (c .before .before .before .if1 .left))
+returns-2 c = let a = c .before .before .before .before .before .before .before .args in let s = cond (a .is-added) (now (a .added)) (now (a .read)) in let m = marked (now (a .marks)) in
+    c .has-true .ensures
+    ∙ ap (has-true m) (c .before .clause-part .ensures ∙ ap (λ (k : ℕ). take k (drop (a .at + 1) s)) (answer header-literals (c .before .before .before .before .before .header-in .result) (sfits-of (c .before .before .before .before .before .header-in .ok)) (c .before .before .header-length .ensures) ∙ ap header-literals (c .before .before .before .before .before .header-in .ensures)))
+    ∙ holds-standing m s (a .at) (sym (ap negative (c .before .before .before .before .before .header-in .ensures)) ∙ answered negative (c .before .before .before .before .before .header-in .result) (sfits-of (c .before .before .before .before .before .header-in .ok)) (c .before .before .before .before .is-negative .ensures) (c .before .before .before .if1 .left))
 
 pub holds-at-spec : {M : Type 1} → statement M
 holds-at-spec =
     tie.close
     (tie.spec
-    mul-is-negative
-    shared-slice-copy-out-is-negative
+    header-in-requires
     is-negative-requires
     returns
-    next-at-requires
-    add-first
-    mul-has-true
-    sub-has-true
-    part-has-true-start
-    part-has-true-end
+    header-length-requires
+    add-clause-part
+    clause-part-requires
     has-true-requires
     returns-2)

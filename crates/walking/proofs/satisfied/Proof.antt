@@ -1,8 +1,10 @@
 use mathlib.Core.Path.{_≡_, refl, sym, _∙_}
-use Prim.Native.Nat.{_-_, _≤_}
+use mathlib.Core.Bool.{cond}
+use Prim.Native.Nat.{_-_, _≤_, _<_}
 use native.Mathlib.Omega.{arith}
 use lib.ListN.{length, drop}
 use denote.Ref.{now}
+use borrow.Author.Needs.{needs}
 use Rattle.definition.specs.Assignments.{satisfies}
 use Rattle.clauses.specs.Store.{Formed, stored}
 use Rattle.clauses.proofs.Laws.{formed-next}
@@ -12,33 +14,41 @@ use Rattle.walking.proofs.satisfied.Statement.{statement}
 use Rattle.walking.proofs.satisfied.Tie as tie
 
 abbrev Inv-loop : tie.InvT-loop
-Inv-loop marks store at₀ at = (at ≤ length store) × Formed (drop at store) × (satisfies (marked marks) (stored (drop at store)) ≡ satisfies (marked marks) (stored store))
+Inv-loop marks read added is-added end at₀ at = (at ≤ length (cond is-added added read)) × Formed (drop at (cond is-added added read)) × (satisfies (marked marks) (stored (drop at (cond is-added added read))) ≡ satisfies (marked marks) (stored (cond is-added added read)))
 
 abbrev μ-loop : tie.MeasureT-loop
-μ-loop marks store at₀ at = length store - at
+μ-loop marks read added is-added end at₀ at = end - at
+
+length-of-requires : tie.Need-length-of-requires Inv-loop μ-loop
+length-of-requires c κs = search needs
 
 loop-holds : tie.Need-loop-holds Inv-loop μ-loop
-loop-holds c = (omega arith, c .before .pre, refl)
+loop-holds c = (omega arith, c .before .before .pre, refl)
 
 holds-at-requires : tie.Need-holds-at-requires Inv-loop μ-loop
-holds-at-requires c κs = (c .loop-test .taken, c .before .loop .inv .1)
+holds-at-requires c κs = (omega (arith, c .loop-test .taken, c .before .before .length-of .ensures), c .before .loop .inv .1)
 
-next-at-requires : tie.Need-next-at-requires Inv-loop μ-loop
-next-at-requires c κs = c .before .before .loop-test .taken
+next-in-requires : tie.Need-next-in-requires Inv-loop μ-loop
+next-in-requires c κs = omega (arith, c .before .before .loop-test .taken, c .before .before .before .before .length-of .ensures)
 
 loop-less : tie.Need-loop-less Inv-loop μ-loop
-loop-less c = omega (arith, c .next-at .ensures)
+loop-less c = omega (arith, c .next-in .ensures, c .before .before .before .loop-test .taken)
 
 loop-again : tie.Need-loop-again Inv-loop μ-loop
-loop-again c = let s = now (c .before .before .before .before .before .before .args .store) in let at = c .before .before .before .before .loop .at in
-    let f = formed-next s at (c .before .before .before .loop-test .taken) (c .before .before .before .before .loop .inv .1) in
-    rw (c .next-at .ensures) (f .0, f .1, satisfied-more (marked (now (c .before .before .before .before .before .before .args .marks))) s at (c .before .before .before .loop-test .taken) (sym (c .before .before .holds-at .ensures) ∙ c .before .if1 .taken) ∙ c .before .before .before .before .loop .inv .2)
+loop-again c = let a = c .before .before .before .before .before .before .before .args in let s = cond (a .is-added) (now (a .added)) (now (a .read)) in let at = c .before .before .before .before .loop .at in
+    let inside : at < length s = omega (arith, c .before .before .before .loop-test .taken, c .before .before .before .before .before .length-of .ensures) in
+    let f = formed-next s at inside (c .before .before .before .before .loop .inv .1) in
+    rw (c .next-in .ensures) (f .0, f .1, satisfied-more (marked (now (a .marks))) s at inside (sym (c .before .before .holds-at .ensures) ∙ c .before .if1 .taken) ∙ c .before .before .before .before .loop .inv .2)
 
 returns : tie.Need-returns Inv-loop μ-loop
-returns c = satisfied-not (marked (now (c .before .before .before .before .before .args .marks))) (now (c .before .before .before .before .before .args .store)) (c .before .before .before .loop .at) (c .before .before .loop-test .taken) (sym (c .before .holds-at .ensures) ∙ c .if1 .left) ∙ c .before .before .before .loop .inv .2
+returns c = let a = c .before .before .before .before .before .before .args in let s = cond (a .is-added) (now (a .added)) (now (a .read)) in let at = c .before .before .before .loop .at in
+    let inside : at < length s = omega (arith, c .before .before .loop-test .taken, c .before .before .before .before .length-of .ensures) in
+    satisfied-not (marked (now (a .marks))) s at inside (sym (c .before .holds-at .ensures) ∙ c .if1 .left) ∙ c .before .before .before .loop .inv .2
 
 returns-2 : tie.Need-returns-2 Inv-loop μ-loop
-returns-2 c = satisfied-end (marked (now (c .before .before .before .args .marks))) (now (c .before .before .before .args .store)) (c .before .loop .at) (c .loop-test .left) ∙ c .before .loop .inv .2
+returns-2 c = let a = c .before .before .before .before .args in let s = cond (a .is-added) (now (a .added)) (now (a .read)) in let at = c .before .loop .at in
+    let past : length s ≤ at = omega (arith, c .loop-test .left, c .before .before .length-of .ensures) in
+    satisfied-end (marked (now (a .marks))) s at past ∙ c .before .loop .inv .2
 
 pub satisfied-spec : {M : Type 1} → statement M
 satisfied-spec =
@@ -46,9 +56,10 @@ satisfied-spec =
     (tie.spec
     Inv-loop
     μ-loop
+    length-of-requires
     loop-holds
     holds-at-requires
-    next-at-requires
+    next-in-requires
     loop-less
     loop-again
     returns

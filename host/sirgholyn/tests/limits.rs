@@ -253,3 +253,28 @@ fn tallies_of_any_length() {
         library::sirgholyn_read_back(t.as_ptr(), t.len(), s.as_mut_ptr(), s.len(), tally, room)
     });
 }
+
+#[test]
+fn tally_zero_after_a_refusal() {
+    for (text, room, number) in [
+        (&b"p cnf 1 1\n2 0\n"[..], 9_000, 4),
+        (&b"p cnf 1 1\n1 0\n"[..], 1, 11),
+    ] {
+        let (mut store, mut tally) = (vec![77; room], vec![77; 5]);
+        let (s, t) = (&mut store, &mut tally);
+        // SAFETY: each pointer and length are those of one slice.
+        let answer = on_large_stack(move || unsafe {
+            library::sirgholyn_read_back(
+                text.as_ptr(),
+                text.len(),
+                s.as_mut_ptr(),
+                s.len(),
+                t.as_mut_ptr(),
+                t.len(),
+            )
+        });
+        assert_eq!(answer, number);
+        assert!(tally.iter().all(|&count| count == 0));
+        assert!(store.iter().all(|&entry| entry == 0));
+    }
+}

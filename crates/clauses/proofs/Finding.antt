@@ -1,14 +1,14 @@
 -- The first standing clause with the same set of literals: what its place says, and what stands once it is deleted. Assumes nothing.
 use mathlib.Core.Path.{_≡_, refl, sym, ap, subst, _∙_}
-use mathlib.Core.Bool.{Bool, true, false, cond}
+use mathlib.Core.Bool.{Bool, true, false, cond, and-comm}
 use mathlib.Core.List.{List, [], _∷_, _++_}
 use Prim.Native.Nat.{ℕ, zero, suc, _+_, _≤_, _<_}
 use native.Mathlib.Omega.{arith}
 use lib.IntN.{ℤ, pos, negsuc}
 use lib.ListN.{length, take, drop}
 use lib.Seq.{take-take}
-use Rattle.definition.specs.Lists.{any}
-use Rattle.definition.specs.Literals.{Clause, Formula, same-set}
+use Rattle.definition.specs.Lists.{any, all}
+use Rattle.definition.specs.Literals.{Clause, Formula, holds, same-set}
 use Rattle.definition.specs.Standing.{stands, take-out}
 use Rattle.laws.proofs.Tests.{differ}
 use Rattle.literals.specs.Literal.{header-literals}
@@ -23,6 +23,11 @@ unfolding place-from
 place-skip c zero at s = ap (λ (n : ℕ). place-from c 0 n s) (omega arith)
 place-skip c (suc k) at [] = refl
 place-skip c (suc k) at (x ∷ s) = place-skip c k (at + 1) s ∙ ap (λ (n : ℕ). place-from c 0 n (drop k s)) (omega arith)
+
+-- belongs in crate laws
+pub same-set-swap : (c d : Clause) → same-set c d ≡ same-set d c
+unfolding same-set
+same-set-swap c d = and-comm (all (λ (l : ℤ). holds l d) c) (all (λ (l : ℤ). holds l c) d)
 
 -- ---- the loop
 module _ (s : List ℤ) (at : ℕ) (h : at < length s) (c : Clause) where

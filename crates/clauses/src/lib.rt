@@ -185,11 +185,43 @@ fn find_marked(store: &[i32], marks: &[u8], clause: &[i32]) -> Found
     Found::Nothing
 }
 
-// The place of the first standing clause with the same set of literals. The marks reach up to variable 70,000.
+// Whether the clause at a place stands and has the same set of literals; the entry is walked first, so that most entries fail at their first literal.
+fn matches_plain(store: &[i32], at: usize, clause: &[i32]) -> bool
+    requires { ⌜ at < length (now store) ⌝ }
+    requires { ⌜ Formed (drop at (now store)) ⌝ }
+    ensures { λ r. ⌜ r ≡ begins-with (now (clause .entry)) (drop at (now (store .entry))) ⌝ }
+{
+    if literals::is_negative(store[at]) {
+        return false;
+    }
+    let next = next_at(store, at);
+    let first = at + 1;
+    same_set(&store[first..next], clause)
+}
+
+// The place of the first standing clause with the same set of literals, without marks.
+fn find_plain(store: &[i32], clause: &[i32]) -> Found
+    requires { ⌜ Formed (now store) ⌝ }
+    ensures { λ r. ⌜ r ≡ place-of (now (clause .entry)) (now (store .entry)) ⌝ }
+{
+    let mut at = 0;
+    while at < store.len() {
+        if matches_plain(store, at, clause) {
+            return Found::At(at);
+        }
+        at = next_at(store, at);
+    }
+    Found::Nothing
+}
+
+// The place of the first standing clause with the same set of literals. A clause of more than 16 literals is marked in a table, which reaches up to variable 70,000.
 pub fn find_same_set(store: &[i32], clause: &[i32]) -> Found
     requires { ⌜ Formed (now store) ⌝ }
     ensures { λ r. ⌜ r ≡ place-of (now (clause .entry)) (now (store .entry)) ⌝ }
 {
+    if clause.len() <= 16 {
+        return find_plain(store, clause);
+    }
     let mut marks = [0u8; 140002];
     mark_literals(&mut marks, clause);
     find_marked(store, &marks, clause)

@@ -5,3 +5,4 @@ pub mod Texts
 pub mod WayBack
 pub mod Steps
 pub mod Premise
+pub mod Refusals

@@ -2,3 +2,4 @@
 pub mod Demand3
 pub mod Texts
 pub mod WayBack
+pub mod Refusals

@@ -4,6 +4,12 @@ use borrow.Author.Needs.{needs}
 use Rattle.clauses.proofs.find_same_set.Statement.{statement}
 use Rattle.clauses.proofs.find_same_set.Tie as tie
 
+find-plain-requires : tie.Need-find-plain-requires
+find-plain-requires c κs = search needs
+
+returns : tie.Need-returns
+returns c = search needs
+
 slice-aggregate-mark-literals : tie.Need-slice-aggregate-mark-literals
 slice-aggregate-mark-literals c = search needs
 
@@ -14,17 +20,19 @@ slice-aggregate-find-marked : tie.Need-slice-aggregate-find-marked
 slice-aggregate-find-marked c = search needs
 
 find-marked-requires : tie.Need-find-marked-requires
-find-marked-requires c κs = (c .before .before .before .before .pre, rw (c .before .before .mark-literals .ensures) (marks-of 140002 (now (c .before .before .before .before .args .clause))))
+find-marked-requires c κs = (c .before .before .before .before .before .pre, rw (c .before .before .mark-literals .ensures) (marks-of 140002 (now (c .before .before .before .before .before .args .clause))))
 
-returns : tie.Need-returns
-returns c = search needs
+returns-2 : tie.Need-returns-2
+returns-2 c = search needs
 
 pub find-same-set-spec : {M : Type 1} → statement M
 find-same-set-spec =
     tie.close
     (tie.spec
+    find-plain-requires
+    returns
     slice-aggregate-mark-literals
     mark-literals-requires
     slice-aggregate-find-marked
     find-marked-requires
-    returns)
+    returns-2)

@@ -1,16 +1,15 @@
 -- What the tables say, and what alignment needs and gives.
 use mathlib.Core.Path.{_≡_}
-use mathlib.Core.Bool.{Bool, not, _&&_}
 use mathlib.Core.List.{List, map}
 use Prim.Native.Nat.{ℕ, _+_, _≤_, _<_}
 use lib.IntN.{ℤ, natAbs}
 use lib.ListN.{length, getD}
-use Rattle.definition.specs.Lists.{any}
-use Rattle.definition.specs.Literals.{Clause, Formula, holds}
-use Rattle.definition.specs.Alignment.{alignment, choice-literals, Chain, sorted, arranged}
+use Rattle.definition.specs.Literals.{Clause, Formula}
+use Rattle.definition.specs.Alignment.{alignment, Chain, sorted, arranged}
 use Rattle.laws.proofs.Members.{Proper-all, Fits, Parted}
 use Rattle.clauses.specs.Store.{Formed, stored}
 use Rattle.pure_clauses.specs.Pass.{reach}
+use Rattle.alignment.proofs.Groups.{apart}
 use Rattle.aligning.specs.Tables.{entry-of, linked-by}
 
 -- ---- the choice of each literal
@@ -21,10 +20,6 @@ pub record Ownable (chosen : List ℤ) (t : List ℕ) : Type 0 where
   pub parted : Parted (stored chosen)
   pub size : reach + reach + 2 ≤ length t
   pub none-yet : (l : ℤ) → natAbs l ≤ reach → entry-of t l ≡ 0
-
--- two literals of different choices
-abbrev pub apart : List Clause → ℤ → ℤ → Bool
-apart cs a b = holds a (choice-literals cs) && holds b (choice-literals cs) && not (any (λ c. holds a c && holds b c) cs)
 
 -- the table says which literals are of different choices
 abbrev pub Owned : List Clause → List ℕ → Type 0

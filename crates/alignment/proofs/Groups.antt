@@ -20,20 +20,20 @@ stands-pair-turned x y f t =
     let r = any-mem (same-set (x ∷ y ∷ [])) f t in
     stands-same (y ∷ x ∷ []) (r .0) f (r .1) (same-joined (pair-turned y x) (same-set-same (x ∷ y ∷ []) (r .0) (r .2)))
 
+-- two literals of different choices
+abbrev pub apart : List Clause → ℤ → ℤ → Bool
+apart cs a b = holds a (choice-literals cs) && holds b (choice-literals cs) && not (any (λ c. holds a c && holds b c) cs)
+
+pub apart-turned : (cs : List Clause) (a b : ℤ) → apart cs a b ≡ apart cs b a
+apart-turned cs a b =
+    rw (and-comm (holds a (choice-literals cs)) (holds b (choice-literals cs)), fun-ext (λ (c : Clause). and-comm (holds a c) (holds b c)))
+
 module _ (f : Formula) (cs : List Clause) where
-  -- two literals of different choices
-  abbrev apart : ℤ → ℤ → Bool
-  apart a b = holds a (choice-literals cs) && holds b (choice-literals cs) && not (any (λ c. holds a c && holds b c) cs)
-
-  apart-turned : (a b : ℤ) → apart a b ≡ apart b a
-  apart-turned a b =
-      rw (and-comm (holds a (choice-literals cs)) (holds b (choice-literals cs)), fun-ext (λ (c : Clause). and-comm (holds a c) (holds b c)))
-
   linked-turned : (a b : ℤ) → T (linked f cs a b) → T (linked f cs b a)
   unfolding linked
   linked-turned a b t =
-      and-i (apart b a) (stands (negℤ b ∷ negℤ a ∷ []) f) (rw (apart-turned a b) at (and-l (apart a b) _ t))
-      (stands-pair-turned (negℤ a) (negℤ b) f (and-r (apart a b) _ t))
+      and-i (apart cs b a) (stands (negℤ b ∷ negℤ a ∷ []) f) (rw (apart-turned cs a b) at (and-l (apart cs a b) _ t))
+      (stands-pair-turned (negℤ a) (negℤ b) f (and-r (apart cs a b) _ t))
 
   -- a chain is an equivalence
   pub chain-joined : {a b d : ℤ} → Chain f cs a b → Chain f cs b d → Chain f cs a d
@@ -57,7 +57,7 @@ module _ (f : Formula) (cs : List Clause) where
   unfolding links linked
   linked-links a b t =
       let ls = choice-literals cs in
-      let both = and-l (holds a ls && holds b ls) _ (and-l (apart a b) _ t) in
+      let both = and-l (holds a ls && holds b ls) _ (and-l (apart cs a b) _ t) in
       mem-for-each ls _ a (a, b) (holds-mem a ls (and-l (holds a ls) _ both))
       (mem-for-each ls _ b (a, b) (holds-mem b ls (and-r (holds a ls) _ both)) (mem-only-if (linked f cs a b) ((a, b) ∷ []) (a, b) t (here refl)))
 

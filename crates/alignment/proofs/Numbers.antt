@@ -75,7 +75,7 @@ noted-absent gs p h n m = go (holds p gs)
     go true i = n i
     go false i = ⊎-elim n (λ j. m (List·Memᴰ·eq-of-singleton j)) (List·Memᴰ·append-cases gs i)
 
-mem-met : (gs hs : Clause) (g : ℤ) → List·Memᴰ g gs ⊎ List·Memᴰ g hs → List·Memᴰ g (met gs hs)
+pub mem-met : (gs hs : Clause) (g : ℤ) → List·Memᴰ g gs ⊎ List·Memᴰ g hs → List·Memᴰ g (met gs hs)
 unfolding met
 mem-met gs [] g i = ⊎-elim (λ j. j) (λ j. absurd (List·Memᴰ·not-nil j)) i
 mem-met gs (p ∷ hs) g i = mem-met (noted gs p) hs g (noted-mem gs p hs g i)

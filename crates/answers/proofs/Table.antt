@@ -20,6 +20,7 @@ use Rattle.definition.specs.Calls.{assigned}
 use Rattle.laws.proofs.Tests.{differ}
 use Rattle.laws.proofs.Members.{unlike-false, holds-snoc}
 use Rattle.literals.specs.Literal.{negative}
+use Rattle.laws.proofs.Slices.{getD-zeros}
 use Rattle.answers.specs.Table.{Table, marked, entry-of, naming}
 
 -- ---- the assignment
@@ -34,14 +35,9 @@ no-entry : (l : ℤ) → eqb 0 (entry-of l) ≡ false
 no-entry (pos n) = refl
 no-entry (negsuc n) = refl
 
-blank-entry : (n v : ℕ) → getD {A = ℕ} (replicate n 0) v 0 ≡ 0
-blank-entry zero v = refl
-blank-entry (suc n) zero = refl
-blank-entry (suc n) (suc v) = blank-entry n v
-
 pub table-start : (n : ℕ) → Table [] (replicate n 0)
 unfolding holds any
-table-start n = record { names = λ l. rw (blank-entry n (natAbs l)) (sym (no-entry l)); at-most = λ v. omega (arith, blank-entry n v) }
+table-start n = record { names = λ l. rw (getD-zeros n (natAbs l)) (sym (no-entry l)); at-most = λ v. omega (arith, getD-zeros n v) }
 
 -- ---- whether a variable is named is one look at its entry
 

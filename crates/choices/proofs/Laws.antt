@@ -1,6 +1,6 @@
 -- The walk over the store: the choices before a place are in the list. Assumes nothing.
 use mathlib.Core.Path.{_≡_, refl, sym, ap, _∙_}
-use mathlib.Core.Bool.{Bool, true, false, cond, _&&_}
+use mathlib.Core.Bool.{Bool, true, false, _&&_}
 use mathlib.Core.List.{List, [], _∷_, _++_, append-nil, List·Memᴰ·head as here, Memᴰ·append-right}
 use Prim.Native.Nat.{ℕ, _+_, _-_, _≤_, _<_}
 use native.Mathlib.Omega.{arith}
@@ -19,22 +19,12 @@ use Rattle.laws.proofs.Clauses.{numbers-none, numbers-first, numbers-++}
 use Rattle.clauses.specs.Store.{Formed, stored, deleted-at, clause-at, past, Place, end-after, with-entry}
 use Rattle.clauses.specs.Tally.{tallied-all}
 use Rattle.clauses.specs.declared.Added.the-variants.{To, Full}
-use Rattle.clauses.proofs.Laws.{stored-none, stored-split, place-start, place-next, stored-around, prefix-deleted, prefix-stands, appended, fits-within}
+use Rattle.clauses.proofs.Laws.{stored-none, stored-split, place-start, place-next, stored-around, prefix-deleted, prefix-stands, appended, fits-within, part-there}
 use Rattle.pure_clauses.specs.Table.{unique-by}
 use Rattle.pure_clauses.specs.Pass.{reach}
 use Rattle.pure_clauses.proofs.Tests.{unique-is, counted-table}
-use Rattle.pure_clauses.proofs.Pass.{part-there}
+use Rattle.laws.proofs.Members.{those-++}
 use Rattle.choices.specs.Collecting.{choice-by, chosen-at, Joined, Walkable, Collectable, Collected}
-
--- ---- those that pass, of two lists  -- belongs in crate laws
-pub those-++ : {A : Type 0} (p : A → Bool) (xs ys : List A) → those p (xs ++ ys) ≡ those p xs ++ those p ys
-unfolding those
-those-++ p [] ys = refl
-those-++ {A} p (x ∷ xs) ys = go (p x) (those-++ p xs ys)
-  where
-    go : (b : Bool) → those p (xs ++ ys) ≡ those p xs ++ those p ys → cond b (x ∷ those p (xs ++ ys)) (those p (xs ++ ys)) ≡ cond b (x ∷ those p xs) (those p xs) ++ those p ys
-    go true e = cc
-    go false e = e
 
 -- ---- the test of a clause, by its length
 

@@ -21,11 +21,10 @@ use Rattle.soundness.proofs.Times.{times-++, times-cons, times-at, holds-yes, u
 use Rattle.clauses.specs.Store.{stored, deleted-at, clause-at, past, Place}
 use Rattle.laws.proofs.Slices.{drop-step, drop-end}
 use Rattle.clauses.proofs.Marking.{set-at}
-use Rattle.clauses.proofs.Laws.{stored-none, place-start, place-next, stored-around, prefix-deleted, prefix-stands}
+use Rattle.clauses.proofs.Laws.{stored-none, place-start, place-next, stored-around, prefix-deleted, prefix-stands, part-there}
 use Rattle.pure_clauses.specs.Table.{Counts, unique-by}
 use Rattle.pure_clauses.specs.Pass.{reach}
 use Rattle.pure_clauses.proofs.Tests.{unique-is}
-use Rattle.pure_clauses.proofs.Pass.{part-there}
 use Rattle.clash_clearing.specs.Places.{with-places, placed-at, Tells, Placed, Countable}
 
 -- ---- the literals of a clause

@@ -1,7 +1,7 @@
 -- The two clauses of a clash in the store: what stands when they are deleted. Assumes nothing.
 use mathlib.Core.Path.{_≡_, refl, sym, ap, ap₂, subst, _∙_}
 use mathlib.Core.Logic.{_≢_}
-use mathlib.Core.List.{List, [], _∷_, _++_, List·Memᴰ, List·Memᴰ·head as here, Memᴰ·append-right}
+use mathlib.Core.List.{List, [], _∷_, List·Memᴰ, List·Memᴰ·head as here, Memᴰ·append-right}
 use Prim.Native.Nat.{ℕ, _+_, _-_, _≤_, _<_, _^_}
 use native.Mathlib.Omega.{arith}
 use lib.Dec.{ltb}
@@ -9,33 +9,24 @@ use lib.IntN.{ℤ, pos, negℤ}
 use lib.ListN.{length, take, drop, set, length-set}
 use lib.Seq.{length-take-le, take-set-le, take-set-lt, getD-set-other}
 use borrow.Author.Tests.{ltb-true, ltb-false}
-use Rattle.definition.specs.Lists.{bit}
-use Rattle.definition.specs.Literals.{Clause, Formula, with-first}
+use Rattle.definition.specs.Literals.{Clause, with-first}
 use Rattle.definition.specs.Text.{Bytes}
 use Rattle.definition.specs.Standing.{deletion, take-out, changed, after}
 use Rattle.definition.specs.Clearing.{times}
-use Rattle.laws.proofs.Tests.{to-false, by-test}
+use Rattle.laws.proofs.Tests.{by-test}
 use Rattle.laws.proofs.Loops.{by-order}
-use Rattle.laws.proofs.Members.{same-set-same}
-use Rattle.laws.proofs.Removal.{Removed, removed-at, removed-take-out}
-use Rattle.soundness.proofs.Times.{holds-yes, times-++, times-cons, times-at, times-removed, none-times}
-use Rattle.soundness.proofs.Without.{first-same}
+use Rattle.laws.proofs.Removal.{Removed, removed-take-out}
+use Rattle.soundness.proofs.Times.{times-at, times-removed}
+use Rattle.soundness.proofs.Without.{only-removed}
 use Rattle.literals.specs.Literal.{negative, header-literals, flip}
-use Rattle.clauses.specs.Store.{Formed, stored, header-at, clause-at, past, marked, Place}
-use Rattle.clauses.proofs.Laws.{place-within, place-formed, place-prefix, prefix-header, formed-next, stored-around, marked-stored, marked-place, marked-before, marked-behind, kept-clause}
+use Rattle.clauses.specs.Store.{Formed, stored, header-at, clause-at, past, marked}
+use Rattle.clauses.proofs.Laws.{place-within, place-formed, place-prefix, prefix-header, stored-around, marked-stored, marked-place, marked-before, marked-behind, kept-clause, past-within}
 use Rattle.recording.specs.declared.Progress.{Progress}
 use Rattle.recording.specs.Progress.{Written, Log-room}
 use Rattle.recording.proofs.Laws.{written-then, room-rest}
 use Rattle.clash_clearing.specs.Resolving.{Standing, Parents, clash-there, parent-lines, Parents-gone}
 
 -- ---- two places
-
--- an entry ends where a later one begins, or before; belongs in crate clauses
-pub past-within : {s : List ℤ} {x y : ℕ} → Place s x → Place s y → x < y → past s x ≤ y
-past-within {s} {x} {y} p q h =
-    let n : length (take y s) ≡ y = length-take-le y s (q .inside) in
-    let r = formed-next (take y s) x (omega arith) (place-prefix q p (omega arith) .rest) .0 in
-    omega (arith, r, n, ap header-literals (prefix-header s y x h (q .inside)))
 
 -- the clause at y stays where the one at x is deleted
 pub record Stays (s : List ℤ) (x y : ℕ) : Type 0 where
@@ -98,15 +89,6 @@ module _ {s : List ℤ} {x y : ℕ} (p : Standing s x) (q : Standing s y) where
       less h = by-order y x h (λ e. absurd (n e)) (λ l. l)
 
 -- ---- the only clause with a literal is deleted
-
--- belongs in crate soundness; clearing's pure-removed is an instance
-only-removed : (l : ℤ) (c : Clause) (X R : Formula) → List·Memᴰ l c → times l (X ++ (c ∷ R)) ≡ 1 → Removed (with-first l c) (X ++ (c ∷ R)) (X ++ R)
-unfolding with-first
-only-removed l c X R i e =
-    removed-at (with-first l c) c X R (first-same l c i) (λ k j. to-false (λ t. none-times l X absent k j (same-set-same (with-first l c) k t .0 l (here refl))))
-  where
-    absent : times l X ≡ 0
-    absent = omega (arith, e, times-++ l X (c ∷ R), times-cons l c R, ap bit (holds-yes l c i))
 
 pub once-removed : {s : List ℤ} {at : ℕ} (l : ℤ) → Standing s at → List·Memᴰ l (clause-at s at) → times l (stored s) ≡ 1 → Removed (with-first l (clause-at s at)) (stored s) (stored (marked s at))
 once-removed {s} {at} l p i e =

@@ -7,13 +7,13 @@ use native.Mathlib.Omega.{arith}
 use native.Mathlib.Numerals.{add-one}
 use lib.IntN.{ℤ, pos}
 use lib.ListN.{length, getD, set, take, drop, length-append, length-take, length-drop, length-set, take-append-drop}
-use lib.Seq.{take-suc, take-take, take-add, drop-at, length-take-le, getD-drop, getD-take, sets, length-sets}
+use lib.Seq.{take-suc, take-take, getD-drop, sets, length-sets}
 use mir.Syntax.{w32}
 use mir.Val.{SFits, ofZ, toZ}
 use Rattle.definition.specs.Lists.{those}
 use Rattle.definition.specs.Literals.{Clause, same, without, with-first}
 use Rattle.literals.proofs.Laws.{at-arg, at-arg2, literals-within}
-use Rattle.laws.proofs.Slices.{sets-then, sets-first, sets-before}
+use Rattle.laws.proofs.Slices.{sets-then, sets-first, sets-before, getD-before, part-before}
 use Rattle.recording.proofs.Writing.{without-++}
 use Rattle.pure_clauses.specs.Table.{pure-in}
 use Rattle.clash_clearing.specs.Resolving.{opposite-in, joined}
@@ -51,9 +51,6 @@ module _ (out l : ℤ) (a : SFits w32 out) (b : SFits w32 l) {r : Bool} (e : r �
 
 -- ---- copying literals
 
-getD-before : (s t : List ℤ) (m i : ℕ) → take m s ≡ take m t → i < m → getD s i (pos 0) ≡ getD t i (pos 0)
-getD-before s t m i e h = sym (getD-take m s i (pos 0) h) ∙ ap (λ (k : List ℤ). getD k i (pos 0)) e ∙ getD-take m t i (pos 0) h
-
 -- the first i of n are copied
 pub record Copying (old : List ℤ) (to from n : ℕ) (out : ℤ) (i end : ℕ) (work : List ℤ) : Type 0 where
   pub inside : i ≤ n
@@ -77,7 +74,7 @@ module _ {old work : List ℤ} {to from n i end : ℕ} {out : ℤ} (s : Copying 
   one = without out (getD work (from + i) (pos 0) ∷ [])
 
   same-literal : getD work (from + i) (pos 0) ≡ getD (drop from old) i (pos 0)
-  same-literal = getD-before work old to (from + i) (ap (take to) (s .copied) ∙ sets-before front old to to (omega arith)) (omega arith) ∙ sym (getD-drop from old i (pos 0))
+  same-literal = getD-before work old to (from + i) (pos 0) (ap (take to) (s .copied) ∙ sets-before front old to to (omega arith)) (omega arith) ∙ sym (getD-drop from old i (pos 0))
 
   chunk : without out (take (i + 1) (drop from old)) ≡ front ++ one
   chunk =
@@ -114,13 +111,6 @@ copying-end {old} {work} {to} {from} {n} {i} out f s h =
     (s .next ∙ ap (λ (c : Clause). to + length c) g, s .copied ∙ ap (sets old to) g)
 
 -- ---- the entry of the resolvent
-
--- a part that lies before a run of stores
-part-before : (W s : List ℤ) (k b n : ℕ) → b + n ≤ k → k ≤ length s → take n (drop b (sets s k W)) ≡ take n (drop b s)
-part-before W s k b n h m = as-rest (sets s k W) (omega (arith, length-sets s k W)) ∙ ap (drop b) (sets-before W s k (b + n) h) ∙ sym (as-rest s (omega arith))
-  where
-    as-rest : (l : List ℤ) → b + n ≤ length l → take n (drop b l) ≡ drop b (take (b + n) l)
-    as-rest l g = sym (ap (drop b) (take-add b n l) ∙ drop-at (take b l) (take n (drop b l)) b (length-take-le b l (omega arith)))
 
 -- a signed result of a call as an argument
 pub arg-is : {X : Type 0} (g : ℤ → X) (z u : ℤ) → SFits w32 z → z ≡ u → g (toZ w32 (ofZ w32 z)) ≡ g u

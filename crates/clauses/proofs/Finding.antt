@@ -24,7 +24,6 @@ place-skip c zero at s = ap (λ (n : ℕ). place-from c 0 n s) (omega arith)
 place-skip c (suc k) at [] = refl
 place-skip c (suc k) at (x ∷ s) = place-skip c k (at + 1) s ∙ ap (λ (n : ℕ). place-from c 0 n (drop k s)) (omega arith)
 
--- belongs in crate laws
 pub same-set-swap : (c d : Clause) → same-set c d ≡ same-set d c
 unfolding same-set
 same-set-swap c d = and-comm (all (λ (l : ℤ). holds l d) c) (all (λ (l : ℤ). holds l c) d)

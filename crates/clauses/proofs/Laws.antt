@@ -337,6 +337,10 @@ stored-within s = omega (arith, stored-from-within 0 s)
 pub part-within : (s : List ℤ) (at : ℕ) → at < length s → Formed (drop at s) → at + 1 + size-at s at ≤ length s
 part-within s at h f = omega (arith, formed-next s at h f .0)
 
+-- the clause at a place as a part of the store
+pub part-there : (s : List ℤ) (at next : ℕ) → next ≡ past s at → take (next - (at + 1)) (drop (at + 1) s) ≡ clause-at s at
+part-there s at next e = let k : next - (at + 1) ≡ size-at s at = omega arith in ap (λ (n : ℕ). take n (drop (at + 1) s)) k
+
 -- ---- the first elements of a slice as a store: places and clauses inside are those of the slice
 
 pub place-prefix : {s : List ℤ} {end at : ℕ} → Place s end → Place s at → at ≤ end → Place (take end s) at
@@ -359,3 +363,10 @@ kept-clause s t end at e a b h p =
     let d : header-at t at ≡ header-at s at = sym (prefix-header t end at h b) ∙ ap (λ (r : List ℤ). header-at r at) (sym e) ∙ prefix-header s end at h a in
     let m : past t at ≡ past s at = ap (λ (x : ℤ). at + (1 + header-literals x)) d in
     sym (prefix-clause t end at h b (omega arith)) ∙ ap (λ (r : List ℤ). clause-at r at) (sym e) ∙ prefix-clause s end at h a p
+
+-- an entry ends where a later one begins, or before
+pub past-within : {s : List ℤ} {x y : ℕ} → Place s x → Place s y → x < y → past s x ≤ y
+past-within {s} {x} {y} p q h =
+    let n : length (take y s) ≡ y = length-take-le y s (q .inside) in
+    let r = formed-next (take y s) x (omega arith) (place-prefix q p (omega arith) .rest) .0 in
+    omega (arith, r, n, ap header-literals (prefix-header s y x h (q .inside)))

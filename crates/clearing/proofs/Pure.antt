@@ -14,13 +14,13 @@ use Rattle.definition.specs.Standing.{Line, literals, changed, after}
 use Rattle.definition.specs.Events.{Event, pure-deleted}
 use Rattle.definition.specs.Clearing.{times, unique, pure, deletable, pure-literal, pure-lines, pure-next, clear-pure-from, clear-pure}
 use Rattle.definition.specs.Reencoding.{lines-of, lines, Goes-into, later}
-use Rattle.laws.proofs.Tests.{of-true, to-false}
-use Rattle.laws.proofs.Members.{same-set-same, Proper-all, Fits, holds-false, Absent}
-use Rattle.laws.proofs.Removal.{Removed, removed-at, removed-take-out, mem-removed}
+use Rattle.laws.proofs.Tests.{of-true}
+use Rattle.laws.proofs.Members.{Proper-all, Fits, holds-false, Absent}
+use Rattle.laws.proofs.Removal.{Removed, removed-take-out, mem-removed}
 use Rattle.soundness.proofs.Sound.{Into, Sound, weaken}
 use Rattle.soundness.proofs.Rules.{del-blocked}
-use Rattle.soundness.proofs.Times.{holds-yes, times-++, times-cons, times-removed, none-times, unique-at, unique-some, at-unique}
-use Rattle.soundness.proofs.Without.{first-same, first-proper, Known, clear-absent}
+use Rattle.soundness.proofs.Times.{holds-yes, times-removed, none-times, unique-at, unique-some, at-unique}
+use Rattle.soundness.proofs.Without.{first-same, first-proper, Known, clear-absent, only-removed}
 use Rattle.laws.proofs.Loops.{none-some, first-some}
 use Rattle.laws.proofs.Fitting.{highest-le, Line-fits}
 
@@ -76,13 +76,9 @@ eliminates-times no-more x c i j = refl
 eliminates-times {F} (next {E = E} {d = d} {l = l} q r s) x c i j = others-same F E d l q r x c (eliminates-mem s c i) j ∙ eliminates-times s x c i j
 
 -- the first with its literals is the one that is looked at
+
 pub pure-removed : (X F : Formula) (d : Clause) (l : ℤ) → Is-pure (X ++ (d ∷ F)) d l → Removed (with-first l d) (X ++ (d ∷ F)) (X ++ F)
-unfolding with-first
-pure-removed X F d l q =
-    removed-at (with-first l d) d X F (first-same l d (q .literal)) (λ k i. to-false (λ t. none-times l X absent k i (same-set-same (with-first l d) k t .0 l (here refl))))
-  where
-    absent : times l X ≡ 0
-    absent = omega (arith, unique-at (X ++ (d ∷ F)) d (q .alone) l (q .literal), times-++ l X (d ∷ F), times-cons l d F, ap bit (holds-yes l d (q .literal)))
+pure-removed X F d l q = only-removed l d X F (q .literal) (unique-at (X ++ (d ∷ F)) d (q .alone) l (q .literal))
 
 pub from-eliminates : (X F : Formula) → Eliminates (X ++ F) (clear-pure-from X F) (after (X ++ F) (lines (clear-pure-from X F)))
 unfolding clear-pure-from pure-next lines lines-of pure-lines for-each after changed

@@ -14,21 +14,18 @@ use Rattle.definition.specs.Standing.{Line, addition, deletion, stands, take-ou
 use Rattle.definition.specs.Events.{Choice}
 use Rattle.definition.specs.Counter.{pairs, missing-pairs, counter, copies}
 use Rattle.laws.proofs.Tests.{by-test, of-true, to-true, to-false, differ}
-use Rattle.laws.proofs.Loops.{for-from-mem, count-++}
-use Rattle.laws.proofs.Members.{Proper, Proper-all, Fits, Same, any-mem, mem-any, those-mem, proper-unopposed, same-set-same, same-same-set, same-clause, same-turned}
-use Rattle.laws.proofs.Fitting.{Fit-all, fit-unneg}
+use Rattle.laws.proofs.Loops.{for-from-mem, count-++, count-same, for-from-same, for-from-lower, mem-for-from, for-each-from}
+use Rattle.laws.proofs.Members.{Proper, Proper-all, Fits, Same, any-mem, mem-any, those-mem, proper-unopposed, same-set-same, same-same-set, same-clause, same-turned, those-++, those-same, those-none, those-those}
 use Rattle.laws.proofs.Removal.{removed-take-out, removed-++, mem-take-out}
 use Rattle.soundness.proofs.Removals.{Spread}
 use Rattle.counter_form.proofs.Ready.{Ready}
 use Rattle.counter_form.proofs.Pairs.{pair-form, pair-literal, pairs-spread, missing-mem}
 use Rattle.counter_form.proofs.Copies.{drop-copies, drop-all, count-none, count-removed}
 use Rattle.counter_form.proofs.CounterLiterals.{counter-new}
-use Rattle.counter_form.proofs.Front.{paired, pair-copies, front, own-fit, clause-taken}
+use Rattle.counter_form.proofs.Front.{paired, pair-copies, front, clause-taken, pair-fit}
 use Rattle.proof_log.specs.Lines.{line-of}
 use Rattle.counter_clauses.specs.Pairs.{literal-at, Placed, slot-of, Pairs-taken, times-of, cell-lines, row-lines, pair-lines}
-use Rattle.counter_clauses.proofs.Runs.{for-from-same, for-from-lower, mem-for-from, for-each-from}
 use Rattle.counter_clauses.proofs.Places.{pair-of, negation-at, Slotted, slotted, slot-tells}
-use Rattle.counter_clauses.proofs.Walking.{those-++}
 
 -- ---- the pairs by places
 
@@ -80,34 +77,6 @@ pair-places l p m =
     record { i = r .0; j = s .0; less = omega (arith, s .1); within = omega (arith, s .2, r .2); is = List·Memᴰ·eq-of-singleton (s .3) }
 
 -- ---- those that pass a test
--- belong in crate laws
-module _ {A : Type 0} where
-  those-same : (p q : A → Bool) (xs : List A) → ((x : A) → List·Memᴰ x xs → p x ≡ q x) → those p xs ≡ those q xs
-  unfolding those
-  those-same p q [] h = refl
-  those-same p q (x ∷ xs) h = rw (h x (here refl), those-same p q xs (λ y i. h y (there i))) refl
-
-  those-none : (p : A → Bool) (xs : List A) → ((x : A) → List·Memᴰ x xs → p x ≡ false) → those p xs ≡ []
-  unfolding those
-  those-none p [] h = refl
-  those-none p (x ∷ xs) h = rw (h x (here refl)) (those-none p xs (λ y i. h y (there i)))
-
-  those-those : (p q : A → Bool) (xs : List A) → those (λ x. not (q x)) (those (λ x. not (p x)) xs) ≡ those (λ x. not (p x || q x)) xs
-  unfolding those
-  those-those p q [] = refl
-  those-those p q (x ∷ xs) = go (p x) (q x) refl (those-those p q xs)
-    where
-      go : (a b : Bool) → q x ≡ b → those (λ y. not (q y)) (those (λ y. not (p y)) xs) ≡ those (λ y. not (p y || q y)) xs →
-          those (λ y. not (q y)) (cond (not a) (x ∷ those (λ y. not (p y)) xs) (those (λ y. not (p y)) xs)) ≡ cond (not (a || b)) (x ∷ those (λ y. not (p y || q y)) xs) (those (λ y. not (p y || q y)) xs)
-      go true b e ih = ih
-      go false true e ih = rw e ih
-      go false false e ih = rw e (ap (λ (r : List A). x ∷ r) ih)
-
-  count-same : (p q : A → Bool) (xs : List A) → ((x : A) → List·Memᴰ x xs → p x ≡ q x) → count p xs ≡ count q xs
-  unfolding count
-  count-same p q [] h = refl
-  count-same p q (x ∷ xs) h = rw (h x (here refl), count-same p q xs (λ y i. h y (there i))) refl
-
 those-all : (F : Formula) → those (λ d. not false) F ≡ F
 unfolding those
 those-all [] = refl
@@ -256,9 +225,6 @@ count-spread t (x ∷ ps) s p (there i) = go (t x) (count-spread t ps (s .1) p i
     go false ih = ih
 
 module _ (F : Formula) (k : Choice) (f : Fits (k .below) F) (r : Ready F k) where
-  pair-fit : (d : Clause) → List·Memᴰ d (pairs (k .literals)) → Fit-all (k .below) d
-  pair-fit d i x j = fit-unneg (k .below) x (own-fit F k f r (negℤ x) (pair-literal (pair-form (k .literals) (r .proper) d i) x j))
-
   -- a missing pair is added once
   copies-then : (p : Clause) → List·Memᴰ p (pairs (k .literals)) → count (same-set p) (paired F k ++ counter k) ≡ max 1 (count (same-set p) F)
   unfolding missing-pairs
@@ -266,7 +232,7 @@ module _ (F : Formula) (k : Choice) (f : Fits (k .below) F) (r : Ready F k) wher
       let m : count (same-set p) (missing-pairs F (k .literals)) ≡ bit (not (stands p F)) = count-spread (λ x. not (stands x F)) (pairs (k .literals)) (pairs-spread (k .literals) (r .proper)) p i in
       let e : bit (not (stands p F)) ≡ bit (not (not (eqb (count (same-set p) F) 0))) = ap (λ (b : Bool). bit (not b)) (count-stands p F) in
       count-++ (same-set p) (paired F k) (counter k)
-      ∙ ap₂ (λ (u v : ℕ). u + v) (count-++ (same-set p) F (missing-pairs F (k .literals)) ∙ ap (λ (u : ℕ). count (same-set p) F + u) (m ∙ e)) (count-none p (counter k) (counter-new k (r .long) p (pair-fit p i)))
+      ∙ ap₂ (λ (u v : ℕ). u + v) (count-++ (same-set p) F (missing-pairs F (k .literals)) ∙ ap (λ (u : ℕ). count (same-set p) F + u) (m ∙ e)) (count-none p (counter k) (counter-new k (r .long) p (pair-fit F k f r p i)))
       ∙ sum (count (same-set p) F)
     where
       sum : (n : ℕ) → n + bit (not (not (eqb n 0))) + 0 ≡ max 1 n

@@ -12,7 +12,7 @@ use Rattle.definition.specs.Text.{Bytes}
 use Rattle.definition.specs.Standing.{addition}
 use Rattle.definition.specs.Calls.{numbers-of}
 use Rattle.laws.proofs.Clauses.{numbers-none, numbers-first, numbers-++}
-use Rattle.laws.proofs.Loops.{for-each-++}
+use Rattle.laws.proofs.Loops.{for-each-++, for-from-around, for-from-next}
 use Rattle.laws.proofs.Slices.{sets-then}
 use Rattle.literals.specs.Literal.{largest}
 use Rattle.clauses.specs.Store.{stored, entry}
@@ -21,7 +21,6 @@ use Rattle.recording.specs.declared.Progress.{Progress}
 use Rattle.recording.specs.Progress.{Written}
 use Rattle.recording.proofs.Laws.{written-none, written-then, room-first, room-rest}
 use Rattle.counter_clauses.specs.Growth.{entries, Grow-room, Grown}
-use Rattle.counter_clauses.proofs.Runs.{for-from-around, for-from-next}
 
 -- ---- entries
 

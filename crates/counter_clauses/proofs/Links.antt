@@ -16,7 +16,7 @@ use Rattle.definition.specs.Counter.{size, lit, new, stage-2, stage-3, counter}
 use Rattle.literals.specs.Literal.{negation, signed-of}
 use Rattle.literals.proofs.Laws.{signed-small}
 use Rattle.recording.specs.declared.Progress.{Progress}
-use Rattle.counter_clauses.specs.Choice.{of-literals}
+use Rattle.counter_form.proofs.Ready.{of-literals}
 use Rattle.counter_clauses.specs.Pairs.{literal-at}
 use Rattle.counter_clauses.specs.Growth.{Grow-room, Grown, link-2, link-3, Small}
 use Rattle.counter_clauses.proofs.Places.{negation-at}

@@ -11,21 +11,21 @@ use lib.Seq.{set-out, set-getD, sets}
 use mir.Syntax.{w32}
 use mir.Val.{SFits, ofZ, toZ}
 use borrow.Author.Tests.{lt-ltb, le-ltb, eq-eqb, ne-eqb}
-use Rattle.definition.specs.Literals.{Clause, Formula, same-set}
+use Rattle.definition.specs.Literals.{Clause}
 use Rattle.definition.specs.Text.{Bytes}
-use Rattle.definition.specs.Standing.{Line, addition, take-out}
+use Rattle.definition.specs.Standing.{Line, addition}
 use Rattle.laws.proofs.Clauses.{numbers-none, numbers-first}
 use Rattle.literals.specs.Literal.{negation}
 use Rattle.literals.proofs.Laws.{at-arg, at-arg2}
 use Rattle.clauses.specs.Store.{stored, Deleted, deleted-at, past, marked, entry, end-after, with-entry}
 use Rattle.clauses.specs.Tally.{most}
 use Rattle.clauses.specs.declared.Added.the-variants.{To, Full}
-use Rattle.clauses.proofs.Laws.{fits-within}
-use Rattle.pure_clauses.proofs.Pass.{part-there}
+use Rattle.clauses.proofs.Laws.{fits-within, part-there}
 use Rattle.proof_log.specs.Lines.{line-of}
 use Rattle.recording.specs.declared.Progress.{Progress}
 use Rattle.recording.specs.Progress.{Written, Log-room}
 use Rattle.recording.proofs.Laws.{room-rest}
+use Rattle.laws.proofs.Removal.{take-out-within}
 use Rattle.counter_clauses.specs.Pairs.{place-in, ordered-slot, slot, slot-of, slot-at, counted-at, Pair-step, Countable, times-of, literal-at, cell-lines}
 use Rattle.counter_clauses.specs.Growth.{Grow-room, Grown}
 use Rattle.counter_clauses.proofs.Growing.{grown-one}
@@ -118,16 +118,6 @@ pub cell-is : (d : Bool) (t : List ℕ) (l : Clause) (i j : ℕ) {n : ℕ} → n
 cell-is d t l i j e f g = ap₂ (λ (k : ℕ) (x : Line). replicate k x) e (at-arg2 (pair-line d) (literal-at l i) (literal-at l j) f g)
 
 -- ---- a clause taken out
-
--- belongs in crate laws
-pub take-out-within : (c : Clause) (F : Formula) → length (take-out c F) ≤ length F
-unfolding take-out
-take-out-within c [] = omega arith
-take-out-within c (d ∷ F) = go (same-set c d) (take-out-within c F)
-  where
-    go : (b : Bool) → length (take-out c F) ≤ length F → length (cond b F (d ∷ take-out c F)) ≤ length (d ∷ F)
-    go true h = omega arith
-    go false h = omega arith
 
 pub countable-then : {c : Clause} {s new : List ℤ} {r : Bool} {counts : List ℕ} → Countable s counts → Deleted c s r new → Countable new counts
 countable-then {c} {s} k d = record { formed = d .formed; size = k .size; empty = k .empty; few = omega (arith, k .few, ap length (d .left), take-out-within c (stored s)) }

@@ -5,27 +5,25 @@ use mathlib.Core.List.{List, [], _∷_, _++_, map, map-append, append-assoc}
 use Prim.Native.Nat.{ℕ, _+_, _*_, _<_, _^_}
 use native.Mathlib.Omega.{arith}
 use lib.IntN.{ℤ}
-use lib.ListN.{length, getD, take, drop, replicate, length-replicate, getD-replicate, length-append, length-drop, List·getD-eq-default}
+use lib.ListN.{length, getD, take, drop, replicate, length-replicate, length-append, length-drop}
 use lib.Seq.{sets, length-sets, length-take-le, take-at, drop-at}
-use lib.Dec.{ltb}
-use borrow.Author.Tests.{ltb-true, ltb-false}
 use Rattle.definition.specs.Lists.{count}
 use Rattle.definition.specs.Literals.{Clause, Formula, same-set}
 use Rattle.definition.specs.Text.{Bytes}
 use Rattle.definition.specs.Standing.{addition, deletion, take-out, after}
 use Rattle.definition.specs.Events.{Choice}
-use Rattle.definition.specs.Counter.{missing-pairs, size, lit, new, stage-2, stage-3, counter, take-choice}
+use Rattle.definition.specs.Counter.{missing-pairs, size, new, counter, take-choice}
 use Rattle.definition.specs.Reencoding.{lines-of}
-use Rattle.laws.proofs.Tests.{by-test}
-use Rattle.laws.proofs.Slices.{sets-before, taken-sets}
-use Rattle.counter_form.proofs.Front.{taken-lines-are, pair-copies, front}
+use Rattle.laws.proofs.Slices.{sets-before, taken-sets, getD-zeros}
+use Rattle.counter_form.proofs.Front.{taken-lines-are, pair-copies, front, counter-open, front-open, taken-open}
 use Rattle.counter_form.proofs.Counter.{after-choice}
 use Rattle.clauses.specs.Store.{stored}
 use Rattle.clauses.proofs.Laws.{formed-++, stored-++}
 use Rattle.recording.specs.declared.Progress.{Progress}
 use Rattle.recording.specs.Progress.{Written, Log-room}
 use Rattle.recording.proofs.Laws.{written-then, room-first, room-rest, ran-event}
-use Rattle.counter_clauses.specs.Choice.{of-literals, Choice-ready, Taken}
+use Rattle.counter_form.proofs.Ready.{of-literals}
+use Rattle.counter_clauses.specs.Choice.{Choice-ready, Taken}
 use Rattle.counter_clauses.specs.Pairs.{Placed, Placeable, Countable, Pairs-taken, pair-lines, Lines-ready}
 use Rattle.counter_clauses.specs.Growth.{entries, Small, Grown, Grow-ready}
 use Rattle.counter_clauses.proofs.Growing.{entries-length}
@@ -33,30 +31,12 @@ use Rattle.counter_clauses.proofs.Places.{pair-of}
 use Rattle.counter_clauses.proofs.Fronts.{front-is, counts-are, pair-lines-are, missing-lines, copies-lines}
 use Rattle.counter_clauses.proofs.Steps.{room-now}
 
--- ---- which clause a choice was does not matter
-
-counter-open : (c l : Clause) (n : ℕ) → counter (record { clause = c; literals = l; below = n }) ≡ counter (of-literals l n)
-unfolding counter stage-2 stage-3 size lit new
-counter-open c l n = refl
-
-front-open : (F : Formula) (c l : Clause) (n : ℕ) → front F (record { clause = c; literals = l; below = n }) ≡ front F (of-literals l n)
-unfolding front
-front-open F c l n = refl
-
-lines-open : (F : Formula) (c l : Clause) (n : ℕ) → lines-of (take-choice F (record { clause = c; literals = l; below = n })) ≡ lines-of (take-choice F (of-literals l n))
-lines-open F c l n = taken-lines-are F (record { clause = c; literals = l; below = n }) ∙ rw (counter-open c l n) refl ∙ sym (taken-lines-are F (of-literals l n))
-
--- ---- empty tables
-
-empty-table : (n k : ℕ) → _≡_ {A = ℕ} (getD (replicate n 0) k 0) 0
-empty-table n k = by-test (ltb k n) (λ e. getD-replicate n k 0 0 (ltb-true k n e)) (λ e. List·getD-eq-default (replicate n 0) 0 (omega (arith, length-replicate {A = ℕ} n 0, ltb-false k n e)))
-
 module _ {work : List ℤ} {p : Progress} {l : Clause} {below : ℕ} (g : Choice-ready work p l below) where
   pub choice-placeable : Placeable (replicate 16002 0) l
-  choice-placeable = record { size = length-replicate {A = ℕ} 16002 0; empty = empty-table 16002; proper = g .ready .proper; reach = g .reach }
+  choice-placeable = record { size = length-replicate {A = ℕ} 16002 0; empty = getD-zeros 16002; proper = g .ready .proper; reach = g .reach }
 
   pub choice-countable : Countable (take (p .end) work) (replicate 4096 0)
-  choice-countable = record { formed = g .formed; size = length-replicate {A = ℕ} 4096 0; empty = empty-table 4096; few = g .few }
+  choice-countable = record { formed = g .formed; size = length-replicate {A = ℕ} 4096 0; empty = getD-zeros 4096; few = g .few }
 
   choice-small : Small l below
   choice-small = record { most-literals = g .most-literals; reach = g .reach; new-few = g .new-few }
@@ -73,7 +53,7 @@ module _ {work : List ℤ} {p : Progress} {l : Clause} {below : ℕ} (g : Choice
     L = record { clause = g .clause; literals = l; below = below }
 
     front-stands : stored s ≡ front F K
-    front-stands = w .stands ∙ sym (front-is F L (g .fits) (g .ready) (g .proper) (g .most-literals) (g .reach) q) ∙ front-open F (g .clause) l below
+    front-stands = w .stands ∙ sym (front-is F L (g .fits) (g .ready) (g .proper) (g .most-literals) (g .reach) q) ∙ front-open (g .clause) (of-literals l below) F
 
     counted : (i j : ℕ) → i < j → j < length l → getD counts (i * 64 + j) 0 ≡ count (same-set (pair-of l i j)) F
     counted = counts-are F L (g .fits) (g .ready) (g .proper) (g .most-literals) (g .reach) q w
@@ -82,7 +62,7 @@ module _ {work : List ℤ} {p : Progress} {l : Clause} {below : ℕ} (g : Choice
     added = pair-lines-are false F l counts (g .reach) counted ∙ missing-lines F l
 
     copies-open : pair-copies F L ≡ pair-copies F K
-    copies-open = rw (counter-open (g .clause) l below) refl
+    copies-open = rw (counter-open (g .clause) (of-literals l below)) refl
 
     deleted : pair-lines true counts l ≡ map deletion (pair-copies F K)
     deleted = pair-lines-are true F l counts (g .reach) counted ∙ copies-lines F L (g .fits) (g .ready) ∙ ap (map deletion) copies-open
@@ -156,7 +136,7 @@ module _ {work : List ℤ} {p : Progress} {l : Clause} {below : ℕ} (g : Choice
             stands-then = ap stored whole ∙ stored-++ s (entries (counter K)) (w .formed) ∙ ap₂ (λ (c d : Formula). c ++ d) front-stands (k .stands)
 
             after-is : front F K ++ counter K ≡ after F (lines-of (take-choice F K))
-            after-is = sym (ap (after F) (sym (lines-open F (g .clause) l below)) ∙ after-choice F L (g .fits) (g .ready) ∙ ap₂ (λ (c d : Formula). c ++ d) (front-open F (g .clause) l below) (counter-open (g .clause) l below))
+            after-is = sym (ap (after F) (sym (taken-open (g .clause) (of-literals l below) F)) ∙ after-choice F L (g .fits) (g .ready) ∙ ap₂ (λ (c d : Formula). c ++ d) (front-open (g .clause) (of-literals l below) F) (counter-open (g .clause) (of-literals l below)))
 
             pub choice-taken : Taken work l below x p v₂ n r
             choice-taken = record {

@@ -1,6 +1,6 @@
 -- The walk over a store that takes out the pairs and counts them. Assumes nothing.
 use mathlib.Core.Path.{_≡_, refl, sym, ap, subst, _∙_}
-use mathlib.Core.Bool.{Bool, true, false, cond}
+use mathlib.Core.Bool.{Bool, true, false}
 use mathlib.Core.List.{List, [], _∷_, _++_, append-nil, append-assoc}
 use Prim.Native.Nat.{ℕ, _+_, _≤_, _<_, min}
 use native.Mathlib.Omega.{arith}
@@ -11,28 +11,13 @@ use lib.Seq.{getD-set-same, getD-set-other, take-all}
 use borrow.Author.Tests.{ltb-true, ltb-false, eqb-true, eqb-false, le-leb, lt-leb, eq-eqb, ne-eqb}
 use Rattle.definition.specs.Lists.{bit, count, those}
 use Rattle.definition.specs.Literals.{Clause, Formula}
-use Rattle.laws.proofs.Tests.{by-test, bit≤1}
-use Rattle.laws.proofs.Loops.{count-++}
+use Rattle.laws.proofs.Tests.{by-test}
+use Rattle.laws.proofs.Loops.{count-++, count-within}
 use Rattle.clauses.specs.Store.{stored, deleted-at, clause-at, past, marked, Place}
 use Rattle.clauses.specs.Tally.{most}
 use Rattle.clauses.proofs.Laws.{place-start, place-formed, place-next, stored-none, stored-end, rest-deleted, rest-stands, prefix-deleted, prefix-stands, marked-place, marked-past, marked-behind, marked-prefix}
+use Rattle.laws.proofs.Members.{those-++}
 use Rattle.counter_clauses.specs.Pairs.{slot-of, slot-at, counted-at, Pair-step, Countable, Pairs-taken}
-
--- belongs in crate laws
-pub those-++ : {A : Type 0} (p : A → Bool) (xs ys : List A) → those p (xs ++ ys) ≡ those p xs ++ those p ys
-unfolding those
-those-++ p [] ys = refl
-those-++ {A} p (x ∷ xs) ys = go (p x) (those-++ p xs ys)
-  where
-    go : (b : Bool) → those p (xs ++ ys) ≡ those p xs ++ those p ys → cond b (x ∷ those p (xs ++ ys)) (those p (xs ++ ys)) ≡ cond b (x ∷ those p xs) (those p xs) ++ those p ys
-    go true e = ap (λ (r : List A). x ∷ r) e
-    go false e = e
-
--- belongs in crate laws
-pub count-within : {A : Type 0} (p : A → Bool) (xs : List A) → count p xs ≤ length xs
-unfolding count
-count-within p [] = omega arith
-count-within p (x ∷ xs) = omega (arith, bit≤1 (p x), count-within p xs)
 
 abbrev no-pair : List ℕ → Clause → Bool
 no-pair t d = leb 4096 (slot-of t d)

@@ -6,21 +6,17 @@ use lib.IntN.{ℤ}
 use lib.ListN.{length, take, drop}
 use Rattle.definition.specs.Literals.{Clause, highest}
 use Rattle.definition.specs.Text.{Bytes}
-use Rattle.definition.specs.Events.{Choice}
 use Rattle.definition.specs.Counter.{counter, take-choice}
 use Rattle.definition.specs.Reencoding.{lines-of}
 use Rattle.definition.specs.Calls.{numbers-of}
 use Rattle.laws.proofs.Members.{Proper-all, Fits}
 use Rattle.counter_form.proofs.Ready.{Ready}
+pub use Rattle.counter_form.proofs.Ready.{of-literals}
 use Rattle.counter_form.proofs.Front.{front}
 use Rattle.clauses.specs.Store.{Formed, stored}
 use Rattle.clauses.specs.Tally.{most}
 use Rattle.recording.specs.declared.Progress.{Progress}
 use Rattle.recording.specs.Progress.{Log-room, Ran}
-
--- the choice of some literals above a variable; which clause it was is open
-abbrev pub of-literals : Clause → ℕ → Choice
-of-literals l n = record { clause = l; literals = l; below = n }
 
 -- what the taking of a choice needs of the workspace, whose first elements are the store
 pub record Choice-ready (work : List ℤ) (p : Progress) (l : Clause) (below : ℕ) : Type 0 where

@@ -1,5 +1,5 @@
 -- What stands before the counter clauses after stage 4 of a choice.
-use mathlib.Core.Path.{_≡_, ap}
+use mathlib.Core.Path.{_≡_, refl, ap}
 use mathlib.Core.Logic.{⊎-elim}
 use mathlib.Core.List.{_∷_, _++_, map, map-append, append-assoc, List·Memᴰ, List·Memᴰ·head as here, List·Memᴰ·tail as there, List·Memᴰ·append-cases, Memᴰ·append-left}
 use Prim.Native.Nat.{_+_}
@@ -10,13 +10,13 @@ use Rattle.definition.specs.Literals.{Clause, Formula, same-set, holds}
 use Rattle.definition.specs.Standing.{addition, deletion, take-out}
 use Rattle.definition.specs.Events.{Choice}
 use Rattle.definition.specs.Clearing.{times}
-use Rattle.definition.specs.Counter.{pairs, missing-pairs, counter, take-choice, choice-lines, copies}
+use Rattle.definition.specs.Counter.{pairs, missing-pairs, counter, take-choice, choice-lines, copies, stage-2, stage-3, size, lit, new}
 use Rattle.definition.specs.Reencoding.{lines-of}
 use Rattle.laws.proofs.Members.{Same, Fits, proper-unopposed, holds-false, Absent}
 use Rattle.laws.proofs.Removal.{Removed, takes}
 use Rattle.soundness.proofs.Times.{holds-yes, times-++, times-cons, times-none, none-times, times-removed}
 use Rattle.soundness.proofs.Removals.{Removes, next, times-removes, mem-removes, stay-in}
-use Rattle.counter_form.proofs.Ready.{Well-formed, Ready, Other}
+use Rattle.counter_form.proofs.Ready.{Well-formed, Ready, Other, with-clause}
 use Rattle.laws.proofs.Fitting.{Fit-all, fit-unneg}
 use Rattle.counter_form.proofs.Pairs.{Pair, pair-form, pair-literal, pairs-absent, missing-mem, pairs-spread}
 use Rattle.laws.proofs.Loops.{count-++}
@@ -60,7 +60,7 @@ module _ (F : Formula) (k : Choice) (f : Fits (k .below) F) (r : Ready F k) wher
   pair-of : (d : Clause) → List·Memᴰ d (pairs (k .literals)) → Pair (k .literals) d
   pair-of d i = pair-form (k .literals) (r .proper) d i
 
-  pair-fit : (d : Clause) → List·Memᴰ d (pairs (k .literals)) → Fit-all (k .below) d
+  pub pair-fit : (d : Clause) → List·Memᴰ d (pairs (k .literals)) → Fit-all (k .below) d
   pair-fit d i x j = fit-unneg (k .below) x (own-fit (negℤ x) (pair-literal (pair-of d i) x j))
 
   not-choice : (d : Clause) → Pair (k .literals) d → Same d (k .literals) → ⊥
@@ -119,3 +119,17 @@ module _ (F : Formula) (k : Choice) (f : Fits (k .below) F) (r : Ready F k) wher
 
   pub front-fits : Fits (k .below) (front F k)
   front-fits d i = paired-fits d (mem-removes front-removes i)
+
+-- ---- which clause a choice was does not matter to what is written and what stands
+module _ (d : Clause) (k : Choice) where
+  pub counter-open : counter (with-clause d k) ≡ counter k
+  unfolding counter stage-2 stage-3 size lit new
+  counter-open = refl
+
+  pub front-open : (F : Formula) → front F (with-clause d k) ≡ front F k
+  unfolding front
+  front-open F = refl
+
+  pub taken-open : (F : Formula) → lines-of (take-choice F (with-clause d k)) ≡ lines-of (take-choice F k)
+  unfolding lines-of take-choice choice-lines counter stage-2 stage-3 size lit new
+  taken-open F = refl

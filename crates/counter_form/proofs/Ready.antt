@@ -1,10 +1,10 @@
 -- What is asked of a choice, and literals of other variables.
 use mathlib.Core.Path.{_≡_}
 use mathlib.Core.List.{List·Memᴰ}
-use Prim.Native.Nat.{_≤_}
+use Prim.Native.Nat.{_≤_, ℕ}
 use lib.IntN.{ℤ, negℤ, natAbs}
 use lib.ListN.{length}
-use Rattle.definition.specs.Literals.{Formula}
+use Rattle.definition.specs.Literals.{Formula, Clause}
 use Rattle.definition.specs.Events.{Choice}
 use Rattle.definition.specs.Clearing.{times}
 use Rattle.laws.proofs.Members.{Same, Proper}
@@ -30,3 +30,11 @@ pub record Other (k : Choice) (x : ℤ) : Type 0 where
   pub small : natAbs x ≤ k .below
   pub not-in : List·Memᴰ x (k .literals) → ⊥
   pub not-negated : List·Memᴰ (negℤ x) (k .literals) → ⊥
+
+-- the choice of some literals above a variable; which clause it was is open
+abbrev pub of-literals : Clause → ℕ → Choice
+of-literals l n = record { clause = l; literals = l; below = n }
+
+-- the same choice, of another clause
+abbrev pub with-clause : Clause → Choice → Choice
+with-clause d k = record { clause = d; literals = k .literals; below = k .below }

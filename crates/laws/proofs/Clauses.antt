@@ -2,10 +2,10 @@
 use Rattle.definition.specs.LogReading.{numbers-in}
 use Rattle.definition.specs.Standing.{Line, literals}
 use Rattle.definition.specs.Calls.{numbers-of}
-use mathlib.Core.Path.{_≡_, refl, sym, ap}
+use mathlib.Core.Path.{_≡_, refl, sym, ap, ap₂, _∙_}
 use mathlib.Core.Bool.{false, true}
-use mathlib.Core.Logic.{_≢_, ⊎-elim}
-use mathlib.Core.List.{List, [], _∷_, _++_, List·Memᴰ, List·Memᴰ·head as here, List·Memᴰ·tail as there, List·Memᴰ·not-nil, List·Memᴰ·cases-cons, List·Memᴰ·append-cases, List·Memᴰ·eq-of-singleton, Memᴰ·append-right, Memᴰ·append-left}
+use mathlib.Core.Logic.{_≢_, ⊎-elim, _⊎_, inl, inr}
+use mathlib.Core.List.{List, [], _∷_, _++_, List·Memᴰ, List·Memᴰ·head as here, List·Memᴰ·tail as there, List·Memᴰ·not-nil, List·Memᴰ·cases-cons, List·Memᴰ·append-cases, List·Memᴰ·eq-of-singleton, Memᴰ·append-right, Memᴰ·append-left, Memᴰ·cast}
 use Prim.Native.Nat.{ℕ, _+_, _≤_}
 use native.Mathlib.Omega.{arith}
 use lib.IntN.{ℤ, pos, negsuc, negℤ, natAbs}
@@ -14,7 +14,7 @@ use Rattle.definition.specs.Lists.{sum-of}
 use Rattle.definition.specs.Literals.{Clause, Formula, holds, literals-of, repeated, opposed}
 use Rattle.laws.proofs.Tests.{to-false, differ, or-false-both, to-true, of-true, or-l, or-r}
 use Rattle.laws.proofs.Sums.{sum-++, count-length, Distinct, sum-within}
-use Rattle.laws.proofs.Members.{turn, holds-false, mem-holds, opposes-mem, mem-opposes, Same, Proper, proper-unopposed}
+use Rattle.laws.proofs.Members.{turn, holds-false, mem-holds, opposes-mem, mem-opposes, Same, Proper, proper-unopposed, proper-literal}
 
 -- a literal of a proper clause, and those before it
 pub proper-apart : (a : Clause) (l : ℤ) (c : Clause) → Proper (a ++ l ∷ c) → (List·Memᴰ l a → ⊥) × (List·Memᴰ (negℤ l) a → ⊥)
@@ -117,3 +117,33 @@ pub numbers-snoc : (ss : List Line) (s : Line) → numbers-in (ss ++ (s ∷ []))
 unfolding numbers-in sum-of
 numbers-snoc [] s = omega arith
 numbers-snoc (x ∷ ss) s = omega (arith, numbers-snoc ss s)
+
+-- a proper clause with the literals of a pair is the pair, or the pair turned
+pub two-of : (u v : ℤ) (d : Clause) → Proper d → Same (u ∷ v ∷ []) d → u ≢ v → (d ≡ u ∷ v ∷ []) ⊎ (d ≡ v ∷ u ∷ [])
+two-of u v d p s n = by-length d s (same-length (u ∷ v ∷ []) d pair p s)
+  where
+    in-first : List·Memᴰ u d
+    in-first = s .0 u (here refl)
+
+    in-second : List·Memᴰ v d
+    in-second = s .0 v (there (here refl))
+
+    pair : Proper (u ∷ v ∷ [])
+    pair = (
+      proper-literal d p u in-first,
+      λ i. n (List·Memᴰ·eq-of-singleton i),
+      λ i. proper-unopposed d p u in-first (Memᴰ·cast (List·Memᴰ·eq-of-singleton i) in-second),
+      (proper-literal d p v in-second, List·Memᴰ·not-nil, List·Memᴰ·not-nil, tt),
+    )
+
+    by-members : (x y : ℤ) → List·Memᴰ u (x ∷ y ∷ []) → List·Memᴰ v (x ∷ y ∷ []) → (x ∷ y ∷ [] ≡ u ∷ v ∷ []) ⊎ (x ∷ y ∷ [] ≡ v ∷ u ∷ [])
+    by-members x y (here e) (here f) = absurd (n (e ∙ sym f))
+    by-members x y (here e) (there j) = let f = List·Memᴰ·eq-of-singleton j in inl (ap₂ (λ (a b : ℤ). a ∷ b ∷ []) (sym e) (sym f))
+    by-members x y (there i) (here f) = let e = List·Memᴰ·eq-of-singleton i in inr (ap₂ (λ (a b : ℤ). a ∷ b ∷ []) (sym f) (sym e))
+    by-members x y (there i) (there j) = absurd (n (List·Memᴰ·eq-of-singleton i ∙ sym (List·Memᴰ·eq-of-singleton j)))
+
+    by-length : (c : Clause) → Same (u ∷ v ∷ []) c → length (u ∷ v ∷ []) ≡ length c → (c ≡ u ∷ v ∷ []) ⊎ (c ≡ v ∷ u ∷ [])
+    by-length [] s e = absurd (omega arith)
+    by-length (x ∷ []) s e = absurd (omega arith)
+    by-length (x ∷ y ∷ []) s e = by-members x y (s .0 u (here refl)) (s .0 v (there (here refl)))
+    by-length (x ∷ y ∷ z ∷ c) s e = absurd (omega arith)

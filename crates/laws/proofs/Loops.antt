@@ -2,15 +2,15 @@
 use mathlib.Core.Path.{_≡_, refl, sym, _∙_, ap}
 use mathlib.Core.Logic.{⊎-elim}
 use mathlib.Core.Bool.{Bool, true, false, cond}
-use mathlib.Core.List.{List, [], _∷_, _++_, append-assoc, List·Memᴰ, List·Memᴰ·head as here, List·Memᴰ·tail as there, Memᴰ·append-left, Memᴰ·append-right, List·Memᴰ·append-cases, append-nil}
+use mathlib.Core.List.{List, [], _∷_, _++_, append-assoc, List·Memᴰ, List·Memᴰ·head as here, List·Memᴰ·tail as there, Memᴰ·append-left, Memᴰ·append-right, List·Memᴰ·append-cases, append-nil, map}
 use mathlib.Core.Option.{Option, some, none}
-use Prim.Native.Nat.{ℕ, zero, suc, _+_, _≤_, _<_}
+use Prim.Native.Nat.{ℕ, zero, suc, _+_, _≤_, _<_, _-_}
 use native.Mathlib.Omega.{arith}
 use native.Mathlib.Decide.{ℕ-discrete}
 use lib.Dec.{T}
 use lib.ListN.{length, getD, replicate}
 use Rattle.definition.specs.Lists.{first, count, only-if, or-else, first-from, for-from, for-each}
-use Rattle.laws.proofs.Tests.{of-true, differ, bit-true}
+use Rattle.laws.proofs.Tests.{of-true, differ, bit-true, bit≤1}
 
 -- ---- what `for-each` and `only-if` give
 module _ {A B : Type 0} where
@@ -145,3 +145,67 @@ pub for-from-snoc : {A : Type 0} (k n : ℕ) (f : ℕ → List A) → for-from k
 unfolding for-from
 for-from-snoc k zero f = let e : k + 0 ≡ k = omega arith in rw (append-nil (f k), e) refl
 for-from-snoc k (suc n) f = let e : suc k + n ≡ k + suc n = omega arith in ap (λ (r : List _). f k ++ r) (for-from-snoc (suc k) n f) ∙ (rw (append-assoc, e) refl)
+
+-- the turns before j, the turn of j, and those behind it
+pub for-from-around : {A : Type 0} (k n j : ℕ) (f : ℕ → List A) → k ≤ j → j < k + n → for-from k n f ≡ for-from k (j - k) f ++ (f j ++ for-from (suc j) (k + n - suc j) f)
+unfolding for-from
+for-from-around k zero j f a b = absurd (omega arith)
+for-from-around k (suc n) j f a b = by-order k j a now-there (λ l. later l (for-from-around (suc k) n j f (omega arith) (omega arith)))
+  where
+    now-there : k ≡ j → f k ++ for-from (suc k) n f ≡ for-from k (j - k) f ++ (f j ++ for-from (suc j) (k + suc n - suc j) f)
+    now-there e =
+        let x : j - k ≡ 0 = omega arith in
+        let y : k + suc n - suc j ≡ n = omega arith in
+        rw (x, y, ← e) refl
+
+    later : k < j → for-from (suc k) n f ≡ for-from (suc k) (j - suc k) f ++ (f j ++ for-from (suc j) (suc k + n - suc j) f) →
+        f k ++ for-from (suc k) n f ≡ for-from k (j - k) f ++ (f j ++ for-from (suc j) (k + suc n - suc j) f)
+    later l ih =
+        let x : j - k ≡ suc (j - suc k) = omega arith in
+        let y : k + suc n - suc j ≡ suc k + n - suc j = omega arith in
+        rw (x, y, ih) (sym (append-assoc (f k) (for-from (suc k) (j - suc k) f) (f j ++ for-from (suc j) (suc k + n - suc j) f)))
+
+-- one turn more
+pub for-from-next : {A : Type 0} (k j : ℕ) (f : ℕ → List A) → k ≤ j → for-from k (j + 1 - k) f ≡ for-from k (j - k) f ++ f j
+for-from-next k j f a =
+    let x : j + 1 - k ≡ suc (j - k) = omega arith in
+    let y : k + (j - k) ≡ j = omega arith in
+    ap (λ (n : ℕ). for-from k n f) x ∙ for-from-snoc k (j - k) f ∙ ap (λ (i : ℕ). for-from k (j - k) f ++ f i) y
+
+-- the same in each turn
+pub for-from-same : {A : Type 0} (k n : ℕ) (f g : ℕ → List A) → ((j : ℕ) → k ≤ j → j < k + n → f j ≡ g j) → for-from k n f ≡ for-from k n g
+unfolding for-from
+for-from-same k zero f g h = refl
+for-from-same k (suc n) f g h = rw (h k (omega arith) (omega arith), for-from-same (suc k) n f g (λ j a b. h j (omega arith) (omega arith))) refl
+
+-- counted from one number lower
+pub for-from-lower : {A : Type 0} (k n : ℕ) (f : ℕ → List A) → for-from (suc k) n f ≡ for-from k n (λ i. f (suc i))
+unfolding for-from
+for-from-lower k zero f = refl
+for-from-lower k (suc n) f = rw (for-from-lower (suc k) n f) refl
+
+pub mem-for-from : {A : Type 0} (k n j : ℕ) (f : ℕ → List A) (x : A) → k ≤ j → j < k + n → List·Memᴰ x (f j) → List·Memᴰ x (for-from k n f)
+mem-for-from k n j f x a b i =
+    rw (for-from-around k n j f a b) (Memᴰ·append-right (for-from k (j - k) f) (Memᴰ·append-left (for-from (suc j) (k + n - suc j) f) i))
+
+-- for each of what the turns give
+pub for-each-from : {A B : Type 0} (k n : ℕ) (f : ℕ → List A) (g : A → List B) → for-each (for-from k n f) g ≡ for-from k n (λ i. for-each (f i) g)
+unfolding for-from for-each
+for-each-from k zero f g = refl
+for-each-from k (suc n) f g = for-each-++ (f k) (for-from (suc k) n f) g ∙ ap (λ r. for-each (f k) g ++ r) (for-each-from (suc k) n f g)
+
+-- ---- as many as pass
+pub count-within : {A : Type 0} (p : A → Bool) (xs : List A) → count p xs ≤ length xs
+unfolding count
+count-within p [] = omega arith
+count-within p (x ∷ xs) = omega (arith, bit≤1 (p x), count-within p xs)
+
+pub count-same : {A : Type 0} (p q : A → Bool) (xs : List A) → ((x : A) → List·Memᴰ x xs → p x ≡ q x) → count p xs ≡ count q xs
+unfolding count
+count-same p q [] h = refl
+count-same p q (x ∷ xs) h = rw (h x (here refl), count-same p q xs (λ y i. h y (there i))) refl
+
+-- functions that agree on the members of a list
+pub map-agree : {A B : Type 0} (f g : A → B) (xs : List A) → ((x : A) → List·Memᴰ x xs → f x ≡ g x) → map f xs ≡ map g xs
+map-agree f g [] h = refl
+map-agree f g (x ∷ xs) h = let a = h x (here refl) in let b = map-agree f g xs (λ y i. h y (there i)) in cc

@@ -1,8 +1,8 @@
 -- Membership: what `any`, `all`, `holds`, `same-set` and `those` say of members. Assumes nothing.
 use mathlib.Core.Path.{_≡_, refl, sym, _∙_, ap}
 use mathlib.Core.Logic.{_≢_, _⊎_, inl, inr, ⊎-elim}
-use mathlib.Core.Bool.{Bool, true, false, cond, or-false, or-assoc, _||_}
-use mathlib.Core.List.{List, [], _∷_, List·Memᴰ, List·Memᴰ·head as here, List·Memᴰ·tail as there, Memᴰ·cast, _++_}
+use mathlib.Core.Bool.{Bool, true, false, cond, or-false, or-assoc, _||_, not}
+use mathlib.Core.List.{List, [], _∷_, List·Memᴰ, List·Memᴰ·head as here, List·Memᴰ·tail as there, Memᴰ·cast, _++_, Memᴰ·append-right}
 use Prim.Native.Nat.{ℕ, zero, suc, _≤_, _<_}
 use native.Mathlib.Omega.{arith}
 use lib.Dec.{T, eqb→eq, eqb-refl}
@@ -226,3 +226,50 @@ pub holds-snoc : (k : ℤ) (c : Clause) (l : ℤ) → holds k (c ++ (l ∷ [])) 
 unfolding holds any
 holds-snoc k [] l = or-false (same k l)
 holds-snoc k (d ∷ c) l = ap (λ (b : Bool). same k d || b) (holds-snoc k c l) ∙ sym (or-assoc (same k d) (holds k c) (same k l))
+
+-- ---- those that pass a test, of two lists; by tests that agree; by two tests
+pub those-++ : {A : Type 0} (p : A → Bool) (xs ys : List A) → those p (xs ++ ys) ≡ those p xs ++ those p ys
+unfolding those
+those-++ p [] ys = refl
+those-++ {A} p (x ∷ xs) ys = go (p x) (those-++ p xs ys)
+  where
+    go : (b : Bool) → those p (xs ++ ys) ≡ those p xs ++ those p ys → cond b (x ∷ those p (xs ++ ys)) (those p (xs ++ ys)) ≡ cond b (x ∷ those p xs) (those p xs) ++ those p ys
+    go true e = ap (λ (r : List A). x ∷ r) e
+    go false e = e
+
+pub those-same : {A : Type 0} (p q : A → Bool) (xs : List A) → ((x : A) → List·Memᴰ x xs → p x ≡ q x) → those p xs ≡ those q xs
+unfolding those
+those-same p q [] h = refl
+those-same p q (x ∷ xs) h = rw (h x (here refl), those-same p q xs (λ y i. h y (there i))) refl
+
+-- and where none passes
+pub those-none : {A : Type 0} (p : A → Bool) (xs : List A) → ((x : A) → List·Memᴰ x xs → p x ≡ false) → those p xs ≡ []
+unfolding those
+those-none p [] h = refl
+those-none p (x ∷ xs) h = rw (h x (here refl)) (those-none p xs (λ y i. h y (there i)))
+
+pub those-those : {A : Type 0} (p q : A → Bool) (xs : List A) → those (λ x. not (q x)) (those (λ x. not (p x)) xs) ≡ those (λ x. not (p x || q x)) xs
+unfolding those
+those-those p q [] = refl
+those-those {A} p q (x ∷ xs) = go (p x) (q x) refl (those-those p q xs)
+  where
+    go : (a b : Bool) → q x ≡ b → those (λ y. not (q y)) (those (λ y. not (p y)) xs) ≡ those (λ y. not (p y || q y)) xs →
+        those (λ y. not (q y)) (cond (not a) (x ∷ those (λ y. not (p y)) xs) (those (λ y. not (p y)) xs)) ≡ cond (not (a || b)) (x ∷ those (λ y. not (p y || q y)) xs) (those (λ y. not (p y || q y)) xs)
+    go true b e ih = ih
+    go false true e ih = rw e ih
+    go false false e ih = rw e (ap (λ (r : List A). x ∷ r) ih)
+
+-- an element more at the end of a list
+pub any-snoc : {A : Type 0} (p : A → Bool) (xs : List A) (y : A) → any p (xs ++ (y ∷ [])) ≡ (any p xs || p y)
+unfolding any
+any-snoc p [] y = or-false (p y)
+any-snoc p (x ∷ xs) y = go (p x) (any-snoc p xs y)
+  where
+    go : (b : Bool) → any p (xs ++ (y ∷ [])) ≡ (any p xs || p y) → (b || any p (xs ++ (y ∷ []))) ≡ ((b || any p xs) || p y)
+    go true e = refl
+    go false e = e
+
+-- the clauses before one in a list without common variables have none in common with it
+pub parted-before : (cs : List Clause) (c : Clause) (ds : List Clause) → Parted (cs ++ (c ∷ ds)) → (d : Clause) → List·Memᴰ d cs → Disjoint d c
+parted-before (b ∷ cs) c ds p d (here e) = rw e (p .0 c (Memᴰ·append-right cs (here refl)))
+parted-before (b ∷ cs) c ds p d (there i) = parted-before cs c ds (p .1) d i

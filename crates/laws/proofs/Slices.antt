@@ -2,13 +2,13 @@
 use mathlib.Core.Path.{_≡_, refl, sym, ap, _∙_}
 use mathlib.Core.Bool.{Bool, true, false}
 use mathlib.Core.List.{List, [], _∷_, _++_, append-nil}
-use Prim.Native.Nat.{ℕ, suc, _+_, _-_, _≤_, _<_}
+use Prim.Native.Nat.{ℕ, suc, _+_, _-_, _≤_, _<_, zero}
 use native.Mathlib.Nat.{add-zero}
 use native.Mathlib.Numerals.{add-one}
 use native.Mathlib.Omega.{arith}
 use lib.Dec.{ltb}
-use lib.ListN.{length, getD, set, length-set, take, drop, length-append, length-drop, drop-of-length-le, take-append-drop}
-use lib.Seq.{take-all, take-nil, take-suc-set, append-snoc, sets, set-comm, set-out, drop-set-add, drop-set-lt, take-set-le, length-take-le, drop-cons, take-at, sets-eq}
+use lib.ListN.{length, getD, set, length-set, take, drop, length-append, length-drop, drop-of-length-le, take-append-drop, replicate}
+use lib.Seq.{take-all, take-nil, take-suc-set, append-snoc, sets, set-comm, set-out, drop-set-add, drop-set-lt, take-set-le, length-take-le, drop-cons, take-at, sets-eq, getD-take, take-add, drop-at, length-sets}
 use borrow.Author.Tests.{ltb-true, ltb-false}
 use Rattle.definition.specs.Lists.{any, all}
 use Rattle.laws.proofs.Tests.{by-test}
@@ -146,3 +146,19 @@ module _ {A : Type 0} (p : A → Bool) (s : List A) (i : ℕ) (h : length s ≤ 
   pub all-end : true ≡ all p (drop i s)
   unfolding all
   all-end = rw (drop-end s i h) refl
+
+-- ---- what two lists share, and what lies before a run of stores
+pub getD-before {ℓ} : {A : Type ℓ} (s t : List A) (m i : ℕ) (d : A) → take m s ≡ take m t → i < m → getD s i d ≡ getD t i d
+getD-before {A} s t m i d e h = sym (getD-take m s i d h) ∙ ap (λ (k : List A). getD k i d) e ∙ getD-take m t i d h
+
+pub part-before : {A : Type 0} (W s : List A) (k b n : ℕ) → b + n ≤ k → k ≤ length s → take n (drop b (sets s k W)) ≡ take n (drop b s)
+part-before {A} W s k b n h m = as-rest (sets s k W) (omega (arith, length-sets s k W)) ∙ ap (drop b) (sets-before W s k (b + n) h) ∙ sym (as-rest s (omega arith))
+  where
+    as-rest : (l : List A) → b + n ≤ length l → take n (drop b l) ≡ drop b (take (b + n) l)
+    as-rest l g = sym (ap (drop b) (take-add b n l) ∙ drop-at (take b l) (take n (drop b l)) b (length-take-le b l (omega arith)))
+
+-- a table of zeros
+pub getD-zeros : (n i : ℕ) → _≡_ {A = ℕ} (getD (replicate n 0) i 0) 0
+getD-zeros zero i = refl
+getD-zeros (suc n) zero = refl
+getD-zeros (suc n) (suc i) = getD-zeros n i

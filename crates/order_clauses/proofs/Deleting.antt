@@ -2,7 +2,7 @@
 use mathlib.Core.Path.{_≡_, refl, sym, ap, ap₂, subst, _∙_}
 use mathlib.Core.Bool.{Bool, true, false}
 use mathlib.Core.List.{List, [], _∷_, _++_, map, map-append, append-assoc}
-use Prim.Native.Nat.{ℕ, zero, suc, _+_, _-_, _≤_, _<_, _^_}
+use Prim.Native.Nat.{ℕ, suc, _+_, _-_, _≤_, _<_, _^_}
 use native.Mathlib.Omega.{arith}
 use lib.Dec.{ltb}
 use lib.IntN.{ℤ, pos, negℤ, natAbs}
@@ -14,24 +14,20 @@ use mir.ValLaws.{toZ-ofZ}
 use Rattle.definition.specs.Lists.{only-if, for-from}
 use Rattle.definition.specs.Literals.{Clause, Formula}
 use Rattle.definition.specs.Text.{Bytes}
-use Rattle.definition.specs.Standing.{deletion, take-out}
-use Rattle.laws.proofs.Loops.{for-from-snoc, getD-mem}
+use Rattle.definition.specs.Standing.{deletion}
+use Rattle.laws.proofs.Loops.{for-from-snoc, getD-mem, for-from-around}
 use Rattle.laws.proofs.Fitting.{Fit-all}
 use Rattle.definition.specs.Counter.{size, lit, new}
 use Rattle.definition.specs.Order.{previous, negated-new, deletions-of}
 use Rattle.literals.specs.Literal.{signed-of, negation}
 use Rattle.literals.proofs.Laws.{at-arg2, signed-small, negation-small}
-use Rattle.soundness.proofs.Removals.{take-all}
+use Rattle.soundness.proofs.Removals.{take-all, take-all-++}
 use Rattle.clauses.specs.Store.{Formed, stored}
 use Rattle.recording.specs.declared.Progress.{Progress}
 use Rattle.recording.proofs.Laws.{written-none, written-then, written-length, room-first, room-rest}
-use Rattle.order_clauses.specs.Order.{of-literals, first-deletion, Deletable, Deletes}
+use Rattle.counter_form.proofs.Ready.{of-literals}
+use Rattle.order_clauses.specs.Order.{first-deletion, Deletable, Deletes}
 use Rattle.order_clauses.proofs.Writing.{wanted, new-arg, array-clause}
-
--- belongs in crate soundness
-take-all-++ : (F A B : Formula) → take-all F (A ++ B) ≡ take-all (take-all F A) B
-take-all-++ F [] B = refl
-take-all-++ F (d ∷ A) B = take-all-++ (take-out d F) A B
 
 pub deletes-none : {s : List ℤ} (log : Bytes) (p : Progress) → Formed s → Deletes [] s log p s log p
 deletes-none log p f = record { formed = f; stands = refl; written = written-none log p p refl refl; kept = refl }
@@ -53,14 +49,6 @@ module _ (A B : List Clause) {s s1 : List ℤ} {x y : Bytes} {p q : Progress} wh
 
 -- ---- for i = 1, 2, ..
 
-for-from-++ : {A : Type 0} (k a b : ℕ) (f : ℕ → List A) → for-from k (a + b) f ≡ for-from k a f ++ for-from (k + a) b f
-unfolding for-from
-for-from-++ k zero b f = let e : 0 + b ≡ b = omega arith in let g : k + 0 ≡ k = omega arith in rw (e, g) refl
-for-from-++ k (suc a) b f =
-    let e : suc a + b ≡ suc (a + b) = omega arith in
-    let g : k + suc a ≡ suc k + a = omega arith in
-    rw (e, g) (ap (λ (r : List _). f k ++ r) (for-from-++ (suc k) a b f) ∙ sym (append-assoc (f k) (for-from (suc k) a f) (for-from (suc k + a) b f)))
-
 -- those up to place i - 1 are done
 pub record Deleting (f : ℕ → List Clause) (n : ℕ) (old : List ℤ) (old-log : Bytes) (p : Progress) (i : ℕ) (s : List ℤ) (log : Bytes) (q : Progress) : Type 0 where
   pub from : 1 ≤ i
@@ -75,11 +63,9 @@ deleting-start f n s log p g = record { from = omega arith; within = omega arith
 
 module _ {f : ℕ → List Clause} {n : ℕ} {old : List ℤ} {x : Bytes} {p : Progress} {i : ℕ} {s : List ℤ} {y : Bytes} {q : Progress} (d : Deleting f n old x p i s y q) (h : i ≤ n) where
   split : for-from 1 n f ≡ for-from 1 (i - 1) f ++ (f i ++ for-from (suc i) (n - i) f)
-  unfolding for-from
   split =
-      let e : n ≡ (i - 1) + suc (n - i) = omega (arith, d .from) in
-      let g : 1 + (i - 1) ≡ i = omega (arith, d .from) in
-      ap (λ (k : ℕ). for-from 1 k f) e ∙ for-from-++ 1 (i - 1) (suc (n - i)) f ∙ ap (λ (k : ℕ). for-from 1 (i - 1) f ++ (f k ++ for-from (suc k) (n - i) f)) g
+      let e : 1 + n - suc i ≡ n - i = omega arith in
+      for-from-around 1 n i f (d .from) (omega arith) ∙ ap (λ (m : ℕ). for-from 1 (i - 1) f ++ (f i ++ for-from (suc i) m f)) e
 
   pub deleting-room : Deletable (for-from 1 n f) old p → Deletable (f i) s q
   deleting-room r =

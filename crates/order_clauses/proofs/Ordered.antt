@@ -11,27 +11,27 @@ use Rattle.definition.specs.Lists.{for-each}
 use Rattle.definition.specs.Literals.{Clause, Formula, same-set}
 use Rattle.definition.specs.Text.{Bytes}
 use Rattle.definition.specs.Standing.{Line, deletion, stands, take-out}
-use Rattle.definition.specs.Events.{Choice, literals-deleted}
+use Rattle.definition.specs.Events.{Choice}
 use Rattle.definition.specs.Counter.{counter}
-use Rattle.definition.specs.Order.{replace, order-events, literal-deletions}
-use Rattle.definition.specs.Reencoding.{lines, lines-of}
+use Rattle.definition.specs.Order.{replace, order-events}
+use Rattle.definition.specs.Reencoding.{lines}
 use Rattle.laws.proofs.Tests.{to-false}
 use Rattle.laws.proofs.Members.{Fits, any-mem, same-set-same}
 use Rattle.laws.proofs.Removal.{take-out-past}
-use Rattle.laws.proofs.Replay.{lines-++}
 use Rattle.soundness.proofs.Removals.{take-all}
 use Rattle.soundness.proofs.CounterClauses.{Written as Literals-written, written}
 use Rattle.order_form.proofs.Recursive.{link-deletions, deletions-from, deletions, deletions-is}
 use Rattle.order_form.proofs.Pass.{kept, added, kept-mem}
-use Rattle.order_form.proofs.Order.{ordered, order-events-are, Before, after-order}
+use Rattle.order_form.proofs.Order.{ordered, Before, after-order, order-lines}
 use Rattle.clauses.specs.Store.{Formed, stored}
 use Rattle.clauses.proofs.Laws.{formed-++, stored-++}
 use Rattle.recording.specs.declared.Progress.{Progress}
 use Rattle.recording.specs.Progress.{Written, Log-room, Ran}
-use Rattle.recording.proofs.Laws.{lines-one, written-then, room-first, room-rest, ran-lines}
+use Rattle.recording.proofs.Laws.{written-then, room-first, room-rest, ran-lines}
+use Rattle.counter_form.proofs.Ready.{of-literals}
 use Rattle.order_clauses.specs.Table.{Places, Small}
 use Rattle.order_clauses.proofs.Replaced.{place-within}
-use Rattle.order_clauses.specs.Order.{of-literals, front, with-counter, Order-ready, Passed, Deletable, Deletes}
+use Rattle.order_clauses.specs.Order.{front, with-counter, Order-ready, Passed, Deletable, Deletes}
 
 -- ---- each deleted clause holds a new variable
 
@@ -71,10 +71,6 @@ module _ (k : Choice) (E : Formula) (b : Before E k) where
   pub ordered-is : ordered E k ≡ kept k E ++ take-all (counter k ++ added k E) (deletions k)
   unfolding ordered
   ordered-is = take-all-past (k .below) (deletions k) (kept k E) (counter k ++ added k E) (λ d i. b .fits d (kept-mem k E d i .0)) deletions-new
-
-  pub order-lines : lines (order-events k (E ++ counter k)) ≡ lines (for-each E (replace k)) ++ map deletion (deletions k)
-  unfolding lines-of literal-deletions
-  order-lines = ap lines (order-events-are k E) ∙ lines-++ (for-each E (replace k)) (literals-deleted k ∷ []) ∙ ap (λ (r : List Line). lines (for-each E (replace k)) ++ r) (lines-one (literals-deleted k))
 
 -- ---- the whole
 

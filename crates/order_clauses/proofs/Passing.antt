@@ -1,6 +1,6 @@
 -- The pass over the store: what is left of the clauses gone through, and their results behind the store. Assumes nothing.
 use mathlib.Core.Path.{_≡_, refl, sym, ap, ap₂, subst, _∙_}
-use mathlib.Core.Bool.{Bool, true, false, cond, not}
+use mathlib.Core.Bool.{Bool, true, false, not}
 use mathlib.Core.List.{List, [], _∷_, _++_, append-nil, append-assoc, List·Memᴰ, List·Memᴰ·head as here, Memᴰ·append-right}
 use Prim.Native.Nat.{ℕ, _+_, _≤_, _<_}
 use native.Mathlib.Omega.{arith}
@@ -17,12 +17,12 @@ use Rattle.definition.specs.Order.{replacement-lines, replaced, replace}
 use Rattle.definition.specs.Calls.{numbers-of}
 use Rattle.definition.specs.Reencoding.{lines, lines-of}
 use Rattle.laws.proofs.Tests.{by-test}
-use Rattle.laws.proofs.Members.{Proper, Proper-all}
+use Rattle.laws.proofs.Members.{Proper, Proper-all, those-++}
 use Rattle.laws.proofs.Fitting.{Fit-all, proper-length}
 use Rattle.laws.proofs.Clauses.{numbers-none, numbers-first, numbers-++, tests-proper}
 use Rattle.laws.proofs.Loops.{for-each-++}
 use Rattle.laws.proofs.Replay.{lines-++}
-use Rattle.counter_form.proofs.Ready.{Well-formed}
+use Rattle.counter_form.proofs.Ready.{Well-formed, of-literals}
 use Rattle.order_form.proofs.Replace.{replaced-fit}
 use Rattle.order_form.proofs.Results.{replaced-distinct}
 use Rattle.order_form.proofs.Pass.{kept, added, results as results-of}
@@ -35,18 +35,8 @@ use Rattle.recording.specs.Progress.{Written, Log-room}
 use Rattle.recording.proofs.Laws.{lines-none, lines-one, written-none, written-then, room-first, room-rest}
 use Rattle.order_clauses.specs.Table.{Places, opposed-by, replaced-by}
 use Rattle.order_clauses.specs.Pass.{entry-added, line-added, Addable, touched, Step}
-use Rattle.order_clauses.specs.Order.{of-literals, Passed}
+use Rattle.order_clauses.specs.Order.{Passed}
 use Rattle.order_clauses.proofs.Replaced.{replaced-is, negated-is, opposed-is}
-
--- belongs in crate laws
-those-++ : {A : Type 0} (p : A → Bool) (xs ys : List A) → those p (xs ++ ys) ≡ those p xs ++ those p ys
-unfolding those
-those-++ p [] ys = refl
-those-++ {A} p (x ∷ xs) ys = go (p x) (those-++ p xs ys)
-  where
-    go : (b : Bool) → those p (xs ++ ys) ≡ those p xs ++ those p ys → cond b (x ∷ those p (xs ++ ys)) (those p (xs ++ ys)) ≡ cond b (x ∷ those p xs) (those p xs) ++ those p ys
-    go true e = ap (λ (r : List A). x ∷ r) e
-    go false e = e
 
 -- a run behind a list
 sets-behind : (X Z W : List ℤ) (n : ℕ) → n ≡ length X → length W ≤ length Z → sets (X ++ Z) n W ≡ X ++ (W ++ drop (length W) Z)

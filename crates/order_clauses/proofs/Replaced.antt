@@ -3,7 +3,7 @@ use mathlib.Core.Path.{_≡_, refl, sym, ap, ap₂, _∙_}
 use mathlib.Core.Bool.{Bool, true, false, cond, _||_}
 use mathlib.Core.List.{List, [], _∷_, _++_, List·Memᴰ, List·Memᴰ·head as here, List·Memᴰ·tail as there, Memᴰ·cast, List·Memᴰ·not-nil}
 use mathlib.Core.Option.{Option, some, none}
-use Prim.Native.Nat.{ℕ, zero, suc, _+_, _-_, _≤_, _<_}
+use Prim.Native.Nat.{ℕ, suc, _+_, _-_, _≤_, _<_}
 use native.Mathlib.Omega.{arith}
 use lib.Dec.{T, ltb, eqb}
 use lib.IntN.{ℤ, pos, negℤ, negℤ-negℤ}
@@ -16,13 +16,12 @@ use Rattle.definition.specs.Events.{Choice}
 use Rattle.definition.specs.Counter.{size, lit, new}
 use Rattle.definition.specs.Order.{place-from, previous, negated-new, instead-of, replaced}
 use Rattle.laws.proofs.Tests.{of-true, to-true, each-way, by-test, and-l, and-r, and-i}
-use Rattle.laws.proofs.Members.{Proper, unlike, unlike-false, same-refl, any-mem, mem-any, opposes-mem, mem-opposes}
+use Rattle.laws.proofs.Members.{Proper, unlike, any-mem, mem-any, opposes-mem, mem-opposes}
 use Rattle.laws.proofs.Fitting.{Up-to}
 use Rattle.laws.proofs.Loops.{getD-mem}
-use Rattle.counter_form.proofs.Ready.{Well-formed}
-use Rattle.order_form.proofs.Results.{placed, Neighbours, opposed-exactly}
+use Rattle.counter_form.proofs.Ready.{Well-formed, of-literals}
+use Rattle.order_form.proofs.Results.{placed, Neighbours, opposed-exactly, place-at}
 use Rattle.order_clauses.specs.Table.{place-in, number-of, Places, negated-in, with-place-marks, next-in, opposed-by, instead-by, replaced-by}
-use Rattle.order_clauses.specs.Order.{of-literals}
 
 -- ---- marks
 
@@ -54,7 +53,7 @@ mark-tells t p d h = ap (λ (n : ℕ). eqb n 1) (marked-place t p d (replicate 6
     go true = refl
     go false = refl
 
--- ---- the place of a literal; belongs in crate order_form
+-- ---- the place of a literal
 
 place-of-mem : (i : ℕ) (x : ℤ) (c : Clause) → 0 < i → List·Memᴰ x c → 0 < number-of (place-from i x c)
 unfolding place-from
@@ -65,14 +64,6 @@ place-of-mem i x (a ∷ c) h j = go (same x a) refl j (place-of-mem (suc i) x c 
     go true e j ih = h
     go false e (here q) ih = absurd (unlike x a e q)
     go false e (there j) ih = ih j
-
-place-at : (i : ℕ) (c : Clause) → Proper c → (j : ℕ) → j < length c → place-from i (getD c j (pos 0)) c ≡ some (i + j)
-unfolding place-from
-place-at i [] a j b = absurd (omega arith)
-place-at i (l ∷ c) a zero b = let e : i ≡ i + 0 = omega arith in rw (to-true {b = same l l} (same-refl l)) (ap some e)
-place-at i (l ∷ c) a (suc j) b =
-    let e : suc i + j ≡ i + suc j = omega arith in
-    rw (unlike-false (getD c j (pos 0)) l (λ q. a .1 (Memᴰ·cast (sym q) (getD-mem c j (pos 0) (omega arith))))) (place-at (suc i) c (a .3) j (omega arith) ∙ ap some e)
 
 -- ---- the choice's words
 module _ (t : List ℕ) (l : Clause) (below : ℕ) (v : Places t l) where

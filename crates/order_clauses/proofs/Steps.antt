@@ -14,7 +14,7 @@ use Rattle.definition.specs.Lists.{any}
 use Rattle.definition.specs.Literals.{Clause}
 use Rattle.definition.specs.Text.{Bytes}
 use Rattle.definition.specs.Standing.{addition, deletion}
-use Rattle.laws.proofs.Slices.{part-is}
+use Rattle.laws.proofs.Slices.{part-is, part-before}
 use Rattle.literals.specs.Literal.{header-of}
 use Rattle.literals.proofs.Laws.{literals-within}
 use Rattle.clauses.specs.Store.{entry, header-at, size-at, deleted-at, clause-at, marked}
@@ -23,7 +23,7 @@ use Rattle.recording.specs.Progress.{Written, Log-room}
 use Rattle.recording.proofs.Laws.{written-none, written-then, room-rest}
 use Rattle.order_clauses.specs.Table.{negated-in, opposed-by, replaced-by}
 use Rattle.order_clauses.specs.Pass.{entry-added, line-added, Addable, Result-added, touched, Step-ready, Step}
-use Rattle.order_clauses.proofs.Writing.{wanted, unwanted, part-back, part-before}
+use Rattle.order_clauses.proofs.Writing.{wanted, unwanted, part-back}
 
 -- ---- adding a result
 module _ (t : List ℕ) (n below : ℕ) (work : List ℤ) (from len : ℕ) where

@@ -8,12 +8,12 @@ use native.Mathlib.Numerals.{add-one}
 use lib.Dec.{ltb}
 use lib.IntN.{ℤ, pos, negℤ}
 use lib.ListN.{length, getD, set, take, drop, length-append, length-drop, take-append-drop}
-use lib.Seq.{take-suc, take-take, take-add, take-at, drop-at, length-take-le, getD-drop, getD-take, sets, sets-eq, length-sets}
+use lib.Seq.{take-suc, take-take, take-at, drop-at, length-take-le, getD-drop, sets, sets-eq, length-sets}
 use borrow.Author.Tests.{lt-ltb, le-ltb}
 use Rattle.definition.specs.Lists.{only-if, for-each}
 use Rattle.definition.specs.Literals.{Clause}
 use Rattle.laws.proofs.Loops.{for-each-++}
-use Rattle.laws.proofs.Slices.{sets-then, sets-first, sets-before, taken-sets}
+use Rattle.laws.proofs.Slices.{sets-then, sets-first, sets-before, taken-sets, getD-before}
 use Rattle.literals.specs.Literal.{header-of, signed-of, with-sign}
 use Rattle.literals.proofs.Laws.{signed-small, at-arg, answer}
 use Rattle.clauses.specs.Store.{entry}
@@ -56,9 +56,6 @@ module _ (n below : ℕ) (m : ℤ) (p : ℕ) where
 
 -- ---- literal by literal
 
-getD-before : (s t : List ℤ) (m i : ℕ) → take m s ≡ take m t → i < m → getD s i (pos 0) ≡ getD t i (pos 0)
-getD-before s t m i e h = sym (getD-take m s i (pos 0) h) ∙ ap (λ (k : List ℤ). getD k i (pos 0)) e ∙ getD-take m t i (pos 0) h
-
 -- what g gives for the first i of n literals is written
 pub record Writing (g : ℤ → Clause) (old : List ℤ) (to from n i end : ℕ) (work : List ℤ) : Type 0 where
   pub inside : i ≤ n
@@ -86,7 +83,7 @@ module _ {g : ℤ → Clause} {old work : List ℤ} {to from n i end : ℕ} (s :
   literal = getD work (from + i) (pos 0)
 
   same-literal : literal ≡ getD (drop from old) i (pos 0)
-  same-literal = getD-before work old to (from + i) (ap (take to) (s .written) ∙ sets-before before old to to (omega arith)) (omega arith) ∙ sym (getD-drop from old i (pos 0))
+  same-literal = getD-before work old to (from + i) (pos 0) (ap (take to) (s .written) ∙ sets-before before old to to (omega arith)) (omega arith) ∙ sym (getD-drop from old i (pos 0))
 
   chunk : for-each (take (i + 1) (drop from old)) g ≡ before ++ g literal
   chunk =
@@ -190,10 +187,3 @@ part-back W s a h =
     ap (λ (r : List ℤ). take (length W) (drop a r)) (sets-eq W s a h ∙ append-assoc (take a s) W (drop (a + length W) s))
     ∙ ap (take (length W)) (drop-at (take a s) (W ++ drop (a + length W) s) a (length-take-le a s (omega arith)))
     ∙ take-at W (drop (a + length W) s) (length W) refl
-
--- a part before a run; belongs in crate laws
-pub part-before : (W s : List ℤ) (k b n : ℕ) → b + n ≤ k → k ≤ length s → take n (drop b (sets s k W)) ≡ take n (drop b s)
-part-before W s k b n h m = as-rest (sets s k W) (omega (arith, length-sets s k W)) ∙ ap (drop b) (sets-before W s k (b + n) h) ∙ sym (as-rest s (omega arith))
-  where
-    as-rest : (l : List ℤ) → b + n ≤ length l → take n (drop b l) ≡ drop b (take (b + n) l)
-    as-rest l g = sym (ap (drop b) (take-add b n l) ∙ drop-at (take b l) (take n (drop b l)) b (length-take-le b l (omega arith)))

@@ -22,10 +22,7 @@ use Rattle.order_form.proofs.Order.{Before}
 use Rattle.clauses.specs.Store.{Formed, stored}
 use Rattle.recording.specs.declared.Progress.{Progress}
 use Rattle.recording.specs.Progress.{Written, Log-room}
-
--- the choice of the literals l, its new variables above `below`
-abbrev pub of-literals : Clause → ℕ → Choice
-of-literals l below = record { clause = l; literals = l; below = below }
+pub use Rattle.counter_form.proofs.Ready.{of-literals}
 
 -- what stands before the counter clauses, which begin at `start`
 abbrev pub front : List ℤ → ℕ → Formula

@@ -128,15 +128,15 @@ module _ (k : Choice) (E : Formula) (b : Before E k) where
       (only-later k (λ (c : Clause). (x : ℤ) → List·Memᴰ x c → Stands (natAbs x) (E ++ counter k) ⊎ (last-new k < natAbs x))
       (λ c i x m. ⊎-elim (λ s. inl (stood (natAbs x) s)) inr (w c i x m))))
 
-  lines-are : lines (order-events k (E ++ counter k)) ≡ lines (for-each E (replace k)) ++ map deletion (deletions k)
+  pub order-lines : lines (order-events k (E ++ counter k)) ≡ lines (for-each E (replace k)) ++ map deletion (deletions k)
   unfolding lines lines-of literal-deletions for-each
-  lines-are = rw (order-events-are k E, for-each-++ (for-each E (replace k)) (literals-deleted k ∷ []) lines-of, append-nil (map deletion (deletions k)))
+  order-lines = rw (order-events-are k E, for-each-++ (for-each E (replace k)) (literals-deleted k ∷ []) lines-of, append-nil (map deletion (deletions k)))
 
   order-lines-sound : {H : Formula} {K L : List Event} {xs : List Line} → Known (last-new k) K (ordered E k) → Sound (ordered E k) K xs H L →
       Sound (E ++ counter k) (order-events k (E ++ counter k) ++ K) (lines (order-events k (E ++ counter k)) ++ xs) H L
   unfolding last-new
   order-lines-sound {H} {K} {L} {xs} w s =
-      rw (lines-are, order-events-are k E, append-assoc (for-each E (replace k)) (literals-deleted k ∷ []) K, append-assoc (lines (for-each E (replace k))) (map deletion (deletions k)) xs)
+      rw (order-lines, order-events-are k E, append-assoc (for-each E (replace k)) (literals-deleted k ∷ []) K, append-assoc (lines (for-each E (replace k))) (map deletion (deletions k)) xs)
       (rw (append-nil (counter k)) at (pass-sound k u H (literals-deleted k ∷ K) L (map deletion (deletions k) ++ xs) [] E [] (λ d i. absurd (List·Memᴰ·not-nil i)) (λ d i x j. replaced-fit k u d (b .fits d i) x j .0)
       (weaken (λ σ t o. only-later k (λ (c : Clause). trues σ c ≡ 1) o)
       (literals-deleted-sound k u ordered-gone

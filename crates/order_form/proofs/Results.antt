@@ -34,13 +34,13 @@ place-of i m (a ∷ c) p e = go (same m a) refl e (place-of (suc i) m c p)
     go true t e ih = let q : i ≡ p = cc in (0, omega arith, omega arith, sym (same-eq m a (of-true t)))
     go false t e ih = let r = ih e in let s = r .1 in let l = r .2 in (suc (r .0), omega arith, omega arith, r .3)
 
-at-place : (i : ℕ) (c : Clause) → Proper c → (j : ℕ) → j < length c → place-from i (getD c j (pos 0)) c ≡ some (i + j)
+pub place-at : (i : ℕ) (c : Clause) → Proper c → (j : ℕ) → j < length c → place-from i (getD c j (pos 0)) c ≡ some (i + j)
 unfolding place-from
-at-place i [] a j b = absurd (omega arith)
-at-place i (l ∷ c) a zero b = let e : i ≡ i + 0 = omega arith in rw (to-true {b = same l l} (same-refl l)) (ap some e)
-at-place i (l ∷ c) a (suc j) b =
+place-at i [] a j b = absurd (omega arith)
+place-at i (l ∷ c) a zero b = let e : i ≡ i + 0 = omega arith in rw (to-true {b = same l l} (same-refl l)) (ap some e)
+place-at i (l ∷ c) a (suc j) b =
     let e : suc i + j ≡ i + suc j = omega arith in
-    rw (unlike-false (getD c j (pos 0)) l (λ q. a .1 (Memᴰ·cast (sym q) (getD-mem c j (pos 0) (omega arith))))) (at-place (suc i) c (a .3) j (omega arith) ∙ ap some e)
+    rw (unlike-false (getD c j (pos 0)) l (λ q. a .1 (Memᴰ·cast (sym q) (getD-mem c j (pos 0) (omega arith))))) (place-at (suc i) c (a .3) j (omega arith) ∙ ap some e)
 
 -- a literal's place in the choice
 pub placed : (k : Choice) (m : ℤ) (p : ℕ) → place-from 1 m (k .literals) ≡ some p → (1 ≤ p) × (p ≤ size k) × (lit k p ≡ m)
@@ -81,7 +81,7 @@ pub record Neighbours (k : Choice) (d : Clause) : Type 0 where
 module _ (k : Choice) (u : Well-formed k) where
   of-lit : (p : ℕ) → 0 < p → p ≤ size k → place-from 1 (lit k p) (k .literals) ≡ some p
   unfolding lit size
-  of-lit p h b = let q : 1 + (p - 1) ≡ p = omega arith in at-place 1 (k .literals) (u .proper) (p - 1) (omega arith) ∙ ap some q
+  of-lit p h b = let q : 1 + (p - 1) ≡ p = omega arith in place-at 1 (k .literals) (u .proper) (p - 1) (omega arith) ∙ ap some q
 
   -- what stands for a literal
   abbrev instead : ℤ → Clause

@@ -7,19 +7,19 @@ use mathlib.Core.Option.{Option, some, none}
 use Prim.Native.Nat.{ℕ, _+_, _≤_}
 use native.Mathlib.Omega.{arith}
 use lib.Dec.{eqb, ltb}
-use lib.IntN.{ℤ, pos, negℤ, natAbs}
+use lib.IntN.{ℤ, pos, natAbs}
 use lib.ListN.{length, take, length-append}
 use borrow.Author.Tests.{eqb-false}
 use Rattle.definition.specs.Lists.{for-each, sum-of}
 use Rattle.definition.specs.Checked.{Checked, fault, value, _>>=_, refuse-if, through}
-use Rattle.definition.specs.Literals.{Clause, holds, repeated, opposed, highest}
+use Rattle.definition.specs.Literals.{Clause, highest}
 use Rattle.definition.specs.Text.{Bytes, TextLine, bytes, text-lines, same-bytes, fields, number}
 use Rattle.definition.specs.Standing.{Line, addition, deletion, literals, highest-in}
 use Rattle.definition.specs.LogReading.{with-literal, read-line-clause, allowed-clause, read-line-fields, read-line, read-log, numbers-in}
-use Rattle.laws.proofs.Tests.{to-false, or-false-both, by-test, differ}
+use Rattle.laws.proofs.Tests.{by-test}
 use Rattle.laws.proofs.Loops.{none-some, some-same}
-use Rattle.laws.proofs.Members.{Proper, mem-holds, mem-opposes, opposes-mem}
-use Rattle.laws.proofs.Clauses.{members-snoc}
+use Rattle.laws.proofs.Members.{Proper}
+use Rattle.laws.proofs.Clauses.{members-snoc, tests-proper}
 use Rattle.laws.proofs.Fitting.{Line-fits}
 use Rattle.laws.proofs.Outcomes.{fault-value, value-same, refuse-value, bind-value, through-keeps}
 use Rattle.proof_log.specs.declared.LogCheck.the-variants as Check
@@ -57,20 +57,6 @@ entries-size (s ∷ ss) = omega (arith, length-append (line-entry s) (for-each s
 
 -- ---- the lines read have proper clauses of variables up to 70,000
 
-unrepeated-proper : (c : Clause) → ((x : ℤ) → List·Memᴰ x c → x ≢ pos 0) → repeated c ≡ false → opposed c ≡ false → Proper c
-unfolding repeated opposed
-unrepeated-proper [] z r o = tt
-unrepeated-proper (l ∷ c) z r o =
-    let apart = or-false-both (holds l c) (repeated c) r in (
-      z l (here refl),
-      (λ i. differ (mem-holds l c i) (apart .0)),
-      (λ i. differ (mem-opposes (l ∷ c) (l ∷ c) l (here refl) (there i)) o),
-      unrepeated-proper c (λ x i. z x (there i)) (apart .1) (to-false (λ t. fewer (opposes-mem c c t))),
-    )
-  where
-    fewer : (x : ℤ) × List·Memᴰ x c × List·Memᴰ (negℤ x) c → ⊥
-    fewer p = differ (mem-opposes (l ∷ c) (l ∷ c) (p .0) (there (p .1)) (there (p .2))) o
-
 no-zero : (l : ℤ) → eqb 0 (natAbs l) ≡ false → l ≢ pos 0
 no-zero l e q = eqb-false 0 (natAbs l) e (sym (ap natAbs q))
 
@@ -98,7 +84,7 @@ allowed-fits : (ws : List Bytes) (c : Clause) → allowed-clause (read-line-clau
 allowed-fits ws c e =
     let p = allowed-some (read-line-clause ws) c e in
     let a = allowed-parts c c (rw p at e) in
-    (unrepeated-proper c (clause-zero ws c p) (a .0) (a .1), a .2)
+    (tests-proper c (a .0) (a .1) (clause-zero ws c p), a .2)
 
 fields-fit : (ws : List Bytes) (s : Line) → read-line-fields ws ≡ value s → Line-fits 70_000 s
 unfolding read-line-fields literals

@@ -23,8 +23,8 @@ use Rattle.soundness.proofs.Times.{times-removed, times-at, unique-at, unique-s
 use Rattle.clearing.proofs.Clashes.{Clash-free}
 use Rattle.clearing.proofs.Pure.{Is-pure, pure-some, pure-removed}
 use Rattle.clearing.proofs.Pass.{pure-at-start}
-use Rattle.clauses.specs.Store.{Formed, stored, size-at, deleted-at, clause-at, past, marked, Place}
-use Rattle.clauses.proofs.Laws.{place-start, place-formed, place-next, stored-end, stored-around, rest-deleted, rest-stands, marked-place, marked-past, marked-behind, marked-stored}
+use Rattle.clauses.specs.Store.{Formed, stored, deleted-at, clause-at, past, marked, Place}
+use Rattle.clauses.proofs.Laws.{place-start, place-formed, place-next, stored-end, stored-around, rest-deleted, rest-stands, marked-place, marked-past, marked-behind, marked-stored, part-there}
 use Rattle.recording.specs.declared.Progress.{Progress}
 use Rattle.recording.specs.Progress.{Written, Ran}
 use Rattle.recording.proofs.Laws.{lines-none, lines-one, text-++, written-none, written-then, ran-lines}
@@ -185,10 +185,6 @@ passing-room {F} {s = s} {at = at} b i =
       omega (arith, b .text, i .written .written .next, k, m, length-append (log-text (lines (i .events))) (log-text (lines others))),
       omega (arith, b .count, i .written .counted, g, length-append (lines (i .events)) (lines others)),
     )
-
--- the clause at a place as a part of the store
-pub part-there : (s : List ℤ) (at next : ℕ) → next ≡ past s at → take (next - (at + 1)) (drop (at + 1) s) ≡ clause-at s at
-part-there s at next e = let k : next - (at + 1) ≡ size-at s at = omega arith in ap (λ (n : ℕ). take n (drop (at + 1) s)) k
 
 -- ---- at a place, by what the functions answer there
 

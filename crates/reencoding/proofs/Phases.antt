@@ -20,7 +20,7 @@ use Rattle.definition.specs.Reencoding.{Form, Settings, lines, choice-events, c
 use Rattle.definition.specs.Calls.{workspace-need, numbers-of}
 use Rattle.laws.proofs.Replay.{lines-++}
 use Rattle.round_trips.proofs.Accepted.{Accepted}
-use Rattle.counter_form.proofs.Front.{front}
+use Rattle.counter_form.proofs.Front.{front, counter-open, front-open}
 use Rattle.room.proofs.Lines.{new-variables, as-choice}
 use Rattle.room.proofs.Runs.{order-of, choosing, chosen-mem}
 use Rattle.room.proofs.Compaction.{standing-after-first, next-choice}
@@ -36,12 +36,13 @@ use Rattle.clash_clearing.specs.Clashes.{Clash-ready}
 use Rattle.run_bounds.specs.Choices as Bounds
 use Rattle.run_bounds.specs.Sizes.{Sizes, Standing-cleared}
 use Rattle.run_bounds.proofs.Sizes.{sizes}
-use Rattle.run_bounds.proofs.Cleared.{events-from-clashes, unclashed-standing, cleared-standing}
-use Rattle.run_bounds.proofs.OpenClause.{counter-open, front-open, last-open, results-open, events-open}
-use Rattle.run_bounds.proofs.Choices.{choices-taken}
+use Rattle.run_bounds.proofs.Cleared.{unclashed-standing, cleared-standing}
+use Rattle.run_bounds.proofs.OpenClause.{last-open, results-open, events-open}
+use Rattle.run_bounds.proofs.Choices.{choices-taken, few-variables}
 use Rattle.clauses.specs.Store.{stored}
-use Rattle.counter_clauses.specs.Choice.{of-literals}
 use Rattle.aligning.specs.Aligned.{Alignable-store, Aligned}
+use Rattle.counter_form.proofs.Ready.{of-literals}
+use Rattle.theorems.proofs.Steps.{events-from-clashes}
 use Rattle.reencoding.specs.Choosing.{Takeable, All-takeable, finished, at-choice, taken-events, All-ready}
 use Rattle.reencoding.specs.Run.{wish-of, input-in, start-at, Run-ready, Arranged}
 
@@ -135,11 +136,6 @@ prefix-length xs ys n e = sym e ∙ sym (ap length (prefix-is xs ys n e))
 
 -- ---- the phases
 
--- the variables are within the tables' reach
-within-reach : {i : Input} → Accepted input-limits i → i .variables ≤ 8_000
-unfolding input-limits
-within-reach a = a .variables-few
-
 module _ {work : List ℤ} {end v : ℕ} (h : Run-ready work end v) (s : Settings) where
   abbrev i : Input
   i = input-in work end v
@@ -185,7 +181,7 @@ module _ {work : List ℤ} {end v : ℕ} (h : Run-ready work end v) (s : Setting
           inside = ran-holds r₁ .inside;
           formed = r₁ .formed;
           proper = rw unclashed-here (u .proper);
-          fits = rw unclashed-here (λ d m x k. fit-up 8_000 v x (within-reach (h .accepted)) (u .fits d m x k));
+          fits = rw unclashed-here (λ d m x k. fit-up 8_000 v x (few-variables (h .accepted)) (u .fits d m x k));
           few = rw unclashed-here (omega (arith, u .few));
           free = rw unclashed-here (u .free);
           room = rw unclashed-here (record { text = q .text; count = q .count });
@@ -206,7 +202,7 @@ module _ {work : List ℤ} {end v : ℕ} (h : Run-ready work end v) (s : Setting
       c = cleared-standing i (h .accepted)
 
       reached : Fits 8_000 (cleared F)
-      reached d m x k = fit-up 8_000 v x (within-reach (h .accepted)) (c .fits d m x k)
+      reached d m x k = fit-up 8_000 v x (few-variables (h .accepted)) (c .fits d m x k)
 
       pub collectable : (chosen-part : List ℤ) → length chosen-part ≡ 9_600 → Collectable (take (p₂ .end) w₂) chosen-part
       unfolding chosen input

@@ -1,8 +1,7 @@
 -- One choice: the store is compacted, the choice taken in counter form and, if that is named, in order form.
 use mathlib.Core.Path.{_≡_, refl, sym, ap, _∙_}
-use mathlib.Core.Logic.{⊎-elim}
 use mathlib.Core.Bool.{Bool, true, false}
-use mathlib.Core.List.{List, [], _∷_, _++_, List·Memᴰ·append-cases}
+use mathlib.Core.List.{List, [], _∷_, _++_}
 use Prim.Native.Nat.{ℕ}
 use native.Mathlib.Omega.{arith}
 use lib.IntN.{ℤ}
@@ -13,38 +12,25 @@ use Rattle.definition.specs.Literals.{Clause, Formula}
 use Rattle.definition.specs.Text.{Bytes}
 use Rattle.definition.specs.Standing.{after}
 use Rattle.definition.specs.Events.{Choice}
-use Rattle.definition.specs.Counter.{size, lit, new, stage-2, stage-3, counter, take-choice, choice-lines}
+use Rattle.definition.specs.Counter.{size, counter, take-choice}
 use Rattle.definition.specs.Order.{order-events}
 use Rattle.definition.specs.Reencoding.{Form, counter-form, order-form, lines, lines-of, choice-events}
 use Rattle.laws.proofs.Members.{Proper-all}
 use Rattle.laws.proofs.Fitting.{highest-le}
-use Rattle.counter_form.proofs.Pairs.{missing-mem}
-use Rattle.counter_form.proofs.Front.{front, front-removes, front-fits, front-own, well-formed, own-fit}
+use Rattle.counter_form.proofs.Front.{front, counter-open, front-open, taken-open}
 use Rattle.counter_form.proofs.Counter.{after-choice}
-use Rattle.soundness.proofs.Removals.{mem-removes}
 use Rattle.order_form.proofs.Order.{Before}
-use Rattle.room.proofs.Choice.{pairs-to}
 use Rattle.clauses.specs.Store.{stored, Compacted}
 use Rattle.recording.specs.declared.Progress.{Progress}
 use Rattle.recording.specs.Progress.{Written, Log-room, Ran}
 use Rattle.recording.proofs.Laws.{lines-one, room-first, room-rest, ran-join, ran-written}
-use Rattle.counter_clauses.specs.Choice.{of-literals, Choice-ready, Taken}
+use Rattle.counter_clauses.specs.Choice.{Choice-ready, Taken}
 use Rattle.order_clauses.specs.Order.{Order-ready}
+use Rattle.counter_form.proofs.Ready.{of-literals}
+use Rattle.theorems.proofs.Choices.{before-order as before-choice}
+use Rattle.run_bounds.proofs.OpenClause.{before-open}
+use Rattle.run_bounds.proofs.Choices.{front-proper-of}
 use Rattle.reencoding.specs.Choosing.{form-of, Takeable, One-ready}
-
--- ---- which clause a choice was does not matter
-
-counter-as : (k : Choice) → counter k ≡ counter (of-literals (k .literals) (k .below))
-unfolding counter stage-2 stage-3 size lit new
-counter-as k = refl
-
-front-as : (F : Formula) (k : Choice) → front F k ≡ front F (of-literals (k .literals) (k .below))
-unfolding front
-front-as F k = refl
-
-pub lines-as : (F : Formula) (k : Choice) → lines-of (take-choice F k) ≡ lines-of (take-choice F (of-literals (k .literals) (k .below)))
-unfolding lines-of take-choice choice-lines counter stage-2 stage-3 size lit new
-lines-as F k = refl
 
 -- ---- what stands after the counter form
 
@@ -53,19 +39,13 @@ module _ {form : Form} {size : ℕ} {F : Formula} {l : Clause} {below : ℕ} (t 
   taken = record { clause = t .clause; literals = l; below = below }
 
   pub after-taken : after F (lines-of (take-choice F (of-literals l below))) ≡ front F (of-literals l below) ++ counter (of-literals l below)
-  after-taken = rw (sym (lines-as F taken), sym (front-as F taken), sym (counter-as taken)) (after-choice F taken (t .fits) (t .ready))
+  after-taken = rw (sym (taken-open (t .clause) (of-literals l below) F), sym (front-open (t .clause) (of-literals l below) F), sym (counter-open (t .clause) (of-literals l below))) (after-choice F taken (t .fits) (t .ready))
 
   pub before-order : Before (front F (of-literals l below)) (of-literals l below)
-  before-order = record {
-    well-formed = let w = well-formed F taken (t .fits) (t .ready) in record { proper = w .proper; long = w .long; fit = w .fit };
-    fits = rw (sym (front-as F taken)) (front-fits F taken (t .fits) (t .ready));
-    absent = λ x m. rw (sym (front-as F taken)) (front-own F taken (t .fits) (t .ready) x m);
-  }
+  before-order = rw (sym (front-open (t .clause) (of-literals l below) F)) (before-open l taken (before-choice F taken (t .fits) (t .ready)))
 
   pub front-proper : Proper-all (front F (of-literals l below))
-  front-proper d m =
-      ⊎-elim (t .proper d) (λ i. pairs-to below l (t .ready .proper, λ x j. own-fit F taken (t .fits) (t .ready) x j .1) d (missing-mem F l d i) .0)
-      (List·Memᴰ·append-cases F (mem-removes (front-removes F taken (t .fits) (t .ready)) (rw (sym (front-as F taken)) at m)))
+  front-proper = rw (sym (front-open (t .clause) (of-literals l below) F)) (front-proper-of F taken (t .fits) (t .ready) (t .proper))
 
 -- ---- room for the lines
 

@@ -15,11 +15,11 @@ use Rattle.definition.specs.Reencoding.{Form, lines, choice-events, choices-eve
 use Rattle.laws.proofs.Tests.{by-test}
 use Rattle.laws.proofs.Replay.{lines-++}
 use Rattle.clauses.specs.Store.{stored, size-at, deleted-at, clause-at, past, Place}
-use Rattle.clauses.proofs.Laws.{place-start, place-next, stored-end, rest-deleted, rest-stands, clause-length}
+use Rattle.clauses.proofs.Laws.{place-start, place-next, stored-end, rest-deleted, rest-stands, clause-length, part-there}
 use Rattle.recording.specs.declared.Progress.{Progress}
 use Rattle.recording.specs.Progress.{Log-room, Ran}
 use Rattle.recording.proofs.Laws.{lines-none, room-first, room-rest, ran-nothing, ran-join, ran-as, ran-holds, ran-written}
-use Rattle.counter_clauses.specs.Choice.{of-literals}
+use Rattle.counter_form.proofs.Ready.{of-literals}
 use Rattle.reencoding.specs.Choosing.{Takeable, All-takeable, at-choice, taken-events, events-at, new-at, One-ready, At-ready, All-ready}
 
 -- the choices before `at` are taken: their events es, and what is known of those to come
@@ -106,20 +106,17 @@ module _ {form : Form} {F : Formula} {ls : List Clause} {below size : ℕ} {old-
 
 -- ---- the choice at a place
 
-part-clause : (s : List ℤ) (at next : ℕ) → next ≡ past s at → take (next - (at + 1)) (drop (at + 1) s) ≡ clause-at s at
-part-clause s at next e = let d : next - (at + 1) ≡ size-at s at = omega (arith, e) in ap (λ (n : ℕ). take n (drop (at + 1) s)) d
-
 module _ {form : Form} {work : List ℤ} {p : Progress} {chosen : List ℤ} {at below : ℕ} (a : At-ready form work p chosen at below) where
   pub none-taken : (log : Bytes) → deleted-at chosen at ≡ true → Ran (stored (take (p .end) work)) (events-at form (stored (take (p .end) work)) chosen at below) (length work) log p work log p
   none-taken log e = rw e (ran-nothing log p p (record { inside = a .inside; formed = a .formed; stands = refl }) refl refl)
 
   pub one-takeable : (next : ℕ) → deleted-at chosen at ≡ false → next ≡ past chosen at → One-ready form work p (take (next - (at + 1)) (drop (at + 1) chosen)) below
-  one-takeable next e n = subst (λ (l : Clause). One-ready form work p l below) (sym (part-clause chosen at next n)) (a .one e)
+  one-takeable next e n = subst (λ (l : Clause). One-ready form work p l below) (sym (part-there chosen at next n)) (a .one e)
 
   pub one-taken : {log z : Bytes} {w : List ℤ} {q : Progress} (next : ℕ) → deleted-at chosen at ≡ false → next ≡ past chosen at →
       Ran (stored (take (p .end) work)) (choice-events form (stored (take (p .end) work)) (of-literals (take (next - (at + 1)) (drop (at + 1) chosen)) below)) (length work) log p w z q →
       Ran (stored (take (p .end) work)) (events-at form (stored (take (p .end) work)) chosen at below) (length work) log p w z q
-  one-taken next e n r = rw e (rw (part-clause chosen at next n) at r)
+  one-taken next e n r = rw e (rw (part-there chosen at next n) at r)
 
 -- ---- how many new variables
 

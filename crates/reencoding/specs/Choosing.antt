@@ -13,14 +13,13 @@ use Rattle.definition.specs.Reencoding.{Form, counter-form, order-form, lines, 
 use Rattle.definition.specs.Calls.{numbers-of}
 use Rattle.laws.proofs.Members.{Proper-all, Fits}
 use Rattle.laws.proofs.Fitting.{Fit-all}
-use Rattle.counter_form.proofs.Ready.{Ready}
+use Rattle.counter_form.proofs.Ready.{Ready, of-literals}
 use Rattle.counter_form.proofs.Front.{front}
 use Rattle.order_form.proofs.Pass.{added}
 use Rattle.clauses.specs.Store.{Formed, stored, size-at, deleted-at, clause-at}
 use Rattle.clauses.specs.Tally.{most}
 use Rattle.recording.specs.declared.Progress.{Progress}
 use Rattle.recording.specs.Progress.{Log-room}
-use Rattle.counter_clauses.specs.Choice.{of-literals}
 
 -- the form that is named
 abbrev pub form-of : Bool → Form

@@ -3,7 +3,7 @@
 use mathlib.Core.Path.{_≡_, refl, sym, _∙_, ap}
 use mathlib.Core.Logic.{_≢_}
 use mathlib.Core.Bool.{Bool, true, false, not, cond}
-use mathlib.Core.List.{List, [], _∷_, _++_, append-assoc, List·Memᴰ, List·Memᴰ·head as here, List·Memᴰ·tail as there, Memᴰ·append-left, Memᴰ·append-right}
+use mathlib.Core.List.{List, [], _∷_, _++_, append-assoc, List·Memᴰ, List·Memᴰ·head as here, Memᴰ·append-left, Memᴰ·append-right}
 use Prim.Native.Nat.{ℕ, _+_, _-_, _*_, _≤_}
 use native.Mathlib.Omega.{arith}
 use lib.Dec.{T}
@@ -19,7 +19,7 @@ use Rattle.definition.specs.Order.{replacement-lines, replaced, replace, order-
 use Rattle.definition.specs.Reencoding.{lines-of, lines, Form, counter-form, order-form, Settings, choice-events, choices-events, cleared, chosen, events, result}
 use Rattle.definition.specs.Calls.{workspace-need, numbers-of}
 use Rattle.laws.proofs.Tests.{to-true, of-true, to-false}
-use Rattle.laws.proofs.Members.{Disjoint, Parted, opposes-same, opposes-mem, mem-opposes, holds-false, natAbs-neg}
+use Rattle.laws.proofs.Members.{Disjoint, Parted, opposes-same, opposes-mem, mem-opposes, holds-false, natAbs-neg, parted-before}
 use Rattle.laws.proofs.Replay.{Leads, leads-split, after-++, lines-++, All-clauses, All-lines}
 use Rattle.laws.proofs.Sums.{sum-++, sum-≤, sum-at, sum-none, sum-for-each}
 use Rattle.laws.proofs.Fitting.{Up-to, Proper-to}
@@ -152,7 +152,7 @@ module _ (c : Choice) (u : Well-formed c) (f : Formula) (a : All-clauses (Proper
       omega (arith, sum-++ (gained v) (lines-of (take-choice f c)) (lines (order-events c (after f (lines-of (take-choice f c))))), order-adds v g i h)
 
 -- ---- the events of the first choices, and those of the others
-choices-split : (form : Form) (order : Clause → Clause) (n : ℕ) (f : Formula) (cs ds : List Clause) → Arranges n order cs →
+pub choices-split : (form : Form) (order : Clause → Clause) (n : ℕ) (f : Formula) (cs ds : List Clause) → Arranges n order cs →
     choices-events form order n f (cs ++ ds) ≡ choices-events form order n f cs ++ choices-events form order (n + new-variables cs) (after f (lines (choices-events form order n f cs))) ds
 unfolding choices-events new-variables sum-of lines for-each after
 choices-split form order n f [] ds h = let e : n ≡ n + 0 = omega arith in ap (λ (m : ℕ). choices-events form order m f ds) e
@@ -169,9 +169,6 @@ choices-split form order n f (c ∷ cs) ds h =
     ∙ ap (λ (X : Formula). es ++ xs ++ choices-events form order (n + new-variables (c ∷ cs)) X ds) (sym (ap (after f) (lines-++ es xs) ∙ after-++ f (lines es) (lines xs)))
 
 -- ---- the choices of a run
-parted-first : (cs ds : List Clause) (c : Clause) → Parted (cs ++ (c ∷ ds)) → (d : Clause) → List·Memᴰ d cs → Disjoint d c
-parted-first (b ∷ cs) ds c q d (here e) x k y l = q .0 c (Memᴰ·append-right cs (here refl)) x (rw e at k) y l
-parted-first (b ∷ cs) ds c q d (there m) x k y l = parted-first cs ds c (q .1) d m x k y l
 
 -- the events of the first choices, and what stands after them
 unfoldable pub events-of-first : Settings → Input → List Clause → List Event
@@ -223,7 +220,7 @@ module _ (s : Settings) (i : Input) (h : Run s i) (disjoint : Parted (chosen s i
   unfolding events-of-first
   first-lines = choices-lines-to (s .form) (order-of s i) (i .variables) (cleared (i .formula)) cs (standing-to s i h) arranges-first
 
-  first-to : All-clauses (Proper-to (i .variables + new-variables cs)) (standing-after-first s i cs)
+  pub first-to : All-clauses (Proper-to (i .variables + new-variables cs)) (standing-after-first s i cs)
   unfolding standing-after-first events-of-first
   first-to = choices-standing-to (s .form) (order-of s i) (i .variables) (cleared (i .formula)) cs (standing-to s i h) arranges-first
 
@@ -272,7 +269,7 @@ module _ (s : Settings) (i : Input) (h : Run s i) (disjoint : Parted (chosen s i
           let z = as-choice n (order-of s i) b in
           foreign-raises (order-of s i c) z (ordered-formed (i .variables) (order-of s i) cs arranges-first b k n j)
           (λ x l. omega (arith, ordered-proper (i .variables) (order-of s i) (chosen s i) (arranges s i h) c mem-next .1 x l))
-          (λ x l y t q. parted-first cs ds c (rw e at disjoint) b k y (arranges-first b k .3 .0 y t) x (arranges s i h c mem-next .3 .0 x l) (sym q))
+          (λ x l y t q. parted-before cs c ds (rw e at disjoint) b k y (arranges-first b k .3 .0 y t) x (arranges s i h c mem-next .3 .0 x l) (sym q))
           heavier (replaced-weight 1 w z (weighs 1 (i .variables) n (order-of s i) (chosen s i) (arranges s i h) b (mem-first b k) j) 1) f d o
 
   next-size : size (next-choice s i cs c) ≤ 64

@@ -11,7 +11,7 @@ use Rattle.definition.specs.Literals.{Clause, Formula, opposes, opposed}
 use Rattle.definition.specs.Standing.{addition, deletion, after}
 use Rattle.definition.specs.Reading.{Input, input-limits}
 use Rattle.definition.specs.Events.{Choice, Event, clause-replaced, literals-deleted}
-use Rattle.definition.specs.Counter.{below-new, last-new, size, counter, take-choice}
+use Rattle.definition.specs.Counter.{below-new, last-new, counter, take-choice}
 use Rattle.definition.specs.Order.{replacement-lines, replaced, replace, order-events}
 use Rattle.definition.specs.Reencoding.{lines-of, lines, Form, counter-form, order-form, Settings, choice-events, choices-events, cleared, chosen, input, events, log, result}
 use Rattle.definition.specs.Calls.{workspace-need, numbers-of}
@@ -19,29 +19,29 @@ use Rattle.laws.proofs.Members.{Parted, Proper-all, Fits}
 use Rattle.laws.proofs.Sums.{sum-++, sum-≤, sum-for-each}
 use Rattle.laws.proofs.Fitting.{Fit-all, Proper-to, proper-fit, fit-up}
 use Rattle.laws.proofs.Replay.{All-clauses, after-++, lines-++}
-use Rattle.soundness.proofs.Times.{unique-at}
 use Rattle.soundness.proofs.Removals.{mem-removes}
 use Rattle.clearing.proofs.Cleared.{cleared-facts}
 use Rattle.counter_form.proofs.Ready.{Ready}
 use Rattle.counter_form.proofs.Pairs.{missing-mem}
-use Rattle.counter_form.proofs.Front.{front, own-fit, well-formed, front-own, front-removes, front-fits}
+use Rattle.counter_form.proofs.Front.{front, own-fit, front-removes}
 use Rattle.counter_form.proofs.Counter.{after-choice}
-use Rattle.order_form.proofs.Order.{Before, order-events-are}
+use Rattle.order_form.proofs.Order.{order-events-are}
 use Rattle.order_form.proofs.Pass.{results, added as results-of}
 use Rattle.round_trips.proofs.Accepted.{Accepted}
 use Rattle.room.proofs.Weights.{gained, added, weight}
 use Rattle.room.proofs.Choice.{pairs-to}
-use Rattle.room.proofs.Lines.{Arranges, new-variables, ordered-length, ordered-proper, ordered-size, ordered-new, choices-standing-to}
+use Rattle.room.proofs.Lines.{Arranges, new-variables, ordered-length, ordered-proper, ordered-new}
 use Rattle.room.proofs.Cleared.{clearing, cleared-after}
 use Rattle.room.proofs.Rises.{risen, taken-changes}
 use Rattle.room.proofs.Additions.{numbers}
-use Rattle.room.proofs.Runs.{Run, order-of, choosing, events-are, chosen-mem, standing-to, arranges, run-risen, weight-after, few-new-variables, literal-weight, literal-most, literal-least, weight-most, weight-least}
-use Rattle.room.proofs.Compaction.{events-of-first, standing-after-first, next-choice}
-use Rattle.theorems.proofs.Log.{chosen-parted}
+use Rattle.room.proofs.Runs.{Run, order-of, choosing, events-are, chosen-mem, arranges, run-risen, weight-after, few-new-variables, literal-weight, literal-most, literal-least, weight-most, weight-least}
+use Rattle.room.proofs.Compaction.{events-of-first, standing-after-first, next-choice, choices-split, first-to}
+use Rattle.theorems.proofs.Log.{chosen-parted, chosen-ready}
 use Rattle.theorems.proofs.Texts.{accepted-run}
 use Rattle.theorems.proofs.Steps.{steps}
+use Rattle.theorems.proofs.Choices.{before-order}
 use Rattle.run_bounds.specs.Choices.{events-up-to, Takeable, At-choice, Choices-taken}
-use Rattle.run_bounds.proofs.Splits.{choices-after, choice-alone, All-ready, ready-after}
+use Rattle.run_bounds.proofs.Splits.{choice-alone, ready-after}
 use Rattle.run_bounds.proofs.Variables.{chosen-few}
 
 -- ---- what the events of a choice add, counted in numbers
@@ -93,14 +93,15 @@ module _ (F : Formula) (k : Choice) (f : Fits (k .below) F) (r : Ready F k) wher
         sum-≤ (λ d. sum-of numbers (results k d)) (λ d. sum-of n (replace k d)) E (λ d _. result-space k d),
       )
 
-  front-proper-of : Proper-all F → Proper-all (front F k)
+  pub front-proper-of : Proper-all F → Proper-all (front F k)
   front-proper-of p d m =
       ⊎-elim (p d) (λ i. pairs-to (k .below) (k .literals) (r .proper, λ x j. own-fit F k f r x j .1) d (missing-mem F (k .literals) d i) .0)
       (List·Memᴰ·append-cases F (mem-removes (front-removes F k f r) m))
 
-  -- belongs in crate theorems (before-order, not exported there)
-  before-of : Before (front F k) k
-  before-of = record { well-formed = well-formed F k f r; fits = front-fits F k f r; absent = front-own F k f r }
+-- the variables are within the tables' reach
+pub few-variables : {i : Input} → Accepted input-limits i → i .variables ≤ 8_000
+unfolding input-limits
+few-variables a = a .variables-few
 
 -- ---- a run
 module _ (i : Input) (a : Accepted input-limits i) (s : Settings) where
@@ -109,25 +110,6 @@ module _ (i : Input) (a : Accepted input-limits i) (s : Settings) where
 
   parted : Parted (chosen s i)
   parted = chosen-parted s i (a .proper) (a .fits)
-
-  few-variables : i .variables ≤ 8_000
-  unfolding input-limits
-  few-variables = a .variables-few
-
-  -- the choices are ready where the first is taken; belongs in crate theorems (ready, not exported there)
-  ready-first : All-ready (order-of s i) (cleared (i .formula)) (chosen s i)
-  unfolding size
-  ready-first c m n =
-      let o = arranges s i run c m in
-      let r = chosen-mem s i c m in
-      record {
-        proper = o .2;
-        proper-clause = o .0 .0;
-        long = ordered-size (i .variables) (order-of s i) (chosen s i) (arranges s i run) c m n;
-        standing = r .0;
-        same = o .3;
-        alone = λ x j. unique-at (cleared (i .formula)) c (r .3) x (o .3 .0 x j);
-      }
 
   module _ (cs ds : List Clause) (c : Clause) (e : chosen s i ≡ cs ++ (c ∷ ds)) where
     -- what stands before the choice
@@ -145,14 +127,14 @@ module _ (i : Input) (a : Accepted input-limits i) (s : Settings) where
     next-in = rw e (Memᴰ·append-right cs (here refl))
 
     F-to : All-clauses (Proper-to (i .variables + new-variables cs)) F
-    unfolding F standing-after-first events-of-first
-    F-to = choices-standing-to (s .form) (order-of s i) (i .variables) (cleared (i .formula)) cs (standing-to s i run) arranged-first
+    unfolding F
+    F-to = first-to s i run parted cs ds c e
 
     ready-k : Ready F k
     unfolding F k standing-after-first events-of-first
     ready-k =
         ready-after (s .form) (order-of s i) (i .variables) (cleared (i .formula)) cs (c ∷ ds) (cleared-facts (a .proper) (a .fits) .1)
-        (λ d m. ready-first d (rw e m)) (rw e at parted) c (here refl) (i .variables + new-variables cs)
+        (λ d m. chosen-ready s i (a .proper) (a .fits) d (rw e m)) (rw e at parted) c (here refl) (i .variables + new-variables cs)
 
     fits-k : Fits (k .below) F
     unfolding k below-new
@@ -182,7 +164,7 @@ module _ (i : Input) (a : Accepted input-limits i) (s : Settings) where
     unfolding choosing F k es rest standing-after-first events-of-first choices-events
     first-split =
         ap (choices-events (s .form) (order-of s i) (i .variables) (cleared (i .formula))) e
-        ∙ choices-after (s .form) (order-of s i) (i .variables) (cleared (i .formula)) cs (c ∷ ds) arranged-first
+        ∙ choices-split (s .form) (order-of s i) (i .variables) (cleared (i .formula)) cs (c ∷ ds) arranged-first
 
     events-split : events s i ≡ events-up-to s i cs ++ (es ++ rest)
     unfolding events-up-to
@@ -194,7 +176,7 @@ module _ (i : Input) (a : Accepted input-limits i) (s : Settings) where
     first-more : events-of-first s i (cs ++ (c ∷ [])) ≡ events-of-first s i cs ++ es
     unfolding F k es standing-after-first events-of-first
     first-more =
-        choices-after (s .form) (order-of s i) (i .variables) (cleared (i .formula)) cs (c ∷ []) arranged-first
+        choices-split (s .form) (order-of s i) (i .variables) (cleared (i .formula)) cs (c ∷ []) arranged-first
         ∙ ap (λ (xs : List Event). events-of-first s i cs ++ xs) (choice-alone (s .form) (order-of s i) (i .variables + new-variables cs) F c)
 
     stands-F : after (i .formula) (lines (events-up-to s i cs)) ≡ F
@@ -265,12 +247,12 @@ module _ (i : Input) (a : Accepted input-limits i) (s : Settings) where
           least = omega (arith, k-length);
           most = omega (arith, k-length);
           old = old-k;
-          reach = λ x m. fit-up 8_000 (i .variables) x few-variables (old-k x m);
-          new-few = omega (arith, first-new, few-variables);
+          reach = λ x m. fit-up 8_000 (i .variables) x (few-variables a) (old-k x m);
+          new-few = omega (arith, first-new, (few-variables a));
           few = few-F;
           space = omega (arith, room-F, choice-space (s .form) F k);
           order-space = λ o. omega (arith, room-F, order-space-of F k fits-k ready-k, ap (λ (form : Form). added numbers (lines (choice-events form F k))) o);
-          before = before-of F k fits-k ready-k;
+          before = before-order F k fits-k ready-k;
           front-proper = front-proper-of F k fits-k ready-k (λ d m. F-to d m .0);
         }
 

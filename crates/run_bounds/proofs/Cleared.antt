@@ -1,6 +1,6 @@
 -- What stands when the clashes are cleared, and when the pure clauses are deleted too. Assumes that the formula was accepted.
 use mathlib.Core.Path.{_≡_, ap}
-use mathlib.Core.List.{List, _++_, append-assoc, List·Memᴰ, Memᴰ·append-left}
+use mathlib.Core.List.{List, _++_, List·Memᴰ, Memᴰ·append-left}
 use Prim.Native.Nat.{_≤_}
 use native.Mathlib.Omega.{arith}
 use lib.ListN.{length}
@@ -9,7 +9,7 @@ use Rattle.definition.specs.Standing.{after}
 use Rattle.definition.specs.Reading.{Input, input-limits}
 use Rattle.definition.specs.Events.{Event}
 use Rattle.definition.specs.Clearing.{clear-clashes, clear-pure}
-use Rattle.definition.specs.Reencoding.{lines, counter-form, Settings, chosen, events, input, unclashed, cleared}
+use Rattle.definition.specs.Reencoding.{lines, counter-form, Settings, chosen, events, unclashed, cleared}
 use Rattle.definition.specs.Alignment.{no-wish}
 use Rattle.clearing.proofs.Clashes.{lowest-none, unclashed-proper, no-clash-left}
 use Rattle.clearing.proofs.Cleared.{cleared-facts}
@@ -18,12 +18,8 @@ use Rattle.room.proofs.Rises.{clearing-risen}
 use Rattle.room.proofs.Cleared.{Clearing, clearing, clearing-event, cleared-after}
 use Rattle.room.proofs.Runs.{choosing, events-are, weight-after, literal-weight, literal-most, literal-least, weight-most, weight-least}
 use Rattle.theorems.proofs.Texts.{accepted-run}
+use Rattle.theorems.proofs.Steps.{events-from-clashes}
 use Rattle.run_bounds.specs.Sizes.{Standing-cleared}
-
--- the events, from the clashes on; belongs in crate theorems (parts, not exported there)
-pub events-from-clashes : (s : Settings) (i : Input) → events s i ≡ clear-clashes (i .formula) ++ (clear-pure (unclashed (i .formula)) ++ choosing s i)
-unfolding events input choosing
-events-from-clashes s i = append-assoc (clear-clashes (i .formula)) (clear-pure (unclashed (i .formula))) (choosing s i)
 
 module _ (i : Input) (a : Accepted input-limits i) where
   -- clearing only shortens, in any settings

@@ -6,25 +6,17 @@ use lib.ListN.{length, take}
 use Rattle.definition.specs.Lists.{for-each}
 use Rattle.definition.specs.Literals.{Clause, Formula}
 use Rattle.definition.specs.Events.{Choice, literals-deleted}
-use Rattle.definition.specs.Counter.{counter, stage-2, stage-3, size, lit, new, take-choice, choice-lines, last-new}
+use Rattle.definition.specs.Counter.{counter, stage-2, stage-3, size, lit, new, take-choice, last-new}
 use Rattle.definition.specs.Order.{replaced, instead-of, previous, negated-new, replace, order-events, deletions-of, literal-deletions}
 use Rattle.definition.specs.Reencoding.{lines-of, lines, Form, counter-form, order-form, choice-events}
 use Rattle.definition.specs.Standing.{Line, after}
 use Rattle.laws.proofs.Replay.{lines-++}
-use Rattle.counter_form.proofs.Front.{front}
+use Rattle.counter_form.proofs.Front.{taken-open}
 use Rattle.order_form.proofs.Order.{Before}
 use Rattle.order_form.proofs.Pass.{added}
-use Rattle.run_bounds.specs.Choices.{with-clause}
+use Rattle.counter_form.proofs.Ready.{with-clause}
 
 module _ (d : Clause) (k : Choice) where
-  pub counter-open : counter (with-clause d k) ≡ counter k
-  unfolding counter stage-2 stage-3 size lit new
-  counter-open = refl
-
-  pub front-open : (F : Formula) → front F (with-clause d k) ≡ front F k
-  unfolding front
-  front-open F = refl
-
   pub last-open : last-new (with-clause d k) ≡ last-new k
   unfolding last-new
   last-open = refl
@@ -37,10 +29,6 @@ module _ (d : Clause) (k : Choice) where
   unfolding replaced instead-of previous negated-new size new
   results-open F = refl
 
-  pub taken-open : (F : Formula) → lines-of (take-choice F (with-clause d k)) ≡ lines-of (take-choice F k)
-  unfolding lines-of take-choice choice-lines counter stage-2 stage-3 size lit new
-  taken-open F = refl
-
   pub order-open : (F : Formula) → lines (order-events (with-clause d k) F) ≡ lines (order-events k F)
   unfolding order-events replace replaced instead-of previous negated-new counter stage-2 stage-3 size lit new lines lines-of for-each literal-deletions deletions-of
   order-open F =
@@ -49,9 +37,9 @@ module _ (d : Clause) (k : Choice) where
 
   pub events-open : (form : Form) (F : Formula) → lines (choice-events form F (with-clause d k)) ≡ lines (choice-events form F k)
   unfolding choice-events lines for-each
-  events-open counter-form F = ap (λ (xs : List Line). xs ++ []) (taken-open F)
+  events-open counter-form F = ap (λ (xs : List Line). xs ++ []) (taken-open d k F)
   events-open order-form F =
-      ap (λ (xs : List Line). xs ++ lines (order-events (with-clause d k) (after F xs))) (taken-open F)
+      ap (λ (xs : List Line). xs ++ lines (order-events (with-clause d k) (after F xs))) (taken-open d k F)
       ∙ ap (λ (xs : List Line). lines-of (take-choice F k) ++ xs) (order-open (after F (lines-of (take-choice F k))))
 
   pub before-open : {E : Formula} → Before E k → Before E (with-clause d k)

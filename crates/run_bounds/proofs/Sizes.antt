@@ -26,12 +26,11 @@ use Rattle.room.proofs.Runs.{choosing}
 use Rattle.room.proofs.Limits.{result-fits, clauses-limit, literals-limit}
 use Rattle.theorems.proofs.Log.{chosen-parted}
 use Rattle.theorems.proofs.Texts.{accepted-run}
-use Rattle.theorems.proofs.Steps.{steps}
+use Rattle.theorems.proofs.Steps.{steps, events-from-clashes}
 use Rattle.room.proofs.Compaction.{standing-after-first, next-choice}
 use Rattle.run_bounds.specs.Choices.{events-up-to}
 use Rattle.run_bounds.specs.Sizes.{Sizes}
 use Rattle.run_bounds.proofs.Choices.{at-choice}
-use Rattle.run_bounds.proofs.Cleared.{events-from-clashes}
 use Rattle.run_bounds.proofs.Variables.{highest-is, chosen-proper, chosen-few}
 use Rattle.run_bounds.proofs.LogLength.{clause-short, log-text-length, log-length, parts-short}
 

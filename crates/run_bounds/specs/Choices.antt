@@ -25,10 +25,6 @@ use Rattle.room.proofs.Compaction.{events-of-first, standing-after-first, next-
 unfoldable pub events-up-to : Settings → Input → List Clause → List Event
 events-up-to s i cs = clearing (i .formula) ++ events-of-first s i cs
 
--- the same choice, of another clause
-abbrev pub with-clause : Clause → Choice → Choice
-with-clause d k = record { clause = d; literals = k .literals; below = k .below }
-
 -- the choice k can be taken where F stands, and its clauses fit
 pub record Takeable (s : Settings) (i : Input) (F : Formula) (k : Choice) : Type 0 where
   pub proper : Proper-all F

@@ -102,6 +102,10 @@ abbrev pub take-all : Formula → Formula → Formula
 take-all F [] = F
 take-all F (d ∷ D) = take-all (take-out d F) D
 
+pub take-all-++ : (F A B : Formula) → take-all F (A ++ B) ≡ take-all (take-all F A) B
+take-all-++ F [] B = refl
+take-all-++ F (d ∷ A) B = take-all-++ (take-out d F) A B
+
 pub removes-exist : (D F : Formula) → Spread D → Found-all D F → Removes F D (take-all F D)
 removes-exist [] F s h = none-left
 removes-exist (d ∷ D) F s h =

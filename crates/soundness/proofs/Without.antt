@@ -1,21 +1,24 @@
 -- A clause without one of its literals; literals in another order; a variable that stands nowhere.
-use mathlib.Core.Path.{_≡_, refl, sym, _∙_}
+use mathlib.Core.Path.{_≡_, refl, sym, _∙_, ap}
 use mathlib.Core.Logic.{_≢_, _⊎_, inl, inr, ⊎-elim}
 use mathlib.Core.Bool.{Bool, true, false, cond, not}
 use mathlib.Core.List.{List, [], _∷_, _++_, List·Memᴰ, List·Memᴰ·head as here, List·Memᴰ·tail as there, Memᴰ·cast, List·Memᴰ·append-cases}
 use Prim.Native.Nat.{ℕ, _≤_, _<_}
 use native.Mathlib.Omega.{arith}
 use lib.IntN.{ℤ, negℤ, natAbs}
+use Rattle.laws.proofs.Removal.{Removed, removed-at}
+use Rattle.definition.specs.Clearing.{times}
 use Rattle.definition.specs.Lists.{bit, those}
 use Rattle.definition.specs.Literals.{Clause, Formula, same, without, with-first}
 use Rattle.definition.specs.Assignments.{Assignment, true-in, trues}
 use Rattle.definition.specs.Events.{Event}
-use Rattle.laws.proofs.Tests.{of-true, not-true, of-false, by-test}
-use Rattle.laws.proofs.Members.{same-eq, unlike, those-mem, mem-those, Same, Proper, proper-literal, proper-unopposed, same-variable, Absent}
+use Rattle.laws.proofs.Tests.{of-true, not-true, of-false, by-test, to-false}
+use Rattle.laws.proofs.Members.{same-eq, unlike, those-mem, mem-those, Same, Proper, proper-literal, proper-unopposed, same-variable, Absent, same-set-same}
 use Rattle.laws.proofs.Sums.{count-sum}
 use Rattle.laws.proofs.Clauses.{same-sum}
 use Rattle.soundness.proofs.Sound.{Into}
 use Rattle.soundness.proofs.Rules.{Clear}
+use Rattle.soundness.proofs.Times.{holds-yes, times-++, times-cons, none-times}
 
 pub without-mem : (v : ℤ) (c : Clause) (x : ℤ) → List·Memᴰ x (without v c) → List·Memᴰ x c × (x ≢ v)
 unfolding without
@@ -89,3 +92,12 @@ proper-++ (x ∷ c) d a b s o = (
   λ i. ⊎-elim (a .2) (o x (here refl)) (List·Memᴰ·append-cases c i),
   proper-++ c d (a .3) b (λ y i. s y (there i)) (λ y i. o y (there i)),
 )
+
+-- ---- the only clause with a literal is taken out
+pub only-removed : (l : ℤ) (c : Clause) (X R : Formula) → List·Memᴰ l c → times l (X ++ (c ∷ R)) ≡ 1 → Removed (with-first l c) (X ++ (c ∷ R)) (X ++ R)
+unfolding with-first
+only-removed l c X R i e =
+    removed-at (with-first l c) c X R (first-same l c i) (λ k j. to-false (λ t. none-times l X absent k j (same-set-same (with-first l c) k t .0 l (here refl))))
+  where
+    absent : times l X ≡ 0
+    absent = omega (arith, e, times-++ l X (c ∷ R), times-cons l c R, ap bit (holds-yes l c i))

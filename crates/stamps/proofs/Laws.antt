@@ -1,8 +1,8 @@
 -- Marks in a table of stamps. Assumes nothing.
-use mathlib.Core.Path.{_≡_, refl, sym, ap, _∙_}
+use mathlib.Core.Path.{_≡_, sym, ap, _∙_}
 use mathlib.Core.Bool.{Bool, true, false, _||_, or-false, or-true}
 use mathlib.Core.List.{List, [], _∷_, _++_}
-use Prim.Native.Nat.{ℕ, zero, suc, _+_, _≤_, _<_}
+use Prim.Native.Nat.{ℕ, _+_, _≤_, _<_}
 use native.Mathlib.Omega.{arith}
 use lib.Dec.{eqb, ltb}
 use lib.IntN.{ℤ, negℤ, natAbs}
@@ -15,14 +15,10 @@ use Rattle.laws.proofs.Tests.{by-test, of-true, to-true}
 use Rattle.laws.proofs.Members.{same-eq, same-refl, unlike, natAbs-neg, holds-snoc}
 use Rattle.literals.specs.Literal.{index-of, negation}
 use Rattle.literals.proofs.Laws.{negation-small, index-injective, index-within}
+use Rattle.laws.proofs.Slices.{getD-zeros}
 use Rattle.stamps.specs.Stamps.{At-most, Marks, Fresh}
 
 -- ---- tables
-
-getD-zeros : (n i : ℕ) → _≡_ {A = ℕ} (getD (replicate n 0) i 0) 0
-getD-zeros zero i = refl
-getD-zeros (suc n) zero = refl
-getD-zeros (suc n) (suc i) = getD-zeros n i
 
 -- a table of zeros
 pub zeros-at-most : (n stamp : ℕ) → At-most (replicate n 0) stamp

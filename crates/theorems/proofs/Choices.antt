@@ -39,7 +39,7 @@ after-form order-form F k = ordered (front F k) k
 
 -- ---- one choice
 module _ (F : Formula) (k : Choice) (f : Fits (k .below) F) (r : Ready F k) where
-  before-order : Before (front F k) k
+  pub before-order : Before (front F k) k
   before-order = record { well-formed = well-formed F k f r; fits = front-fits F k f r; absent = front-own F k f r }
 
   -- every line is sound, and clauses that go into a choice are known
@@ -99,6 +99,22 @@ some-literal c [] h s = absurd (omega arith)
 some-literal c (y ∷ d) h s = (y, s .0 y (here refl))
 
 module _ (form : Form) (order : Clause → Clause) where
+  -- a choice that is ready stays so where another is taken
+  pub still-ready : (n m : ℕ) (F : Formula) (c d : Clause) → Fits n F → Ready F (as-choice n order c) → Disjoint c d → Ready F (as-choice m order d) → Ready (after-form form F (as-choice n order c)) (as-choice m order d)
+  unfolding below-new
+  still-ready n m F c d f r p v =
+      let k = as-choice n order c in
+      let y = some-literal d (order d) (v .long) (v .same) in
+      let apart : Disjoint (order c) d = λ x j. p x (r .same .0 x j) in
+      record {
+        proper = v .proper;
+        proper-clause = v .proper-clause;
+        long = v .long;
+        standing = after-stands F k f r d (v .standing) (y .0) (y .1) apart form;
+        same = v .same;
+        alone = λ x j. after-alone F k f r d (v .standing) (y .0) (y .1) apart form x (v .same .0 x j) (v .alone x j);
+      }
+
   pub choices-sound : (n : ℕ) (F : Formula) (cs : List Clause) → Fits n F → ((c : Clause) → List·Memᴰ c cs → (m : ℕ) → Ready F (as-choice m order c)) → Parted cs →
       Sound F (choices-events form order n F cs) (lines (choices-events form order n F cs)) (after F (lines (choices-events form order n F cs))) [] × Known n (choices-events form order n F cs) F
   unfolding choices-events below-new
@@ -124,15 +140,4 @@ module _ (form : Form) (order : Clause → Clause) where
       E = after-form form F k
 
       next : (d : Clause) → List·Memᴰ d cs → (m : ℕ) → Ready E (as-choice m order d)
-      next d i m =
-          let v = q d (there i) m in
-          let y = some-literal d (order d) (v .long) (v .same) in
-          let apart : Disjoint (order c) d = λ x j. p .0 d i x (r .same .0 x j) in
-          record {
-            proper = v .proper;
-            proper-clause = v .proper-clause;
-            long = v .long;
-            standing = after-stands F k f r d (v .standing) (y .0) (y .1) apart form;
-            same = v .same;
-            alone = λ x j. after-alone F k f r d (v .standing) (y .0) (y .1) apart form x (v .same .0 x j) (v .alone x j);
-          }
+      next d i m = still-ready n m F c d f r (p .0 d i) (q d (there i) m)

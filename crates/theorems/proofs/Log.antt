@@ -55,9 +55,9 @@ module _ (s : Settings) (i : Input) (proper : Proper-all (i .formula)) (fits : F
       let F = cleared (i .formula) in
       parted F (facts .2) (λ c. choice-size c && unique F c) (λ c t. and-r (choice-size c) (unique F c) t) F (λ d m. m) (λ x. omega arith)
 
-  ready : (c : Clause) → List·Memᴰ c (chosen s i) → (n : ℕ) → Ready (cleared (i .formula)) (as-choice n (order-of s i) c)
+  pub chosen-ready : (c : Clause) → List·Memᴰ c (chosen s i) → (n : ℕ) → Ready (cleared (i .formula)) (as-choice n (order-of s i) c)
   unfolding size
-  ready c m n =
+  chosen-ready c m n =
       let h = chosen-arranges s i proper fits in
       let o = h c m in
       let r = chosen-mem s i c m in
@@ -75,7 +75,7 @@ module _ (s : Settings) (i : Input) (proper : Proper-all (i .formula)) (fits : F
   unfolding choosing cleared
   events-sound =
       let f = i .formula in
-      let c = choices-sound (s .form) (order-of s i) (i .variables) (cleared f) (chosen s i) (facts .1) ready chosen-parted in
+      let c = choices-sound (s .form) (order-of s i) (i .variables) (cleared f) (chosen s i) (facts .1) chosen-ready chosen-parted in
       let p = pure-sound (i .variables) (unclashed f) (choosing s i) (unclashed-proper proper fits .1) (c .1) (c .0) in
       clashes-sound (i .variables) f (clear-pure (unclashed f) ++ choosing s i) proper fits (p .1) (p .0) .0
 

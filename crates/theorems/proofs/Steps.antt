@@ -35,9 +35,9 @@ pure-adds no-more = refl
 pure-adds (next q r s) = omega (arith, pure-adds s)
 
 -- the events, from the clashes on
-parts : (s : Settings) (i : Input) → events s i ≡ clear-clashes (i .formula) ++ (clear-pure (unclashed (i .formula)) ++ choosing s i)
+pub events-from-clashes : (s : Settings) (i : Input) → events s i ≡ clear-clashes (i .formula) ++ (clear-pure (unclashed (i .formula)) ++ choosing s i)
 unfolding events input choosing
-parts s i = append-assoc (clear-clashes (i .formula)) (clear-pure (unclashed (i .formula))) (choosing s i)
+events-from-clashes s i = append-assoc (clear-clashes (i .formula)) (clear-pure (unclashed (i .formula))) (choosing s i)
 
 pub steps : (i : Input) → Accepted input-limits i → (s : Settings) → Steps s i
 unfolding input unclashed lines-of
@@ -45,7 +45,7 @@ steps i a s =
     let r = accepted-run s i a in
     let rest = clear-pure (unclashed (i .formula)) ++ choosing s i in
     record {
-      clash = λ xs ys c e. event-room s i r xs (ys ++ rest) (clash-cleared c) (parts s i ∙ ap (λ (es : List Event). es ++ rest) e ∙ append-assoc xs (clash-cleared c ∷ ys) rest);
-      pure-pass = omega (arith, standing-room s i r (clear-clashes (i .formula)) rest (parts s i), pure-adds (pure-eliminates (unclashed (i .formula))));
+      clash = λ xs ys c e. event-room s i r xs (ys ++ rest) (clash-cleared c) (events-from-clashes s i ∙ ap (λ (es : List Event). es ++ rest) e ∙ append-assoc xs (clash-cleared c ∷ ys) rest);
+      pure-pass = omega (arith, standing-room s i r (clear-clashes (i .formula)) rest (events-from-clashes s i), pure-adds (pure-eliminates (unclashed (i .formula))));
       choice = λ cs ds c e. choice-room s i r (chosen-parted s i (a .proper) (a .fits)) cs ds c e;
     }

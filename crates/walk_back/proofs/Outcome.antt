@@ -1,16 +1,16 @@
 -- The outcome of a walk-back: the answer replayed, carried back and written. Assumes nothing.
-use mathlib.Core.Path.{_≡_, refl, sym, ap, _∙_, fun-ext}
+use mathlib.Core.Path.{_≡_, refl, sym, ap, _∙_}
 use mathlib.Core.Bool.{not, true, false}
 use mathlib.Core.List.{List, _++_}
 use Prim.Native.Nat.{ℕ, _+_, _-_, _≤_, _<_, _^_}
 use native.Mathlib.Omega.{arith}
 use lib.Dec.{ltb}
-use lib.IntN.{ℤ, pos}
+use lib.IntN.{ℤ}
 use lib.ListN.{length, take, drop, replicate}
 use lib.Seq.{sets, take-take}
 use borrow.Author.Tests.{ltb-false}
 use Rattle.definition.specs.Checked.{Checked, fault, value, _>>=_}
-use Rattle.definition.specs.Literals.{Clause, Formula, literals-of}
+use Rattle.definition.specs.Literals.{Formula, literals-of}
 use Rattle.definition.specs.Text.{Bytes}
 use Rattle.definition.specs.Reading.{Input, input-limits, read-formula}
 use Rattle.definition.specs.Standing.{Line, replay}
@@ -23,7 +23,7 @@ use Rattle.laws.proofs.Fitting.{highest-in-le}
 use Rattle.round_trips.proofs.Accepted.{accepted}
 use Rattle.text.proofs.Output.{put-fits}
 use Rattle.clauses.specs.Store.{stored}
-use Rattle.answers.specs.Table.{Table, marked}
+use Rattle.answers.specs.Table.{marked}
 use Rattle.dimacs.specs.Loading.{entries}
 use Rattle.proof_log.specs.Loading.{line-entries, Faultless, read-entries}
 use Rattle.proof_log.proofs.Answers.{All-fit, lines-fit, entries-size}
@@ -35,6 +35,7 @@ use Rattle.walking.specs.declared.Carried.the-variants as Carried
 use Rattle.walking.specs.declared.Replayed as Replayed-code
 use Rattle.walking.specs.declared.Replayed.the-variants as Replayed
 use Rattle.walking.proofs.Parts.{slice-is}
+use Rattle.answers.proofs.Table.{marked-assigned}
 use Rattle.walk_back.specs.declared.WalkedBack as Code
 use Rattle.walk_back.specs.declared.WalkedBack.the-variants as WalkedBack
 use Rattle.walk_back.specs.declared.Texts as Texts-code
@@ -112,10 +113,6 @@ texts-fault kept formula log answer marks r s n e = rw e at s
 
 pub texts-read : (kept : ℕ) (formula log answer marks : Bytes) (r : Texts-code.Texts) → Texts-says kept formula log answer r marks → (v n g x : ℕ) → r ≡ Texts.Read v n g x → Texts-read kept formula log answer v n g x marks
 texts-read kept formula log answer marks r s v n g x e = rw e at s
-
-marked-assigned : (named : Clause) (marks : Bytes) → Table named marks → marked marks ≡ assigned named
-unfolding marked assigned
-marked-assigned named marks t = fun-ext (λ v. sym (t .names (pos v)))
 
 module _ (kept : ℕ) (formula log answer : Bytes) (v n g x : ℕ) (marks : Bytes) (t : Texts-read kept formula log answer v n g x marks) where
   few-literals : (literals-of (t .i .formula) ≤ 60_000) × (length (t .i .formula) ≤ 20_000) × (t .i .variables ≤ 8_000)

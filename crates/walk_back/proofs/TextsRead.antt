@@ -5,10 +5,9 @@ use mathlib.Core.List.{List, []}
 use Prim.Native.Nat.{ℕ, _+_, _-_, _*_, _/_, _≤_, _<_, max}
 use native.Mathlib.Omega.{arith}
 use lib.Dec.{ltb}
-use lib.ListN.{length}
 use borrow.Author.Tests.{lt-ltb, le-ltb, ltb-true, ltb-false}
 use Rattle.definition.specs.Checked.{Checked, fault, value, _>>=_, refuse-if}
-use Rattle.definition.specs.Literals.{Clause, literals-of, highest}
+use Rattle.definition.specs.Literals.{Clause, highest}
 use Rattle.definition.specs.Text.{Bytes}
 use Rattle.definition.specs.Reading.{Limits, Input, input-limits, read-formula}
 use Rattle.definition.specs.Standing.{Line, replay}
@@ -30,6 +29,7 @@ use Rattle.proof_log.proofs.Answers.{Kept, log-kept, log-fault, lines-fit}
 use Rattle.answers.specs.Reading.{Read-as}
 use Rattle.answers.specs.declared.AnswerRead as Code-answer
 use Rattle.answers.specs.declared.AnswerRead.the-variants as Answer-read
+use Rattle.dimacs.proofs.Loads.{checked-fault, Formula-is, checked-formula}
 use Rattle.walk_back.specs.declared.Texts.the-variants as Texts
 use Rattle.walk_back.specs.Texts.{Texts-says, need}
 
@@ -62,24 +62,6 @@ module _ (workspace room kept : ℕ) (formula log answer : Bytes) where
         unfolding walk-back _>>=_ refuse-if
         workspace-enough e = rw (f, g, h, e) refl
 
--- ---- what the answer of the formula's check says; belongs in crate dimacs
-
-checked-fault : (o : Checked Input) (n : ℕ) → checked-of o ≡ Formula-read.Fault n → o ≡ fault n
-checked-fault (fault x) n e = cc
-checked-fault (value i) n e = absurd (let z : _≡_ {A = ℕ} 0 1 = cc in omega arith)
-
--- the formula of V, C and L
-record Formula-is (o : Checked Input) (v c l : ℕ) : Type 0 where
-  input : Input
-  is : o ≡ value input
-  variables : v ≡ input .variables
-  clauses : c ≡ length (input .formula)
-  literal-count : l ≡ literals-of (input .formula)
-
-checked-formula : (o : Checked Input) (v c l : ℕ) → checked-of o ≡ Formula-read.Formula v c l → Formula-is o v c l
-checked-formula (fault x) v c l e = absurd (let z : _≡_ {A = ℕ} 0 1 = cc in omega arith)
-checked-formula (value i) v c l e = record { input = i; is = refl; variables = cc; clauses = cc; literal-count = cc }
-
 -- ---- the texts, one after the other
 
 module _ (kept : ℕ) (formula log answer : Bytes) (m : Code.Limits) (k : limits-of m ≡ input-limits) (a : Code-checked.Checked) (p : a ≡ checked-of (read-formula (limits-of m) formula)) where
@@ -93,11 +75,11 @@ module _ (kept : ℕ) (formula log answer : Bytes) (m : Code.Limits) (k : limits
     found : Formula-is (read-formula (limits-of m) formula) v c l
     found = checked-formula _ v c l (sym p ∙ q)
 
-    found-here : read-formula input-limits formula ≡ value (found .input)
+    found-here : read-formula input-limits formula ≡ value (found .formula)
     found-here = sym here ∙ found .is
 
     pub says-log : (n : ℕ) → b ≡ Log-read.Fault n → Texts-says kept formula log answer (Texts.Fault n) []
-    says-log n z workspace room = log-refused workspace room kept formula log answer (found .input) found-here n (log-fault (read-log kept log) (sym r ∙ z))
+    says-log n z workspace room = log-refused workspace room kept formula log answer (found .formula) found-here n (log-fault (read-log kept log) (sym r ∙ z))
 
     module _ (g top : ℕ) (z : b ≡ Log-read.Kept g top) (x : ℕ) (e : x ≡ max v top) where
       lines : Kept (read-log kept log) g top
@@ -108,32 +90,32 @@ module _ (kept : ℕ) (formula log answer : Bytes) (m : Code.Limits) (k : limits
 
       v-small : v ≤ 8_000
       unfolding input-limits
-      v-small = omega (arith, accepted input-limits formula (found .input) found-here .variables-few, found .variables)
+      v-small = omega (arith, accepted input-limits formula (found .formula) found-here .variables-few, found .variables)
 
       pub x-small : x ≤ 70_000
       x-small = omega (arith, top-small, v-small)
 
-      x-is : x ≡ highest-allowed (found .input) (lines .ss)
+      x-is : x ≡ highest-allowed (found .formula) (lines .ss)
       unfolding highest-allowed
-      x-is = rw (← found .variables, ← lines .high) e
+      x-is = rw (found .variables, ← lines .high) e
 
       module _ (marks : Bytes) (t : Code-answer.AnswerRead) (y : Read-as (read-answer x answer) t marks) where
         pub says-answer : (n : ℕ) → t ≡ Answer-read.Fault n → Texts-says kept formula log answer (Texts.Fault n) []
-        says-answer n w workspace room = answer-refused workspace room kept formula log answer (found .input) found-here (lines .ss) (lines .read) n (ap (λ (j : ℕ). read-answer j answer) (sym x-is) ∙ (rw w at y))
+        says-answer n w workspace room = answer-refused workspace room kept formula log answer (found .formula) found-here (lines .ss) (lines .read) n (ap (λ (j : ℕ). read-answer j answer) (sym x-is) ∙ (rw w at y))
 
         pub says-read : (n : ℕ) → n ≡ l + c → t ≡ Answer-read.Answer → Texts-says kept formula log answer (Texts.Read v n g x) marks
         unfolding numbers-of
         says-read n s w =
             let u = rw w at y in
             record {
-              i = found .input;
+              i = found .formula;
               ss = lines .ss;
               named = u .0;
               formula-is = found-here;
               log-is = lines .read;
               answer-is = ap (λ (j : ℕ). read-answer j answer) (sym x-is) ∙ u .1;
-              variables = found .variables;
-              formula-numbers = omega (arith, found .clauses, found .literal-count);
+              variables = sym (found .variables);
+              formula-numbers = omega (arith, found .clauses, found .literals);
               log-numbers = lines .sum;
               highest = x-is;
               table = u .2;

@@ -7,7 +7,7 @@ use native.Mathlib.Omega.{arith}
 use lib.Dec.{eqb}
 use lib.IntN.{ℤ, pos}
 use lib.ListN.{length, getD, take, drop}
-use lib.Seq.{take-append-le, take-all, take-take, take-length, length-take-le, getD-take}
+use lib.Seq.{take-append-le, take-all, take-take, take-length, length-take-le}
 use borrow.Author.Tests.{eqb-true, eqb-false}
 use Rattle.definition.specs.Literals.{Clause, same-set}
 use Rattle.laws.proofs.Tests.{of-true, by-test}
@@ -18,7 +18,7 @@ use Rattle.literals.specs.Literal.{index-of, header-literals}
 use Rattle.clauses.specs.Store.{Formed-from, Formed, header-at, size-at, deleted-at, clause-at, past, Place, begins-with, place-from, place-of}
 use Rattle.clauses.specs.declared.Found.{Found}
 use Rattle.clauses.specs.declared.Found.the-variants.{At, Nothing}
-use Rattle.clauses.proofs.Laws.{place-start, place-within, place-end, place-formed, place-next, formed-next, clause-length, prefix-next}
+use Rattle.clauses.proofs.Laws.{place-start, place-end, place-formed, place-next, clause-length, prefix-next, past-within}
 use Rattle.clauses.proofs.Finding.{matches-deleted, matches-stands}
 use Rattle.walking.specs.Index.{last-index, keys, lowest-index, greatest-index, key-of, key-at, last-from, last-with, Indexed}
 
@@ -96,16 +96,6 @@ key-same c d e =
 
 -- ---- the entries one by one
 
--- entries do not overlap
-pub places-apart : (s : List ℤ) (a b : ℕ) → Place s a → Place s b → a < b → past s a ≤ b
-places-apart s a b p q h =
-    let u = take b s in
-    let n : length u ≡ b = length-take-le b s (q .inside) in
-    let f : Formed (take a u) = rw (take-take a b s (omega arith)) (p .before) in
-    let r = place-within {s = u} {at = a} (q .before) (omega arith) f in
-    let m = formed-next u a (omega arith) (r .rest) in
-    omega (arith, m .0, ap header-literals (getD-take b s a (pos 0) h))
-
 -- what holds at the start and passes from each entry to the next holds at every place
 pub by-entries : (s : List ℤ) (P : ℕ → Type 0) → P 0 → ((at : ℕ) → at < length s → Place s at → P at → P (past s at)) → (q : ℕ) → Place s q → P q
 by-entries s P start step q e = go q 0 (place-start (place-formed e)) (omega arith) (omega arith) start
@@ -115,7 +105,7 @@ by-entries s P start step q e = go q 0 (place-start (place-formed e)) (omega ari
     go (suc n) at p l m x =
         by-order at q l (λ z. subst P z x)
         (λ h. let i : at < length s = omega (arith, e .inside) in
-        go n (past s at) (place-next s at i p) (places-apart s at q p e h) (omega arith) (step at i p x))
+        go n (past s at) (place-next s at i p) (past-within p e h) (omega arith) (step at i p x))
 
 -- ---- the last entry with a key
 

@@ -16,9 +16,9 @@ use Rattle.laws.proofs.Loops.{by-order}
 use Rattle.literals.specs.Literal.{largest, header-of, flip, header-literals}
 use Rattle.literals.proofs.Laws.{literals-flip, literals-header}
 use Rattle.clauses.specs.Store.{Formed-from, Formed, header-at, size-at, clause-at, past, marked, Place}
-use Rattle.clauses.proofs.Laws.{place-within, place-end, place-formed, marked-place, formed-next, kept-clause}
+use Rattle.clauses.proofs.Laws.{place-within, place-end, place-formed, marked-place, formed-next, kept-clause, past-within}
 use Rattle.walking.specs.Index.{keys, key-of, key-at, last-from, last-with, Indexed}
-use Rattle.walking.proofs.Index.{key-within, places-apart, by-entries, last-next, last-within}
+use Rattle.walking.proofs.Index.{key-within, by-entries, last-next, last-within}
 
 -- ---- one entry more
 
@@ -35,7 +35,7 @@ module _ (s : List ℤ) (q : ℕ) (links : List ℤ) (heads : List ℕ) (h : q <
       go false m = getD-set-other heads key k (suc q) 0 (λ e. eqb-false key k m (sym e)) ∙ i .newest k l
 
   linked-next : (a : ℕ) → a < past s q → Place s a → header-literals (header-at (set links q (header-of (getD heads key 0))) a) ≡ last-with (key-at s a) (take a s)
-  linked-next a l pa = by-test (ltb a q) (λ t. old (ltb-true a q t)) (λ t. by-order q a (ltb-false a q t) (λ e. subst (λ (j : ℕ). header-literals (header-at (set links q (header-of (getD heads key 0))) j) ≡ last-with (key-at s j) (take j s)) e this) (λ x. absurd (omega (arith, places-apart s q a p pa x))))
+  linked-next a l pa = by-test (ltb a q) (λ t. old (ltb-true a q t)) (λ t. by-order q a (ltb-false a q t) (λ e. subst (λ (j : ℕ). header-literals (header-at (set links q (header-of (getD heads key 0))) j) ≡ last-with (key-at s j) (take j s)) e this) (λ x. absurd (omega (arith, past-within p pa x))))
     where
       old : a < q → header-literals (header-at (set links q (header-of (getD heads key 0))) a) ≡ last-with (key-at s a) (take a s)
       old x = ap header-literals (getD-set-other links q a (header-of (getD heads key 0)) (pos 0) (λ e. omega arith)) ∙ i .linked a x pa
@@ -110,7 +110,7 @@ module _ (s : List ℤ) (p : ℕ) (h : p < length s) (a : Place s p) where
 
       sooner : q < p → clause-at (marked s p) q ≡ clause-at s q
       sooner l =
-          let m = places-apart s q p b a l in
+          let m = past-within b a l in
           let e : p ≡ q + 1 + (p - (q + 1)) = omega arith in
           let d : drop (q + 1) (marked s p) ≡ set (drop (q + 1) s) (p - (q + 1)) (flip (header-at s p)) = ap (λ (j : ℕ). drop (q + 1) (set s j (flip (header-at s p)))) e ∙ drop-set-add (q + 1) s (p - (q + 1)) (flip (header-at s p)) in
           ap₂ (λ (x : ℤ) (r : List ℤ). take (header-literals x) r) (getD-set-other s p q (flip (header-at s p)) (pos 0) (λ e. omega arith)) d

@@ -100,7 +100,6 @@ replaying-start work heads lines store first links p n l = record {
 }
 
 -- the numbers of the first line and of the rest
--- belongs in crate laws (Clauses, beside numbers-snoc)
 numbers-first : (x : Line) (xs : List Line) → numbers-in (x ∷ xs) ≡ (length (literals x) + 1) + numbers-in xs
 unfolding numbers-in sum-of
 numbers-first x xs = refl

@@ -1,7 +1,7 @@
 use mathlib.Core.Path.{refl}
 use denote.Ref.{now}
 use Rattle.definition.specs.Counter.{stage-3}
-use Rattle.counter_clauses.specs.Choice.{of-literals}
+use Rattle.counter_form.proofs.Ready.{of-literals}
 use Rattle.counter_clauses.proofs.Links.{counter-parts, first-room, rest-room, two-grown}
 use borrow.Author.Needs.{needs}
 use Rattle.counter_clauses.proofs.put_counter.Statement.{statement}

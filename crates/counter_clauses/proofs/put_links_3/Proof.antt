@@ -5,7 +5,7 @@ use lib.ListN.{length}
 use denote.Ref.{now}
 use Rattle.definition.specs.Lists.{for-from}
 use Rattle.recording.proofs.Laws.{written-length}
-use Rattle.counter_clauses.specs.Choice.{of-literals}
+use Rattle.counter_form.proofs.Ready.{of-literals}
 use Rattle.counter_clauses.specs.Growth.{Grown, link-3}
 use Rattle.counter_clauses.proofs.Growing.{grown-start, grow-turn, grown-turn}
 use Rattle.counter_clauses.proofs.Links.{grow-as, grown-as}

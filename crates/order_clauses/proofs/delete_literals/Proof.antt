@@ -4,7 +4,7 @@ use Prim.Native.Nat.{_-_, _+_}
 use lib.ListN.{length}
 use denote.Ref.{now}
 use Rattle.definition.specs.Order.{deletions-of}
-use Rattle.order_clauses.specs.Order.{of-literals}
+use Rattle.counter_form.proofs.Ready.{of-literals}
 use Rattle.order_clauses.proofs.Deleting.{Deleting, deleting-start, deleting-room, deleting-step, deleting-end}
 use Rattle.order_clauses.proofs.delete_literals.Statement.{statement}
 use Rattle.order_clauses.proofs.delete_literals.Tie as tie

@@ -4,7 +4,8 @@ use Prim.Native.Nat.{_-_}
 use lib.ListN.{length, take, drop}
 use denote.Ref.{now}
 use Rattle.recording.proofs.Laws.{written-length}
-use Rattle.order_clauses.specs.Order.{of-literals, front}
+use Rattle.counter_form.proofs.Ready.{of-literals}
+use Rattle.order_clauses.specs.Order.{front}
 use Rattle.order_clauses.proofs.Passing.{Passing, passing-start, passing-before, passing-within, passing-addable, passing-step, passing-end}
 use Rattle.order_clauses.proofs.Ordered.{middle-size, pass-room, places-small}
 use Rattle.order_clauses.proofs.replace_all.Statement.{statement}

@@ -13,7 +13,6 @@ use model::valleys::Valley;
 use sirgholyn::{calls, Form, Wish};
 use std::path::Path;
 use std::process::{Command, Stdio};
-use std::time::Instant;
 use std::{env, fs};
 
 /// Longer runs are not counted by callgrind, which takes some fifty times as long.
@@ -67,7 +66,7 @@ fn reencode_once(who: &str, file: &str, form: &str, log: &str, formula: &str) {
     }
 }
 
-/// Of `getrusage` only the peak memory is looked at.
+/// Of `getrusage` the processor's seconds, which other work on the machine hardly changes, and the peak memory are looked at.
 #[repr(C)]
 struct Usage {
     times: [i64; 4],
@@ -79,17 +78,15 @@ extern "C" {
     fn getrusage(whose: i32, usage: *mut Usage) -> i32;
 }
 
-/// Runs a command, and prints its seconds and its peak memory in kilobytes. This process is small, so that
+/// Runs a command, and prints the processor's seconds and the peak memory in kilobytes. This process is small, so that
 /// the peak is the command's own.
 fn measure_once(command: &[&str]) {
     const CHILDREN: i32 = -1;
-    let start = Instant::now();
     Command::new(command[0])
         .args(&command[1..])
         .stdout(Stdio::null())
         .status()
         .unwrap();
-    let seconds = start.elapsed().as_secs_f64();
     let mut usage = Usage {
         times: [0; 4],
         peak_kilobytes: 0,
@@ -97,6 +94,8 @@ fn measure_once(command: &[&str]) {
     };
     // SAFETY: the structure has the size and layout of C's on 64-bit Linux.
     unsafe { getrusage(CHILDREN, &mut usage) };
+    let [user, user_micro, system, system_micro] = usage.times;
+    let seconds = (user + system) as f64 + (user_micro + system_micro) as f64 / 1e6;
     println!("{seconds} {}", usage.peak_kilobytes);
 }
 
@@ -276,7 +275,7 @@ fn measure_row(
 // ---- the table
 
 fn print_rows(rows: &[Row]) {
-    println!("Instructions of the whole process (callgrind), median seconds of {RUNS} runs, peak memory. A ratio is the");
+    println!("Instructions of the whole process (callgrind), median processor seconds of {RUNS} runs, peak memory. A ratio is the");
     println!("library's instructions (where one is not counted: seconds) over the other's. Growth is to the row before.");
     println!();
     println!("| formula | form | log MB | instructions | s | MB | growth | / model | / cadical | / minisat |");

@@ -13,7 +13,6 @@ use Rattle.definition.specs.Checked.{Checked, fault, value, _>>=_, refuse-if, o
 use Rattle.definition.specs.Text.{Bytes, bytes, same-bytes, words-by, TextLine, text-lines, line-text, number}
 use Rattle.definition.specs.Literals.{Clause, holds}
 use Rattle.definition.specs.Answer.{Answer, begins-with, space-or-tab, read-answer-word, read-answer-line, read-answer}
-use Rattle.definition.specs.Calls.{assigned}
 use Rattle.text.specs.declared.Number.{Number}
 use Rattle.text.specs.declared.Number.the-variants as Number
 use Rattle.text.specs.Numbers.{number-class}
@@ -21,11 +20,11 @@ use Rattle.answers.specs.declared.Progress.{Progress}
 use Rattle.answers.specs.declared.Progress.the-variants as Progress
 use Rattle.answers.specs.declared.AnswerRead.{AnswerRead}
 use Rattle.answers.specs.declared.AnswerRead.the-variants as AnswerRead
-use Rattle.answers.specs.Table.{Table, marked, naming}
+use Rattle.answers.specs.Table.{Table, naming}
 use Rattle.answers.specs.Lines.{part, First-line}
 use Rattle.answers.specs.Reading.{waiting-at, open-at, read-literal, Reached, Steps, Steps-open, closing, Ends, Read-as}
 use Rattle.laws.proofs.Outcomes.{bind-bind, bind-end}
-use Rattle.answers.proofs.Table.{marked-assigned, variable-named, table-start, table-naming}
+use Rattle.answers.proofs.Table.{variable-named, table-start, table-naming}
 
 -- ---- a number before the closing `0`
 
@@ -198,6 +197,3 @@ module _ (x : ℕ) (t : Bytes) where
   lines-end at p m r e k ends = ends m _ (walked-end (line-step x) p m (text-lines (drop at t)) _ e k)
 
 -- ---- what an answer read says of the definition's assignment
-
-pub read-assigned : (o : Checked Clause) (m : Bytes) → Read-as o AnswerRead.Answer m → (c : Clause) × (o ≡ value c) × (marked m ≡ assigned c)
-read-assigned o m r = (r .0, r .1, marked-assigned (r .0) m (r .2))

@@ -7,18 +7,16 @@ use native.Mathlib.Omega.{arith}
 use native.Mathlib.Numerals.{one-add}
 use lib.Dec.{leb}
 use lib.IntN.{ℤ, pos}
-use lib.ListN.{length, take, drop, length-append, length-take, length-drop, length-set, take-append-drop}
+use lib.ListN.{length, take, drop, length-append, length-drop, length-set, take-append-drop}
 use lib.Seq.{drop-append-le, getD-take, drop-drop, take-add, take-append-le, take-take, take-length, length-take-le, sets, length-sets, take-set-le, drop-set-lt, getD-set-same, take-at}
 use borrow.Author.Tests.{leb-true, le-leb}
 use Rattle.definition.specs.Literals.{Clause, Formula}
-use Rattle.definition.specs.Calls.{numbers-of}
 use Rattle.laws.proofs.Tests.{differ}
 use Rattle.literals.specs.Literal.{largest, negative, header-of, flip, header-literals}
-use Rattle.literals.proofs.Laws.{flip-negative, literals-flip, literals-header, header-stands}
+use Rattle.literals.proofs.Laws.{flip-negative, literals-flip, literals-header}
 use Rattle.clauses.specs.Store.{Formed-from, Formed, stored-from, stored, entry, header-at, size-at, deleted-at, clause-at, past, marked, Place, fits-in, end-after, with-entry}
 use Rattle.clauses.specs.declared.Added.the-variants.{To, Full}
 use Rattle.laws.proofs.Slices.{drop-step, drop-end, sets-before, sets-after, taken-sets}
-use Rattle.laws.proofs.Clauses.{numbers-none, numbers-first}
 
 -- ---- what follows a clause's literals
 
@@ -249,17 +247,11 @@ module _ (s : List ℤ) (at : ℕ) (c : Clause) (h : length c ≤ largest) (b : 
   pub entry-header : header-at s at ≡ header-of (length c)
   entry-header = cc heads
 
-  pub entry-stands : deleted-at s at ≡ false
-  entry-stands = ap negative entry-header ∙ header-stands (length c)
-
   pub entry-size : size-at s at ≡ length c
   entry-size = ap header-literals entry-header ∙ literals-header (length c) (omega arith)
 
   pub entry-clause : clause-at s at ≡ c
   entry-clause = let t : drop (at + 1) s ≡ c ++ b = cc heads in ap₂ (λ (k : ℕ) (r : List ℤ). take k r) entry-size t ∙ take-at c b (length c) refl
-
-  pub entry-past : past s at ≡ at + (length c + 1)
-  entry-past = omega (arith, entry-size)
 
 -- ---- what append_clause answers
 
@@ -305,33 +297,11 @@ appended old new end r c h e w = go (fits-in (length old) end c) refl e w
         write (k .0) (k .1) (omega arith) n
     go false m x n = absurd (let z : _≡_ {A = ℕ} 0 1 = cc in omega arith)
 
-pub not-appended : (old new : List ℤ) (end : ℕ) (c : Clause) → end-after (length old) end c ≡ Full → new ≡ with-entry old end c → (new ≡ old) × (fits-in (length old) end c ≡ false)
-not-appended old new end c e w = go (fits-in (length old) end c) e w
-  where
-    go : (t : Bool) → cond t (To (end + (length c + 1))) Full ≡ Full → new ≡ cond t (sets old end (entry c)) old → (new ≡ old) × (t ≡ false)
-    go true x n = absurd (let z : _≡_ {A = ℕ} 0 1 = cc in omega arith)
-    go false x n = (n, refl)
-
 -- there is room
 pub fits-within : (size end : ℕ) (c : Clause) → length c ≤ largest → end + (length c + 1) ≤ size → fits-in size end c ≡ true
 fits-within size end c a b = rw (le-leb (length c) largest a, le-leb (length c + 1) (size - end) (omega arith)) refl
 
 -- ---- a store has room for what stands in it
-
-stored-from-within : (k : ℕ) (s : List ℤ) → numbers-of (stored-from k s) ≤ length s - k
-unfolding stored-from
-stored-from-within zero [] = omega (arith, numbers-none)
-stored-from-within (suc k) [] = omega (arith, numbers-none)
-stored-from-within zero (h ∷ s) = go (negative h) (stored-from-within (header-literals h) s)
-  where
-    go : (b : Bool) → numbers-of (stored-from (header-literals h) s) ≤ length s - header-literals h
-        → numbers-of (cond b (stored-from (header-literals h) s) (take (header-literals h) s ∷ stored-from (header-literals h) s)) ≤ length (h ∷ s) - 0
-    go true r = omega arith
-    go false r = omega (arith, numbers-first (take (header-literals h) s) (stored-from (header-literals h) s), length-take (header-literals h) s)
-stored-from-within (suc k) (x ∷ s) = omega (arith, stored-from-within k s)
-
-pub stored-within : (s : List ℤ) → numbers-of (stored s) ≤ length s
-stored-within s = omega (arith, stored-from-within 0 s)
 
 -- the part of a clause lies inside the store
 pub part-within : (s : List ℤ) (at : ℕ) → at < length s → Formed (drop at s) → at + 1 + size-at s at ≤ length s

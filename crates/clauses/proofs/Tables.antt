@@ -59,11 +59,6 @@ unfolding tallied
 length-tallied t [] = refl
 length-tallied t (l ∷ c) = length-tallied (bumped t l) c ∙ length-set t (index-of l) _
 
-pub length-tallied-all : (t : List ℕ) (f : Formula) → length (tallied-all t f) ≡ length t
-unfolding tallied-all
-length-tallied-all t [] = refl
-length-tallied-all t (c ∷ f) = length-tallied-all (tallied t c) f ∙ length-tallied t c
-
 -- ---- an entry counts the places of its literal
 
 bumped-at : (t : List ℕ) (x l : ℤ) → index-of l < length t → getD (bumped t x) (index-of l) 0 ≡ cond (same l x) (min (getD t (index-of l) 0 + 1) most) (getD t (index-of l) 0)

@@ -107,11 +107,6 @@ mem-removed (found e) i = there i
 mem-removed (later e r) (here j) = here j
 mem-removed (later e r) (there j) = there (mem-removed r j)
 
--- the clause that is taken out
-pub removed-clause : {c : Clause} {F G : Formula} → Removed c F G → (d : Clause) × List·Memᴰ d F × Same c d
-removed-clause {c} (found {d = d} e) = (d, here refl, same-set-same c d (of-true e))
-removed-clause (later e r) = let q = removed-clause r in (q .0, there (q .1), q .2)
-
 -- ---- satisfying before and after
 pub sat-less : (σ : Assignment) {c : Clause} {F G : Formula} → Removed c F G → Sat σ F → Sat σ G
 sat-less σ (found t) s = s .1

@@ -42,11 +42,6 @@ leads-cut (suc j) (adds s) = adds (leads-cut j s)
 leads-cut {F} (suc j) (dels {c = c} {xs = xs} r s) =
     subst (λ (X : Formula). Leads F (deletion c ∷ take j xs) (after X (take j xs))) (sym (removed-take-out r)) (dels r (leads-cut j s))
 
-pub leads-join : {F G H : Formula} {xs ys : List Line} → Leads F xs G → Leads G ys H → Leads F (xs ++ ys) H
-leads-join ends t = t
-leads-join (adds s) t = adds (leads-join s t)
-leads-join (dels r s) t = dels r (leads-join s t)
-
 pub leads-split : {F G : Formula} (xs ys : List Line) → Leads F (xs ++ ys) G → Leads F xs (after F xs) × Leads (after F xs) ys G
 unfolding after changed
 leads-split [] ys s = (ends, s)

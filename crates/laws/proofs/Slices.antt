@@ -6,12 +6,9 @@ use Prim.Native.Nat.{ℕ, suc, _+_, _-_, _≤_, _<_, zero}
 use native.Mathlib.Nat.{add-zero}
 use native.Mathlib.Numerals.{add-one}
 use native.Mathlib.Omega.{arith}
-use lib.Dec.{ltb}
-use lib.ListN.{length, getD, set, length-set, take, drop, length-append, length-drop, drop-of-length-le, take-append-drop, replicate}
-use lib.Seq.{take-all, take-nil, take-suc-set, append-snoc, sets, set-comm, set-out, drop-set-add, drop-set-lt, take-set-le, length-take-le, drop-cons, take-at, sets-eq, getD-take, take-add, drop-at, length-sets}
-use borrow.Author.Tests.{ltb-true, ltb-false}
+use lib.ListN.{length, getD, set, take, drop, length-append, length-drop, drop-of-length-le, take-append-drop, replicate}
+use lib.Seq.{take-all, sets, set-comm, set-out, drop-set-add, drop-set-lt, take-set-le, length-take-le, drop-cons, take-at, sets-eq, getD-take, take-add, drop-at, length-sets}
 use Rattle.definition.specs.Lists.{any, all}
-use Rattle.laws.proofs.Tests.{by-test}
 
 -- the rest of a list from a place on, as `&s[a..]` gives it
 pub rest-is {ℓ} : {A : Type ℓ} (s : List A) (a : ℕ) → take (length s - a) (drop a s) ≡ drop a s
@@ -48,22 +45,6 @@ module _ {A : Type 0} where
   pub sets-past : (xs l : List A) (at : ℕ) → length l ≤ at → sets l at xs ≡ l
   sets-past [] l at h = refl
   sets-past (x ∷ xs) l at h = rw (set-out l at x h) (sets-past xs l (suc at) (omega arith))
-
-  -- of a run that goes past the end, what there is room for is stored
-  pub sets-long : (xs l : List A) (at : ℕ) → at ≤ length l → length l ≤ at + length xs → sets l at xs ≡ take at l ++ take (length l - at) xs
-  sets-long [] l at h g = rw (take-nil {A = A} (length l - at), append-nil) (sym (take-all at l (omega arith)))
-  sets-long (x ∷ xs) l at h g = by-test (ltb at (length l)) (λ e. inside (ltb-true at (length l) e) (sets-long xs (set l at x) (suc at))) (λ e. outside (ltb-false at (length l) e))
-    where
-      inside : at < length l → (suc at ≤ length (set l at x) → length (set l at x) ≤ suc at + length xs → sets (set l at x) (suc at) xs ≡ take (suc at) (set l at x) ++ take (length (set l at x) - suc at) xs) → sets l at (x ∷ xs) ≡ take at l ++ take (length l - at) (x ∷ xs)
-      inside e more =
-          let k : length l - at ≡ suc (length l - suc at) = omega arith in
-          more (omega (arith, length-set l at x)) (omega (arith, length-set l at x))
-          ∙ rw (take-suc-set l at x e, length-set l at x, k) (append-snoc (take at l) x (take (length l - suc at) xs))
-
-      outside : length l ≤ at → sets l at (x ∷ xs) ≡ take at l ++ take (length l - at) (x ∷ xs)
-      outside e =
-          let k : length l - at ≡ 0 = omega arith in
-          sets-past (x ∷ xs) l at e ∙ rw (k, append-nil) (sym (take-all at l e))
 
   -- a run in the rest of a list is one in the list
   pub sets-drop : (vs xs : List A) (a j : ℕ) → take a xs ++ sets (drop a xs) j vs ≡ sets xs (a + j) vs

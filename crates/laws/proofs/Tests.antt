@@ -76,10 +76,6 @@ bit-not false = refl
 pub bit-true : (b : Bool) → T b → bit b ≡ 1
 bit-true true t = refl
 
-pub bit-of : (b : Bool) → 1 ≤ bit b → T b
-bit-of true h = tt
-bit-of false h = absurd (omega arith)
-
 -- a conjunction, by its second part
 pub second-holds : (a b : Bool) → b ≡ true → a ≡ (a && b)
 second-holds true b e = sym e

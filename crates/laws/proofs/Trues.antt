@@ -15,10 +15,6 @@ use Rattle.laws.proofs.Tests.{and-l, and-r, and-i, bit≤1, bit-not}
 use Rattle.laws.proofs.Loops.{count-++}
 use Rattle.laws.proofs.Members.{any-same, all-same, Fit, Fits}
 
-pub trues-nil : (σ : Assignment) → trues σ [] ≡ 0
-unfolding trues count
-trues-nil σ = refl
-
 pub trues-cons : (σ : Assignment) (l : ℤ) (c : Clause) → trues σ (l ∷ c) ≡ bit (true-in σ l) + trues σ c
 unfolding trues count
 trues-cons σ l c = refl

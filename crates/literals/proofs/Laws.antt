@@ -7,7 +7,6 @@ use lib.IntN.{ℤ, pos, negsuc, negℤ, natAbs}
 use mir.Syntax.{w32}
 use mir.Val.{SFits, ofZ, toZ}
 use mir.ValLaws.{toZ-ofZ}
-use Rattle.definition.specs.Assignments.{sign}
 use Rattle.laws.proofs.Tests.{differ}
 use Rattle.literals.specs.Literal.{largest, negative, with-sign, signed-of, negation, index-of, header-of, flip, header-literals}
 
@@ -32,16 +31,6 @@ variable-within (pos n) f = omega arith
 variable-within (negsuc n) f = omega arith
 
 -- ---- the sign
-
-pub negative-sign : (l : ℤ) → negative l ≡ not (sign l)
-unfolding sign
-negative-sign (pos n) = refl
-negative-sign (negsuc n) = refl
-
--- a negative literal is the negation of its variable, another one is its variable
-pub as-negative : (l : ℤ) → negative l ≡ true → l ≡ negℤ (pos (natAbs l))
-as-negative (pos n) e = differ {b = true} tt (sym e)
-as-negative (negsuc n) e = refl
 
 pub as-positive : (l : ℤ) → negative l ≡ false → l ≡ pos (natAbs l)
 as-positive (pos n) e = refl
@@ -78,15 +67,8 @@ index-injective (negsuc m) (negsuc n) e = let k : m ≡ n = omega arith in ap ne
 pub header-small : (n : ℕ) → n < 2 ^ 31 → header-of n ≡ pos n
 header-small n h = signed-small false n h
 
-pub header-stands : (n : ℕ) → negative (header-of n) ≡ false
-header-stands n = refl
-
 pub literals-header : (n : ℕ) → n < 2 ^ 31 → header-literals (header-of n) ≡ n
 literals-header n h = omega arith
-
-pub flip-flip : (h : ℤ) → flip (flip h) ≡ h
-flip-flip (pos n) = refl
-flip-flip (negsuc n) = refl
 
 pub flip-negative : (h : ℤ) → negative (flip h) ≡ not (negative h)
 flip-negative (pos n) = refl

@@ -1,7 +1,7 @@
 -- Laws of the writers of proof lines. Assumes nothing.
 use mathlib.Core.Path.{_≡_, refl, sym, ap, _∙_}
 use mathlib.Core.Bool.{Bool, true, false}
-use mathlib.Core.List.{List, [], _∷_, _++_, append-nil, append-assoc}
+use mathlib.Core.List.{[], _∷_, _++_, append-nil, append-assoc}
 use Prim.Native.Nat.{ℕ, _+_, _*_, _-_, _≤_, _<_}
 use native.Mathlib.Omega.{arith}
 use native.Mathlib.Numerals.{add-one}
@@ -13,8 +13,7 @@ use mir.Val.{SFits, ofZ, toZ}
 use Rattle.definition.specs.Lists.{for-each}
 use Rattle.definition.specs.Literals.{Clause}
 use Rattle.definition.specs.Text.{Bytes, bytes, digits, literal-text}
-use Rattle.definition.specs.Log.{clause-text, log-line-text, log-text}
-use Rattle.definition.specs.Standing.{Line}
+use Rattle.definition.specs.Log.{clause-text, log-line-text}
 use Rattle.laws.proofs.Loops.{for-each-++}
 use Rattle.literals.proofs.Laws.{at-arg}
 use Rattle.round_trips.proofs.ClauseText.{literals-text}
@@ -125,12 +124,3 @@ unfolding header-text bytes
 header-put h m p q s t u = put-then (put-then (put-then (put-then p q) s) t) u
 
 -- ---- a log, line after line
-
-pub log-start : (l : Bytes) (at : ℕ) → Put l at (log-text []) at l
-unfolding log-text for-each
-log-start l at = put-none l at
-
-pub log-put : {l m n : Bytes} {at r q : ℕ} (ss : List Line) (s : Line) → Put l at (log-text ss) r m → Put m r (log-line-text s) q n → Put l at (log-text (ss ++ (s ∷ []))) q n
-unfolding log-text for-each
-log-put ss s p q =
-    put-same (put-then p q) (sym (for-each-++ ss (s ∷ []) log-line-text ∙ ap (λ (t : Bytes). log-text ss ++ t) (append-nil (log-line-text s))))

@@ -169,9 +169,6 @@ module _ (t : Bytes) (s : Settings) (work : List ℤ) (log₀ formula₀ : Bytes
         pub run-inside : r .end ≤ length w₂
         run-inside = omega (arith, ran .ran .inside, ran .ran .size)
 
-        pub run-formed : Formed (take (r .end) w₂)
-        run-formed = ran .ran .formed
-
         -- ---- and the store compacted
         module _ {shorter : List ℤ} {stop : ℕ} (g : Compacted (take (r .end) w₂) stop shorter) where
           abbrev store : List ℤ

@@ -21,10 +21,6 @@ module _ (d : Clause) (k : Choice) where
   unfolding last-new
   last-open = refl
 
-  pub replaced-open : (c : Clause) → replaced (with-clause d k) c ≡ replaced k c
-  unfolding replaced instead-of previous negated-new size new
-  replaced-open c = refl
-
   pub results-open : (F : Formula) → added (with-clause d k) F ≡ added k F
   unfolding replaced instead-of previous negated-new size new
   results-open F = refl

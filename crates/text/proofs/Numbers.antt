@@ -138,17 +138,6 @@ number-plain (b ∷ s) h e = rw (ne-eqb b 45 e) refl
 
 -- ---- what the answers say of the definition's number
 
-abbrev pub Natural-says : ℕ → Option ℕ → Natural → Type 0
-Natural-says most o (Natural.Value n) = (o ≡ some n) × (n ≤ most)
-Natural-says most o Natural.Large = (n : ℕ) × (o ≡ some n) × (most < n)
-Natural-says most o Natural.NotANumber = o ≡ none
-
-pub natural-says : (most : ℕ) (o : Option ℕ) → Natural-says most o (natural-class most o)
-natural-says most none = refl
-natural-says most (some n) = by-test (leb n most)
-    (λ e. rw e (refl, leb-true n most e))
-    (λ e. rw e (n, refl, leb-false n most e))
-
 abbrev pub Number-says : Option ℤ → Number → Type 0
 Number-says o (Number.Value z) = (o ≡ some z) × (natAbs z ≤ 70_000)
 Number-says o Number.Large = (z : ℤ) × (o ≡ some z) × (70_000 < natAbs z)
@@ -159,10 +148,6 @@ number-says none = refl
 number-says (some z) = by-test (leb (natAbs z) 70_000)
     (λ e. rw e (refl, leb-true (natAbs z) 70_000 e))
     (λ e. rw e (z, refl, leb-false (natAbs z) 70_000 e))
-
--- by an answer r that a reader gave
-pub natural-answer : (most : ℕ) (o : Option ℕ) {r : Natural} → r ≡ natural-class most o → Natural-says most o r
-natural-answer most o e = rw e (natural-says most o)
 
 pub number-answer : (o : Option ℤ) {r : Number} → r ≡ number-class o → Number-says o r
 number-answer o e = rw e (number-says o)

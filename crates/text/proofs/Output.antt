@@ -13,16 +13,13 @@ use Rattle.laws.proofs.Tests.{differ}
 use Rattle.literals.specs.Literal.{negative}
 use mathlib.Core.Bool.{true, false}
 use Rattle.text.specs.Output.{Put}
-use Rattle.laws.proofs.Slices.{sets-then, sets-first, sets-before, sets-after, sets-past, sets-long, sets-rest}
+use Rattle.laws.proofs.Slices.{sets-then, sets-first, sets-rest}
 use Rattle.laws.proofs.Digits.{digits-one, digits-more, count-one, count-more, digits-within}
 
 -- ---- nothing, one byte, one text after another
 
 pub put-none : (l : Bytes) (at : ℕ) → Put l at [] at l
 put-none l at = record { next = omega arith; kept = refl }
-
-pub put-one : (l : Bytes) (at b : ℕ) → Put l at (b ∷ []) (at + 1) (set l at b)
-put-one l at b = record { next = omega arith; kept = refl }
 
 pub put-then : {l m n : Bytes} {at r q : ℕ} {xs ys : Bytes} → Put l at xs r m → Put m r ys q n → Put l at (xs ++ ys) q n
 put-then {l} {m} {n} {at} {r} {q} {xs} {ys} p s = record {
@@ -40,17 +37,6 @@ module _ {l n xs : Bytes} {at r : ℕ} (p : Put l at xs r n) where
   pub put-length : length n ≡ length l
   put-length = ap length (p .kept) ∙ length-sets l at xs
 
-  -- before the text and after it nothing changes
-  pub put-before : take at n ≡ take at l
-  put-before = ap (take at) (p .kept) ∙ sets-before xs l at at (omega arith)
-
-  pub put-after : drop r n ≡ drop r l
-  put-after = ap (drop r) (p .kept) ∙ sets-after xs l at r (omega (arith, p .next))
-
-  -- past the end nothing is stored
-  pub put-past : length l ≤ at → n ≡ l
-  put-past h = p .kept ∙ sets-past xs l at h
-
   -- where all fits, the text stands there
   pub put-fits : r ≤ length l → n ≡ take at l ++ xs ++ drop r l
   put-fits h =
@@ -60,14 +46,6 @@ module _ {l n xs : Bytes} {at r : ℕ} (p : Put l at xs r n) where
   put-read h =
       ap (take r) (put-fits h)
       ∙ take-at (take at l ++ xs) (drop r l) r (omega (arith, p .next, length-append (take at l) xs, length-take-le at l (omega (arith, p .next))))
-
-  -- where the buffer ends before the text, as much of it as there is room for
-  pub put-long : at ≤ length l → length l ≤ r → n ≡ take at l ++ take (length l - at) xs
-  put-long h g = p .kept ∙ sets-long xs l at h (omega (arith, p .next))
-
--- a text that starts a buffer
-pub put-start : {l n xs : Bytes} {r : ℕ} → Put l 0 xs r n → r ≤ length l → take r n ≡ xs
-put-start p h = put-read p h
 
 -- a text in `&mut l[a..]` is one in l
 pub put-part : {l n xs : Bytes} {at r : ℕ} (a : ℕ) → Put (take (length l - a) (drop a l)) at xs r n → Put l (a + at) xs (a + r) (take a l ++ (n ++ drop (length l - a) (drop a l)))

@@ -170,13 +170,6 @@ module _ (separates : ℕ → Bool) (t : Bytes) (at : ℕ) where
   pub word-answer : {w : Word} → w ≡ word-at separates t at → Says w
   word-answer e = rw e word-says
 
-  pub none-word : words-by separates (drop at t) ≡ [] → word-at separates t at ≡ End
-  none-word h = go (word-at separates t at) word-says
-    where
-      go : (w : Word) → Says w → w ≡ End
-      go (At s e) f = let g = f .words in let z : _≡_ {A = ℕ} 0 1 = cc in absurd (omega arith)
-      go End f = refl
-
 -- the words of a text are parted by blanks
 pub words-blank : (t : Bytes) → words t ≡ words-by blank t
 unfolding words

@@ -230,6 +230,34 @@ fn cover(random: &mut Random, chosen: &[Vec<i32>], others: &mut [Vec<i32>]) {
     }
 }
 
+/// V 8,000, C 20,000 and L near 60,000: choices of the size, and clauses of two or three negated literals.
+pub fn largest_with(size: usize) -> Vec<u8> {
+    let mut random = Random::new(size as u64);
+    let mut clauses: Vec<Vec<i32>> = (1..=8_000)
+        .collect::<Vec<i32>>()
+        .chunks(size)
+        .map(<[i32]>::to_vec)
+        .collect();
+    let mut literals = 8_000;
+    while clauses.len() < 20_000 {
+        let wanted = if 60_000 - literals > 3 * (20_000 - clauses.len()) {
+            3
+        } else {
+            2
+        };
+        let mut clause: Vec<i32> = Vec::new();
+        while clause.len() < wanted {
+            let literal = -(random.between(1, 8_000) as i32);
+            if !clause.contains(&literal) {
+                clause.push(literal);
+            }
+        }
+        literals += wanted;
+        clauses.push(clause);
+    }
+    formula_text(8_000, &clauses)
+}
+
 pub fn text_of(formula: &Formula) -> Vec<u8> {
     formula_text(formula.variables, &formula.clauses)
 }

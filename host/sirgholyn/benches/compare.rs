@@ -8,7 +8,7 @@
 #[allow(dead_code)]
 mod formulas;
 
-use model::generator::{text_of, Random};
+use model::generator::{largest_with, text_of, Random};
 use model::valleys::Valley;
 use sirgholyn::{calls, Form, Wish};
 use std::path::Path;
@@ -180,16 +180,8 @@ fn compare(valleys: &[usize], with_largest: bool) {
         ));
     }
     if with_largest {
-        texts.push((
-            "largest",
-            "largest, k = 5".into(),
-            formulas::largest_with(5),
-        ));
-        texts.push((
-            "largest",
-            "largest, k = 64".into(),
-            formulas::largest_with(64),
-        ));
+        texts.push(("largest", "largest, k = 5".into(), largest_with(5)));
+        texts.push(("largest", "largest, k = 64".into(), largest_with(64)));
         for clashes in [650, 1_300, 2_600] {
             texts.push((
                 "clashes",

@@ -4,8 +4,8 @@ mod common;
 
 use common::formulas::{any_kind, values_for};
 use common::{
-    compare_read_back, compare_reencode, compare_walk_back, over_seeds, run_model, sum,
-    walk_back_work, work_for, Room, WAYS,
+    compare_read_back, compare_reencode, compare_walk_back, new_formula, over_seeds, run_model,
+    sum, walk_back_work, work_for, Room, WAYS,
 };
 use model::encoding::Encoding;
 use model::generator::{answer_for, damage, damage_log, text_of, Random};
@@ -72,10 +72,7 @@ fn in_order(seed: u64, occurred: &mut Occurred) {
         let encoding = run_model(&formula, form, wish);
         note_run(occurred, &encoding);
         let log = log_text(&encoding.log);
-        let new = Formula {
-            variables: encoding.highest,
-            clauses: encoding.standing.clauses(),
-        };
+        let new = new_formula(&encoding);
         let new_text = text_of(&new);
         let room = Room {
             work: around(&mut random, work_for(&formula)),

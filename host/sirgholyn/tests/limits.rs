@@ -2,13 +2,13 @@
 
 mod common;
 
-use common::formulas::{clash_chain, largest_with};
+use common::formulas::clash_chain;
 use common::{
-    compare_read_back, compare_reencode, compare_walk_back, run_model, walk_back_work, work_for,
-    Room, PLENTY, WAYS,
+    compare_read_back, compare_reencode, compare_walk_back, new_formula, run_model, walk_back_work,
+    work_for, Room, PLENTY, WAYS,
 };
-use model::generator::text_of;
-use model::reading::{read_formula, Formula, INPUT_LIMITS};
+use model::generator::{largest_with, text_of};
+use model::reading::{read_formula, INPUT_LIMITS};
 use model::texts::log_text;
 use sirgholyn::calls::{library, on_large_stack};
 use sirgholyn::{Form, Wish};
@@ -116,10 +116,7 @@ fn short_by_one() {
     for (form, wish) in WAYS {
         let encoding = run_model(&read, form, wish);
         let log = log_text(&encoding.log);
-        let new = Formula {
-            variables: encoding.highest,
-            clauses: encoding.standing.clauses(),
-        };
+        let new = new_formula(&encoding);
         let new_text = text_of(&new);
         let enough = Room {
             work: work_for(&read),

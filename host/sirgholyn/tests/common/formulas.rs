@@ -207,34 +207,6 @@ pub fn values_for(random: &mut Random, clauses: &[Vec<i32>], highest: usize) -> 
     values
 }
 
-/// V 8,000, C 20,000 and L near 60,000: choices of the size, and clauses of two or three negated literals.
-pub fn largest_with(size: usize) -> Vec<u8> {
-    let mut random = Random::new(size as u64);
-    let mut clauses: Vec<Vec<i32>> = (1..=8_000)
-        .collect::<Vec<i32>>()
-        .chunks(size)
-        .map(<[i32]>::to_vec)
-        .collect();
-    let mut literals = 8_000;
-    while clauses.len() < 20_000 {
-        let wanted = if 60_000 - literals > 3 * (20_000 - clauses.len()) {
-            3
-        } else {
-            2
-        };
-        let mut clause: Vec<i32> = Vec::new();
-        while clause.len() < wanted {
-            let literal = -(random.between(1, 8_000) as i32);
-            if !clause.contains(&literal) {
-                clause.push(literal);
-            }
-        }
-        literals += wanted;
-        clauses.push(clause);
-    }
-    formula_text(8_000, &clauses)
-}
-
 /// Clauses that clash one after the other, each with two literals of its own, which stand negated twice.
 pub fn clash_chain(clashes: i32) -> Vec<u8> {
     let own = clashes + 1;

@@ -236,6 +236,20 @@ pub fn over_seeds<C: Default + Send>(
     })
 }
 
+/// The clauses left standing.
+pub fn new_formula(encoding: &model::encoding::Encoding) -> Formula {
+    Formula {
+        variables: encoding.highest,
+        clauses: encoding.standing.clauses(),
+    }
+}
+
+/// Each of these outcomes occurred.
+pub fn expect_numbers(numbers: &Numbers, expected: &[u32]) {
+    println!("{numbers:?}");
+    assert!(expected.iter().all(|number| numbers.contains_key(number)));
+}
+
 /// Counts by name or number, added up.
 pub fn sum<K: Ord>(all: impl IntoIterator<Item = BTreeMap<K, usize>>) -> BTreeMap<K, usize> {
     let mut sum = BTreeMap::new();

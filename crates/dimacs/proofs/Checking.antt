@@ -11,11 +11,11 @@ use Rattle.definition.specs.Literals.{Clause, Formula, literals-of}
 use Rattle.definition.specs.Lists.{sum-of}
 use Rattle.definition.specs.Text.{Bytes, blank, words-by, words}
 use Rattle.definition.specs.Reading.{Limits, Header, Input, Reader, read-word, end-text, read-clauses, read-header, read-formula}
-use Rattle.laws.proofs.Clauses.{literals-snoc}
+use Rattle.theory_base.proofs.Clauses.{literals-snoc}
 use Rattle.text.proofs.Words.{words-blank}
 use Rattle.dimacs.specs.Clause.{Clause-read, refused, finished, ended, first-clause}
-use Rattle.stamps.specs.Stamps.{At-most, Fresh}
-use Rattle.stamps.proofs.Laws.{zeros-at-most, fresh-more}
+use Rattle.tables.specs.Stamps.{At-most, Fresh}
+use Rattle.tables.proofs.Laws.{zeros-at-most, fresh-more}
 use Rattle.dimacs.specs.Items.{Clause-post}
 use Rattle.dimacs.specs.Outcome.{header-of, checked-of}
 use Rattle.dimacs.specs.declared.ClauseRead.{ClauseRead}
@@ -25,7 +25,7 @@ use Rattle.dimacs.specs.HeaderLine.{limits-of, Header-post}
 use Rattle.dimacs.specs.declared.Limits as Code
 use Rattle.dimacs.specs.declared.Header as Code-header
 use Rattle.dimacs.specs.declared.Header.the-variants as Found-header
-use Rattle.round_trips.proofs.Accepted.{Header-few, header-few}
+use Rattle.theory_text.proofs.Accepted.{Header-few, header-few}
 use Rattle.dimacs.proofs.Clauses.{by-clause, after-clause, full-none, full-some}
 
 abbrev pub reader : Formula → Clause → Reader

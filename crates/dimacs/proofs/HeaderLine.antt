@@ -15,8 +15,8 @@ use Rattle.definition.specs.Checked.{Checked, fault, value, _>>=_, refuse-if, o
 use Rattle.definition.specs.Text.{Bytes, bytes, is, past-comments, TextLine, text-lines, longer, without-last-cr, line-text, same-bytes, fields-from, fields, words, natural, digit}
 use Rattle.definition.specs.Reading.{Limits, Header, read-header-fields, read-header-line, read-header}
 use Rattle.definition.specs.Answer.{begins-with}
-use Rattle.laws.proofs.Tests.{differ, to-true, of-true, to-false, and-l, and-r, by-test}
-use Rattle.round_trips.proofs.Words.{Free, first-field, only-field}
+use Rattle.theory_base.proofs.Tests.{differ, to-true, of-true, to-false, and-l, and-r, by-test}
+use Rattle.theory_text.proofs.Words.{Free, first-field, only-field}
 use Rattle.text.specs.Numbers.{natural-class}
 use Rattle.text.specs.declared.Natural.{Natural}
 use Rattle.text.specs.declared.Natural.the-variants as Natural

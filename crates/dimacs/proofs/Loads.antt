@@ -19,14 +19,14 @@ use Rattle.definition.specs.Reading.{Limits, Input, read-back-limits, read-head
 use Rattle.definition.specs.Calls.{workspace-need, read-back, buffer-after}
 use Rattle.literals.specs.Literal.{header-of}
 use Rattle.literals.proofs.Laws.{header-small}
-use Rattle.laws.proofs.Outcomes.{fault-value, value-same, bind-value}
+use Rattle.theory_base.proofs.Outcomes.{fault-value, value-same, bind-value}
 use Rattle.text.specs.Numbers.{number-class}
 use Rattle.text.specs.declared.Number.{Number}
 use Rattle.text.specs.declared.Number.the-variants as Number
 use Rattle.text.proofs.Words.{First, words-past}
-use Rattle.laws.proofs.Slices.{sets-then, sets-first, sets-past, sets-rest}
+use Rattle.theory_base.proofs.Slices.{sets-then, sets-first, sets-past, sets-rest}
 use Rattle.dimacs.specs.Clause.{Word-read, bad, zero, literal, bad-if, number-read, word-read, Clause-read, refused, finished, ended, clause-by, full, first-clause}
-use Rattle.round_trips.proofs.Accepted.{accepted}
+use Rattle.theory_text.proofs.Accepted.{accepted}
 use Rattle.dimacs.specs.HeaderLine.{limits-of, Countable, Header-post}
 use Rattle.dimacs.specs.Outcome.{header-of as input-header, checked-of, read-back-of}
 use Rattle.dimacs.specs.declared.Limits as Code

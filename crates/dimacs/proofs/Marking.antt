@@ -17,10 +17,10 @@ use Rattle.text.specs.Numbers.{number-class}
 use Rattle.text.specs.declared.Number.the-variants as Number
 use Rattle.text.proofs.Words.{First}
 use Rattle.dimacs.specs.Clause.{Word-read, bad, zero, literal, bad-if, number-read, word-read, Clause-read, refused, clause-by, full, first-clause}
-use Rattle.stamps.specs.Stamps.{Marks, Fresh, Mark-post}
-use Rattle.stamps.specs.declared.Marked.{Marked}
-use Rattle.stamps.specs.declared.Marked.the-variants as Mark
-use Rattle.stamps.proofs.Laws.{marks-start}
+use Rattle.tables.specs.Stamps.{Marks, Fresh, Mark-post}
+use Rattle.tables.specs.declared.Marked.{Marked}
+use Rattle.tables.specs.declared.Marked.the-variants as Mark
+use Rattle.tables.proofs.Laws.{marks-start}
 use Rattle.dimacs.specs.Items.{number-item, Item-post, Read, Ended}
 use Rattle.dimacs.specs.declared.Item.{Item}
 use Rattle.dimacs.specs.declared.Item.the-variants as Item

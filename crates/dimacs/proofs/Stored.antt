@@ -7,8 +7,8 @@ use lib.ListN.{length}
 use Rattle.definition.specs.Lists.{for-each, sum-of}
 use Rattle.definition.specs.Literals.{Formula, literals-of}
 use Rattle.definition.specs.Calls.{numbers-of}
-use Rattle.clauses.specs.Store.{Formed, stored}
-use Rattle.clauses.proofs.Laws.{formed-++, stored-++, stored-none, entry-formed, entry-stored}
+use Rattle.store.specs.Store.{Formed, stored}
+use Rattle.store.proofs.Laws.{formed-++, stored-++, stored-none, entry-formed, entry-stored}
 use Rattle.dimacs.specs.Loading.{entries, capped-entry, capped-entries}
 use Rattle.dimacs.proofs.Loads.{entries-capped, entries-length}
 

@@ -9,7 +9,7 @@ use lib.IntN.{ℤ, natAbs}
 use lib.ListN.{length, drop}
 use Rattle.definition.specs.Literals.{Clause}
 use Rattle.definition.specs.Text.{Bytes, words}
-use Rattle.stamps.specs.Stamps.{At-most, Marks}
+use Rattle.tables.specs.Stamps.{At-most, Marks}
 use Rattle.dimacs.specs.Clause.{bad, zero, literal, word-read, Clause-read, refused, finished, ended}
 use Rattle.dimacs.specs.declared.Item.{Item}
 use Rattle.dimacs.specs.declared.Item.the-variants as Item

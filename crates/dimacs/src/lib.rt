@@ -1,5 +1,5 @@
 // DIMACS CNF reading.
-use stamps::Marked;
+use tables::Marked;
 use text::Natural;
 use text::Number;
 use text::Word;
@@ -19,7 +19,7 @@ ghost use Rattle.definition.specs.Reading.{Input, input-limits, read-back-limit
 ghost use Rattle.dimacs.specs.Clause.{first-clause};
 ghost use Rattle.dimacs.specs.Outcome.{header-of, checked-of, read-back-of};
 ghost use Rattle.dimacs.specs.Loading.{literal-in, step-of, Step-post, Load-post, plains, capped-entries, entries, entries-of};
-ghost use Rattle.stamps.specs.Stamps.{Marks, Fresh};
+ghost use Rattle.tables.specs.Stamps.{Marks, Fresh};
 ghost use Rattle.dimacs.specs.Items.{number-item, Item-post, Clause-post};
 ghost use Rattle.dimacs.specs.HeaderLine.{until, line-until, limits-of, Countable, counts-by, counts-of, Header-post};
 
@@ -253,7 +253,7 @@ fn read_item(word: &[u8], seen: &mut [u32], stamp: u32, variables: u32, full: bo
     match number_item(word, variables) {
         Item::Zero => Item::Zero,
         Item::Fault(n) => Item::Fault(n),
-        Item::Literal(l) => match stamps::mark(seen, stamp, l) {
+        Item::Literal(l) => match tables::mark(seen, stamp, l) {
             Marked::Repeated => Item::Fault(5),
             Marked::Opposed => Item::Fault(6),
             Marked::New => {

@@ -13,14 +13,14 @@ use Rattle.definition.specs.Reencoding.{Form, Settings}
 use Rattle.definition.specs.Calls.{Reencoded, Tally, reencode, buffer-after}
 use Rattle.dimacs.specs.declared.ReadBack.the-variants as ReadBack
 use Rattle.dimacs.specs.Outcome.{read-back-of}
-use Rattle.walk_back.specs.declared.WalkedBack.the-variants as WalkedBack
-use Rattle.walk_back.specs.Outcome.{walked-back-of}
-use Rattle.reencoding.specs.declared.Form as Code-form
-use Rattle.reencoding.specs.declared.Wish as Code-wish
-use Rattle.reencoding.specs.declared.Tally as Code
-use Rattle.reencoding.specs.declared.Reencoding as Code-outcome
-use Rattle.reencoding.specs.declared.Reencoding.the-variants as Reencoding
-use Rattle.reencoding.specs.Outcome.{named-form, named-wish, settings-of, outcome-of}
+use Rattle.call_walk_back.specs.declared.WalkedBack.the-variants as WalkedBack
+use Rattle.call_walk_back.specs.Outcome.{walked-back-of}
+use Rattle.call_reencode.specs.declared.Form as Code-form
+use Rattle.call_reencode.specs.declared.Wish as Code-wish
+use Rattle.call_reencode.specs.declared.Tally as Code
+use Rattle.call_reencode.specs.declared.Reencoding as Code-outcome
+use Rattle.call_reencode.specs.declared.Reencoding.the-variants as Reencoding
+use Rattle.call_reencode.specs.Outcome.{named-form, named-wish, settings-of, outcome-of}
 use Rattle.exports.specs.Numbers.{form-number, wish-number, settings-number, number-of}
 use Rattle.exports.specs.Counts.{overwritten, tally-after, walk-back-counts, read-back-counts, reencoding-counts, done-counts}
 

@@ -7,7 +7,7 @@ use Rattle.definition.specs.Literals.{literals-of}
 use Rattle.definition.specs.Text.{Bytes}
 use Rattle.definition.specs.Reading.{Input}
 use Rattle.definition.specs.Calls.{Reencoded, Tally}
-use Rattle.reencoding.specs.declared.Tally as Code
+use Rattle.call_reencode.specs.declared.Tally as Code
 
 -- as many of the counts as fit, then what lay past them
 unfoldable pub overwritten : List ℕ → List ℕ → List ℕ

@@ -6,13 +6,13 @@ ghost use lib.IntN.{pos};
 ghost use lib.ListN.{length, set, replicate};
 ghost use Rattle.definition.specs.Calls.{reencode, walk-back, read-back, buffer-after};
 ghost use Rattle.dimacs.specs.Loading.{entries-of};
-ghost use Rattle.reencoding.specs.Outcome.{named-form, named-wish};
+ghost use Rattle.call_reencode.specs.Outcome.{named-form, named-wish};
 ghost use Rattle.exports.specs.Numbers.{form-number, wish-number, settings-number, number-of};
 ghost use Rattle.exports.specs.Counts.{overwritten, tally-after, reencoding-counts, done-counts, walk-back-counts, read-back-counts};
-use reencoding::Form;
-use reencoding::Reencoding;
-use reencoding::Tally;
-use reencoding::Wish;
+use call_reencode::Form;
+use call_reencode::Reencoding;
+use call_reencode::Tally;
+use call_reencode::Wish;
 
 // ---- the tally
 
@@ -96,7 +96,7 @@ pub extern "C" fn sirgholyn_reencode(
     ensures formula_after { λ _. ⌜ now (formula .exit) ≡ buffer-after 0 (reencode (settings-number form wish) (length (now (work .entry))) (length (now (log .entry))) (length (now (formula .entry))) (now (text .entry))) (λ o. o .formula) (now (formula .entry)) ⌝ }
     ensures counts { λ _. ⌜ now (tally .exit) ≡ tally-after (reencode (settings-number form wish) (length (now (work .entry))) (length (now (log .entry))) (length (now (formula .entry))) (now (text .entry))) reencoding-counts (now (tally .entry)) ⌝ }
 {
-    match reencoding::reencode(text, form_named(form), wish_named(wish), work, log, formula) {
+    match call_reencode::reencode(text, form_named(form), wish_named(wish), work, log, formula) {
         Reencoding::Done(t) => {
             put_done(tally, t);
             0
@@ -125,12 +125,12 @@ pub extern "C" fn sirgholyn_walk_back(
     ensures buffer { λ _. ⌜ now (out .exit) ≡ buffer-after 0 (walk-back (length (now (work .entry))) (length (now (out .entry))) kept (now (formula .entry)) (now (log .entry)) (now (answer .entry))) (λ t. t) (now (out .entry)) ⌝ }
     ensures counts { λ _. ⌜ now (tally .exit) ≡ tally-after (walk-back (length (now (work .entry))) (length (now (out .entry))) kept (now (formula .entry)) (now (log .entry)) (now (answer .entry))) walk-back-counts (now (tally .entry)) ⌝ }
 {
-    match walk_back::walk_back(formula, log, kept, answer, work, out) {
-        walk_back::WalkedBack::Line(n) => {
+    match call_walk_back::walk_back(formula, log, kept, answer, work, out) {
+        call_walk_back::WalkedBack::Line(n) => {
             put_count(tally, 0, n as u64);
             0
         }
-        walk_back::WalkedBack::Refused(n) => {
+        call_walk_back::WalkedBack::Refused(n) => {
             zero_counts(tally);
             n as u32
         }

@@ -12,8 +12,8 @@ use mir.Syntax.{w32}
 use mir.Val.{Fits, SFits, ofZ, toZ}
 use mir.ValLaws.{toZ-ofZ, toZ-pos}
 use Rattle.definition.specs.Literals.{same}
-use Rattle.laws.proofs.Tests.{differ, by-test, of-true}
-use Rattle.laws.proofs.Members.{same-eq, unlike, unlike-false, natAbs-neg}
+use Rattle.theory_base.proofs.Tests.{differ, by-test, of-true}
+use Rattle.theory_base.proofs.Members.{same-eq, unlike, unlike-false, natAbs-neg}
 use Rattle.literals.specs.Literal.{negative, negation, index-of, flip, header-literals}
 use Rattle.literals.proofs.Laws.{variable-within, as-positive, at-arg, negation-small, flip-negative}
 

@@ -7,7 +7,7 @@ use lib.IntN.{ℤ, pos, negsuc, negℤ, natAbs}
 use mir.Syntax.{w32}
 use mir.Val.{SFits, ofZ, toZ}
 use mir.ValLaws.{toZ-ofZ}
-use Rattle.laws.proofs.Tests.{differ}
+use Rattle.theory_base.proofs.Tests.{differ}
 use Rattle.literals.specs.Literal.{largest, negative, with-sign, signed-of, negation, index-of, header-of, flip, header-literals}
 
 -- ---- a signed argument of a call: the callee's clauses speak of the number read back from its bits

@@ -13,7 +13,7 @@ use lib.Seq.{drop-cons}
 use borrow.Author.Tests.{leb-true, leb-false, le-leb, lt-leb, ne-eqb}
 use Rattle.definition.specs.Lists.{all}
 use Rattle.definition.specs.Text.{Bytes, is, digit, digit-value, value-from, natural, negated, not-negated, number}
-use Rattle.laws.proofs.Tests.{by-test, and-l, to-true, of-true}
+use Rattle.theory_base.proofs.Tests.{by-test, and-l, to-true, of-true}
 use Rattle.literals.proofs.Laws.{signed-small}
 use Rattle.text.specs.declared.Natural.{Natural}
 use Rattle.text.specs.declared.Natural.the-variants as Natural

@@ -9,12 +9,12 @@ use lib.Seq.{sets, sets-eq, length-sets, take-at, length-take-le}
 use mir.Syntax.{w32}
 use mir.Val.{SFits}
 use Rattle.definition.specs.Text.{Bytes, digits, literal-text}
-use Rattle.laws.proofs.Tests.{differ}
+use Rattle.theory_base.proofs.Tests.{differ}
 use Rattle.literals.specs.Literal.{negative}
 use mathlib.Core.Bool.{true, false}
 use Rattle.text.specs.Output.{Put}
-use Rattle.laws.proofs.Slices.{sets-then, sets-first, sets-rest}
-use Rattle.laws.proofs.Digits.{digits-one, digits-more, count-one, count-more, digits-within}
+use Rattle.theory_base.proofs.Slices.{sets-then, sets-first, sets-rest}
+use Rattle.theory_base.proofs.Digits.{digits-one, digits-more, count-one, count-more, digits-within}
 
 -- ---- nothing, one byte, one text after another
 

@@ -10,7 +10,7 @@ use lib.ListN.{length, getD, take, drop, drop-of-length-le, length-drop}
 use lib.Seq.{drop-cons, drop-drop}
 use borrow.Author.Tests.{ltb-true, ltb-false, lt-ltb, le-ltb}
 use Rattle.definition.specs.Text.{Bytes, add-part, parts, words-by, words, blank}
-use Rattle.laws.proofs.Tests.{by-test}
+use Rattle.theory_base.proofs.Tests.{by-test}
 use Rattle.text.specs.declared.Word.{Word}
 use Rattle.text.specs.declared.Word.the-variants.{At, End}
 use Rattle.text.specs.Words.{in-run, leading, run-end, word-between, word-at}

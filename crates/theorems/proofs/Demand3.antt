@@ -5,10 +5,10 @@ use Rattle.definition.specs.Literals.{Formula}
 use Rattle.definition.specs.Reading.{input-limits}
 use Rattle.definition.specs.Assignments.{Satisfiable, Exactly-one, carried-back}
 use Rattle.definition.specs.Reencoding.{input, events, log, result}
-use Rattle.laws.proofs.Trues.{sat-satisfies, satisfies-sat}
-use Rattle.laws.proofs.Replay.{leads-cut, leads-replay}
-use Rattle.soundness.proofs.Sound.{into-none, Sound, sound-leads, Can, cut, exactly-one}
-use Rattle.round_trips.proofs.Accepted.{accepted}
+use Rattle.theory_base.proofs.Trues.{sat-satisfies, satisfies-sat}
+use Rattle.theory_base.proofs.Replay.{leads-cut, leads-replay}
+use Rattle.theory_soundness.proofs.Sound.{into-none, Sound, sound-leads, Can, cut, exactly-one}
+use Rattle.theory_text.proofs.Accepted.{accepted}
 use Rattle.theorems.specs.Demand3.{standing, Demand-3-holds}
 use Rattle.theorems.proofs.Log.{log-sound}
 

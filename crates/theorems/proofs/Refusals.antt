@@ -17,7 +17,7 @@ use Rattle.definition.specs.LogReading.{read-line-clause, allowed-clause, read-
 use Rattle.definition.specs.Answer.{Answer, begins-with, read-answer-word, read-answer-line, read-answer}
 use Rattle.definition.specs.Reencoding.{Settings}
 use Rattle.definition.specs.Calls.{reencode, assigned, highest-allowed, read-back, carry-answer, walk-back, buffer-after}
-use Rattle.laws.proofs.Members.{any-mem, all-at}
+use Rattle.theory_base.proofs.Members.{any-mem, all-at}
 use Rattle.theorems.specs.Refusals.{formula-numbers, log-numbers, answer-numbers, reencode-numbers, read-back-numbers, walk-back-numbers, Listed, accepted, refused, Demand-1}
 
 -- the test that a number is in a list, which computes for a list written out

@@ -11,13 +11,13 @@ use Rattle.definition.specs.Events.{Clash, Event, clash-cleared}
 use Rattle.definition.specs.Clearing.{clash-lines, pure-lines, clear-clashes, clear-pure}
 use Rattle.definition.specs.Reencoding.{Settings, lines-of, lines, choice-events, unclashed, input, chosen, events}
 use Rattle.definition.specs.Calls.{workspace-need, numbers-of}
-use Rattle.clearing.proofs.Pure.{Eliminates, no-more, next, pure-eliminates}
-use Rattle.round_trips.proofs.Accepted.{Accepted}
-use Rattle.room.proofs.Weights.{added}
-use Rattle.room.proofs.Additions.{numbers}
-use Rattle.room.proofs.Runs.{choosing}
-use Rattle.room.proofs.Room.{event-room, standing-room}
-use Rattle.room.proofs.Compaction.{standing-after-first, next-choice, choice-room}
+use Rattle.theory_clearing.proofs.Pure.{Eliminates, no-more, next, pure-eliminates}
+use Rattle.theory_text.proofs.Accepted.{Accepted}
+use Rattle.theory_room.proofs.Weights.{added}
+use Rattle.theory_room.proofs.Additions.{numbers}
+use Rattle.theory_room.proofs.Runs.{choosing}
+use Rattle.theory_room.proofs.Room.{event-room, standing-room}
+use Rattle.theory_room.proofs.Compaction.{standing-after-first, next-choice, choice-room}
 use Rattle.theorems.proofs.Log.{chosen-parted}
 use Rattle.theorems.proofs.Texts.{accepted-run}
 

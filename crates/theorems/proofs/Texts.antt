@@ -4,13 +4,13 @@ use lib.ListN.{length}
 use Rattle.definition.specs.Literals.{literals-of}
 use Rattle.definition.specs.Reading.{Input, input-limits, read-back-limits}
 use Rattle.definition.specs.Reencoding.{Settings, input, log, result, highest-used}
-use Rattle.soundness.proofs.Sound.{sound-leads}
-use Rattle.round_trips.proofs.Accepted.{Accepted, accepted}
-use Rattle.round_trips.proofs.FormulaText.{formula-read-back}
-use Rattle.round_trips.proofs.LogText as LogText
-use Rattle.room.proofs.Runs.{Run, log-proper}
-use Rattle.room.proofs.Room.{room}
-use Rattle.room.proofs.Limits.{result-proper, result-fits, log-line-limit, highest-limit, clauses-limit, literals-limit}
+use Rattle.theory_soundness.proofs.Sound.{sound-leads}
+use Rattle.theory_text.proofs.Accepted.{Accepted, accepted}
+use Rattle.theory_text.proofs.FormulaText.{formula-read-back}
+use Rattle.theory_text.proofs.LogText as LogText
+use Rattle.theory_room.proofs.Runs.{Run, log-proper}
+use Rattle.theory_room.proofs.Room.{room}
+use Rattle.theory_room.proofs.Limits.{result-proper, result-fits, log-line-limit, highest-limit, clauses-limit, literals-limit}
 use Rattle.theorems.specs.Demand3.{standing}
 use Rattle.theorems.specs.Texts.{Texts-hold}
 use Rattle.theorems.proofs.Log.{log-sound}

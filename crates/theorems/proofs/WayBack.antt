@@ -18,9 +18,9 @@ use Rattle.definition.specs.LogReading.{read-log}
 use Rattle.definition.specs.Answer.{read-answer}
 use Rattle.definition.specs.Reencoding.{input, log}
 use Rattle.definition.specs.Calls.{assigned, answer-text, highest-allowed, log-workspace-need, carry-answer, walk-back}
-use Rattle.laws.proofs.Tests.{to-true}
-use Rattle.round_trips.proofs.Accepted.{accepted}
-use Rattle.round_trips.proofs.AnswerText.{Answered, answer-read}
+use Rattle.theory_base.proofs.Tests.{to-true}
+use Rattle.theory_text.proofs.Accepted.{accepted}
+use Rattle.theory_text.proofs.AnswerText.{Answered, answer-read}
 use Rattle.theorems.specs.Demand3.{standing, Demand-3, Demand-3-holds}
 use Rattle.theorems.specs.Texts.{Texts-hold}
 use Rattle.theorems.specs.WayBack.{Way-back-holds}

@@ -31,10 +31,20 @@ enum-known-c : tie.Need-enum-known-c
 enum-known-c c = search needs
 
 returns : tie.Need-returns
-returns c = many-variables (c .before .before .before .before .before .before .before .before .args .most) (c .before .before .before .before .before .before .before .before .args .v) (c .before .before .before .before .before .before .before .before .args .c) _ _ (c .before .before .before .before .before .before .v .given .1) (c .before .before .before .c .given .1) (c .if1 .taken)
+returns c =
+    let back = c .before .before .before in let the-c = back .c in
+    let back = back .before .before .before in let v = back .v in
+    let start = back .before .before in
+    many-variables (start .args .most) (start .args .v) (start .args .c) _ _ (v .given .1) (the-c .given .1)
+    (c .if1 .taken)
 
 returns-2 : tie.Need-returns-2
-returns-2 c = many-clauses (c .before .before .before .before .before .before .before .before .before .before .args .most) (c .before .before .before .before .before .before .before .before .before .before .args .v) (c .before .before .before .before .before .before .before .before .before .before .args .c) _ _ (c .before .before .before .before .before .before .before .before .v .given .1) (c .before .before .before .before .before .c .given .1) (c .before .before .if1 .left) (c .if2 .taken)
+returns-2 c =
+    let back = c .before .before .before .before .before in let the-c = back .c in
+    let back = back .before .before .before in let v = back .v in
+    let start = back .before .before in
+    many-clauses (start .args .most) (start .args .v) (start .args .c) _ _ (v .given .1) (the-c .given .1)
+    (c .before .before .if1 .left) (c .if2 .taken)
 
 returns-3 : tie.Need-returns-3
 returns-3 c = search needs
@@ -55,7 +65,12 @@ returns-8 : tie.Need-returns-8
 returns-8 c = search needs
 
 returns-9 : tie.Need-returns-9
-returns-9 c = counts-few (c .before .before .before .before .before .before .before .before .before .before .args .most) (c .before .before .before .before .before .before .before .before .before .before .args .v) (c .before .before .before .before .before .before .before .before .before .before .args .c) _ _ (c .before .before .before .before .before .before .before .before .v .given .1) (c .before .before .before .before .before .c .given .1) (c .before .before .if1 .left) (c .if2 .left)
+returns-9 c =
+    let back = c .before .before .before .before .before in let the-c = back .c in
+    let back = back .before .before .before in let v = back .v in
+    let start = back .before .before in
+    counts-few (start .args .most) (start .args .v) (start .args .c) _ _ (v .given .1) (the-c .given .1)
+    (c .before .before .if1 .left) (c .if2 .left)
 
 pub counts-from-spec : {M : Type 1} → statement M
 counts-from-spec =

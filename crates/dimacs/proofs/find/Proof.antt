@@ -21,7 +21,11 @@ shared-slice-read-if1 : tie.Need-shared-slice-read-if1 Inv-loop μ-loop
 shared-slice-read-if1 c = search needs
 
 returns : tie.Need-returns Inv-loop μ-loop
-returns c = until-here (c .before .before .before .before .args .b) (c .before .before .before .before .args .text .now) (c .before .before .before .loop .i) (c .before .before .loop-test .taken) (c .if1 .taken) ∙ c .before .before .before .loop .inv .1
+returns c =
+    let back = c .before .before .before in let loop = back .loop in
+    let start = back .before in
+    until-here (start .args .b) (start .args .text .now) (loop .i) (c .before .before .loop-test .taken) (c .if1 .taken)
+    ∙ loop .inv .1
 
 add-i : tie.Need-add-i Inv-loop μ-loop
 add-i c = search needs
@@ -30,10 +34,20 @@ loop-less : tie.Need-loop-less Inv-loop μ-loop
 loop-less c = search needs
 
 loop-again : tie.Need-loop-again Inv-loop μ-loop
-loop-again c = (omega arith, until-step (c .before .before .before .before .args .b) (c .before .before .before .before .args .text .now) (c .before .before .before .loop .i) (c .before .before .loop-test .taken) (c .if1 .left) ∙ c .before .before .before .loop .inv .1)
+loop-again c =
+    let back = c .before .before .before in let loop = back .loop in
+    let start = back .before in (
+      omega arith,
+      until-step (start .args .b) (start .args .text .now) (loop .i) (c .before .before .loop-test .taken)
+          (c .if1 .left)
+          ∙ loop .inv .1,
+    )
 
 returns-2 : tie.Need-returns-2 Inv-loop μ-loop
-returns-2 c = until-end (c .before .before .args .b) (c .before .before .args .text .now) (c .before .loop .i) (c .loop-test .left) ∙ c .before .loop .inv .1
+returns-2 c =
+    let back = c .before in let loop = back .loop in
+    let start = back .before in
+    until-end (start .args .b) (start .args .text .now) (loop .i) (c .loop-test .left) ∙ loop .inv .1
 
 pub find-spec : {M : Type 1} → statement M
 find-spec =

@@ -41,7 +41,13 @@ shared-slice-read-result : tie.Need-shared-slice-read-result
 shared-slice-read-result c = search needs
 
 returns-7 : tie.Need-returns-7
-returns-7 c = header-yes _ (c .before .before .before .before .before .before .before .before .before .before .before .if1 .left) (c .before .before .before .before .before .before .before .before .before .if2 .left) (c .before .before .before .before .before .before .before .if3 .left) (c .before .before .before .before .before .if4 .left) (c .before .before .before .if5 .left) (c .before .if6 .left)
+returns-7 c =
+    let back = c .before .before .before in let if5 = back .if5 in
+    let back = back .before .before in let if4 = back .if4 in
+    let back = back .before .before in let if3 = back .if3 in
+    let back = back .before .before in let if2 = back .if2 in
+    let if1 = back .before .before .if1 in
+    header-yes _ (if1 .left) (if2 .left) (if3 .left) (if4 .left) (if5 .left) (c .before .if6 .left)
 
 pub is-header-spec : {M : Type 1} → statement M
 is-header-spec =

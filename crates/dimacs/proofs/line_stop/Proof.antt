@@ -17,10 +17,20 @@ shared-slice-read-if3 : tie.Need-shared-slice-read-if3
 shared-slice-read-if3 c = search needs
 
 returns-3 : tie.Need-returns-3
-returns-3 c = (omega arith, stop-cr (c .before .before .before .before .args .end) _ (c .before .before .before .before .args .text .now) (c .before .before .before .before .pre) (c .before .before .before .if1 .left) (omega arith) (c .if3 .taken))
+returns-3 c =
+    let back = c .before .before .before in let if1 = back .if1 in
+    let start = back .before in (
+      omega arith,
+      stop-cr (start .args .end) _ (start .args .text .now) (start .pre) (if1 .left) (omega arith) (c .if3 .taken),
+    )
 
 returns-4 : tie.Need-returns-4
-returns-4 c = (omega arith, stop-other (c .before .before .before .before .args .end) _ (c .before .before .before .before .args .text .now) (c .before .before .before .before .pre) (c .before .before .before .if1 .left) (omega arith) (c .if3 .left))
+returns-4 c =
+    let back = c .before .before .before in let if1 = back .if1 in
+    let start = back .before in (
+      omega arith,
+      stop-other (start .args .end) _ (start .args .text .now) (start .pre) (if1 .left) (omega arith) (c .if3 .left),
+    )
 
 pub line-stop-spec : {M : Type 1} → statement M
 line-stop-spec =

@@ -1,5 +1,5 @@
 use denote.Ref.{now}
-use Rattle.laws.proofs.Slices.{rest-is}
+use Rattle.theory_base.proofs.Slices.{rest-is}
 use Rattle.dimacs.proofs.Checking.{header-next}
 use Rattle.dimacs.proofs.Loads.{load-fault, load-value}
 use borrow.Author.Needs.{needs}
@@ -16,10 +16,16 @@ enum-known-c : tie.Need-enum-known-c
 enum-known-c c = search needs
 
 sub-load-clauses : tie.Need-sub-load-clauses
-sub-load-clauses c = header-next (c .before .before .before .before .before .args .most) (now (c .before .before .before .before .before .args .text)) _ (c .before .before .before .read-header .ensures) _ _ _ (c .before .c .given .1)
+sub-load-clauses c =
+    let back = c .before .before .before in let read-header = back .read-header in
+    let start = back .before .before in
+    header-next (start .args .most) (now (start .args .text)) _ (read-header .ensures) _ _ _ (c .before .c .given .1)
 
 part-load-clauses-start : tie.Need-part-load-clauses-start
-part-load-clauses-start c = header-next (c .before .before .before .before .before .args .most) (now (c .before .before .before .before .before .args .text)) _ (c .before .before .before .read-header .ensures) _ _ _ (c .before .c .given .1)
+part-load-clauses-start c =
+    let back = c .before .before .before in let read-header = back .read-header in
+    let start = back .before .before in
+    header-next (start .args .most) (now (start .args .text)) _ (read-header .ensures) _ _ _ (c .before .c .given .1)
 
 part-load-clauses-end : tie.Need-part-load-clauses-end
 part-load-clauses-end c = search needs
@@ -28,13 +34,22 @@ load-clauses-requires : tie.Need-load-clauses-requires
 load-clauses-requires c κs = search needs
 
 returns : tie.Need-returns
-returns c = λ i e. load-fault (c .before .before .before .before .args .most) (c .before .before .before .before .pre) (now (c .before .before .before .before .args .text)) _ (c .before .before .read-header .ensures) (now (c .before .before .before .before .args .store)) _ i e _ (c .enum-told .given .1)
+returns c =
+    let start = c .before .before .before .before in
+    λ i e. load-fault (start .args .most) (start .pre) (now (start .args .text)) _
+    (c .before .before .read-header .ensures) (now (start .args .store)) _ i e _ (c .enum-told .given .1)
 
 same-length : tie.Need-same-length
 same-length c = search needs
 
 returns-2 : tie.Need-returns-2
-returns-2 c = λ i e. load-value (c .before .before .before .before .before .before .before .before .before .args .most) (c .before .before .before .before .before .before .before .before .before .pre) (now (c .before .before .before .before .before .before .before .before .before .args .text)) _ (c .before .before .before .before .before .before .before .read-header .ensures) (now (c .before .before .before .before .before .before .before .before .before .args .store)) _ i e _ _ _ (c .before .before .before .before .before .c .given .1) _ (rest-is (now (c .before .before .before .before .before .before .before .before .before .args .text)) _) (c .before .load-clauses .ensures)
+returns-2 c =
+    let back = c .before .before .before .before .before in let the-c = back .c in
+    let back = back .before .before in let read-header = back .read-header in
+    let start = back .before .before in
+    λ i e. load-value (start .args .most) (start .pre) (now (start .args .text)) _ (read-header .ensures)
+    (now (start .args .store)) _ i e _ _ _ (the-c .given .1) _ (rest-is (now (start .args .text)) _)
+    (c .before .load-clauses .ensures)
 
 pub load-spec : {M : Type 1} → statement M
 load-spec =

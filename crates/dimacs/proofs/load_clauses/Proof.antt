@@ -1,6 +1,6 @@
 use mathlib.Core.Path.{_∙_}
 use denote.Ref.{now}
-use Rattle.laws.proofs.Slices.{rest-is}
+use Rattle.theory_base.proofs.Slices.{rest-is}
 use Rattle.dimacs.proofs.Loads.{after-length, Loading, loading-start, loading-end, loading-full, loading-on}
 use borrow.Author.Needs.{needs}
 use Prim.Native.Nat.{_-_}
@@ -15,7 +15,9 @@ abbrev μ-loop : tie.MeasureT-loop
 μ-loop text clauses store₀ at₀ end₀ done₀ store at end done = clauses - done
 
 loop-holds : tie.Need-loop-holds Inv-loop μ-loop
-loop-holds c = loading-start (now (c .before .args .text)) (c .before .args .clauses) (now (c .before .args .store))
+loop-holds c =
+    let start = c .before in
+    loading-start (now (start .args .text)) (start .args .clauses) (now (start .args .store))
 
 sub-load-clause : tie.Need-sub-load-clause Inv-loop μ-loop
 sub-load-clause c = c .before .loop .inv .inside
@@ -42,37 +44,109 @@ load-clause-requires : tie.Need-load-clause-requires Inv-loop μ-loop
 load-clause-requires c κs = tt
 
 sub-if1 : tie.Need-sub-if1 Inv-loop μ-loop
-sub-if1 c = omega (arith, c .before .before .before .before .before .loop .inv .room, after-length (now (c .before .before .before .before .before .before .before .args .text)) (c .before .before .before .before .before .before .before .args .clauses) (now (c .before .before .before .before .before .before .before .args .store)) (c .before .before .before .before .before .loop .store) (c .before .before .before .before .before .loop .at) (c .before .before .before .before .before .loop .end) (c .before .before .before .before .before .loop .done) (c .before .before .before .before .before .loop .inv) (c .before .before .before .before .loop-test .taken) _ (rest-is (now (c .before .before .before .before .before .before .before .args .text)) (c .before .before .before .before .before .loop .at)) _ _ _ (c .before .load-clause .ensures))
+sub-if1 c =
+    let back = c .before .before .before .before in let loop-test = back .loop-test in
+    let back = back .before in let loop = back .loop in
+    let start = back .before .before in
+    omega (
+      arith,
+      loop .inv .room,
+      after-length (now (start .args .text)) (start .args .clauses) (now (start .args .store)) (loop .store) (loop .at)
+          (loop .end) (loop .done) (loop .inv) (loop-test .taken) _ (rest-is (now (start .args .text)) (loop .at)) _ _ _
+          (c .before .load-clause .ensures),
+    )
 
 same-length : tie.Need-same-length Inv-loop μ-loop
-same-length c = after-length (now (c .before .before .before .before .before .before .before .before .args .text)) (c .before .before .before .before .before .before .before .before .args .clauses) (now (c .before .before .before .before .before .before .before .before .args .store)) (c .before .before .before .before .before .before .loop .store) (c .before .before .before .before .before .before .loop .at) (c .before .before .before .before .before .before .loop .end) (c .before .before .before .before .before .before .loop .done) (c .before .before .before .before .before .before .loop .inv) (c .before .before .before .before .before .loop-test .taken) _ (rest-is (now (c .before .before .before .before .before .before .before .before .args .text)) (c .before .before .before .before .before .before .loop .at)) _ _ _ (c .before .before .load-clause .ensures) ∙ c .before .before .before .before .before .before .loop .inv .len
+same-length c =
+    let back = c .before .before .before .before .before in let loop-test = back .loop-test in
+    let back = back .before in let loop = back .loop in
+    let start = back .before .before in
+    after-length (now (start .args .text)) (start .args .clauses) (now (start .args .store)) (loop .store) (loop .at)
+    (loop .end) (loop .done) (loop .inv) (loop-test .taken) _ (rest-is (now (start .args .text)) (loop .at)) _ _ _
+    (c .before .before .load-clause .ensures)
+    ∙ loop .inv .len
 
 returns : tie.Need-returns Inv-loop μ-loop
-returns c = loading-full (now (c .before .before .before .before .before .before .before .before .args .text)) (c .before .before .before .before .before .before .before .before .args .clauses) (now (c .before .before .before .before .before .before .before .before .args .store)) (c .before .before .before .before .before .before .loop .store) (c .before .before .before .before .before .before .loop .at) (c .before .before .before .before .before .before .loop .end) (c .before .before .before .before .before .before .loop .done) (c .before .before .before .before .before .before .loop .inv) (c .before .before .before .before .before .loop-test .taken) _ (rest-is (now (c .before .before .before .before .before .before .before .before .args .text)) (c .before .before .before .before .before .before .loop .at)) _ _ _ (c .before .before .load-clause .ensures) (c .if1 .taken)
+returns c =
+    let back = c .before .before .before .before .before in let loop-test = back .loop-test in
+    let back = back .before in let loop = back .loop in
+    let start = back .before .before in
+    loading-full (now (start .args .text)) (start .args .clauses) (now (start .args .store)) (loop .store) (loop .at)
+    (loop .end) (loop .done) (loop .inv) (loop-test .taken) _ (rest-is (now (start .args .text)) (loop .at)) _ _ _
+    (c .before .before .load-clause .ensures) (c .if1 .taken)
 
 add-at : tie.Need-add-at Inv-loop μ-loop
-add-at c = record { fits = omega (arith, loading-on (now (c .before .before .before .before .before .before .before .before .before .args .text)) (c .before .before .before .before .before .before .before .before .before .args .clauses) (now (c .before .before .before .before .before .before .before .before .before .args .store)) (c .before .before .before .before .before .before .before .loop .store) (c .before .before .before .before .before .before .before .loop .at) (c .before .before .before .before .before .before .before .loop .end) (c .before .before .before .before .before .before .before .loop .done) (c .before .before .before .before .before .before .before .loop .inv) (c .before .before .before .before .before .before .loop-test .taken) _ (rest-is (now (c .before .before .before .before .before .before .before .before .before .args .text)) (c .before .before .before .before .before .before .before .loop .at)) _ _ _ (c .before .before .before .load-clause .ensures) (c .before .if1 .left) .inside) }
+add-at c =
+    let back = c .before .before .before in let load-clause = back .load-clause in
+    let back = back .before .before .before in let loop-test = back .loop-test in
+    let back = back .before in let loop = back .loop in
+    let start = back .before .before in
+    record {
+      fits = omega (
+        arith,
+        loading-on (now (start .args .text)) (start .args .clauses) (now (start .args .store)) (loop .store) (loop .at)
+            (loop .end) (loop .done) (loop .inv) (loop-test .taken) _ (rest-is (now (start .args .text)) (loop .at)) _ _
+            _ (load-clause .ensures) (c .before .if1 .left) .inside,
+      );
+    }
 
 add-end : tie.Need-add-end Inv-loop μ-loop
-add-end c = record { fits = omega (arith, loading-on (now (c .before .before .before .before .before .before .before .before .before .args .text)) (c .before .before .before .before .before .before .before .before .before .args .clauses) (now (c .before .before .before .before .before .before .before .before .before .args .store)) (c .before .before .before .before .before .before .before .loop .store) (c .before .before .before .before .before .before .before .loop .at) (c .before .before .before .before .before .before .before .loop .end) (c .before .before .before .before .before .before .before .loop .done) (c .before .before .before .before .before .before .before .loop .inv) (c .before .before .before .before .before .before .loop-test .taken) _ (rest-is (now (c .before .before .before .before .before .before .before .before .before .args .text)) (c .before .before .before .before .before .before .before .loop .at)) _ _ _ (c .before .before .before .load-clause .ensures) (c .before .if1 .left) .room) }
+add-end c =
+    let back = c .before .before .before in let load-clause = back .load-clause in
+    let back = back .before .before .before in let loop-test = back .loop-test in
+    let back = back .before in let loop = back .loop in
+    let start = back .before .before in
+    record {
+      fits = omega (
+        arith,
+        loading-on (now (start .args .text)) (start .args .clauses) (now (start .args .store)) (loop .store) (loop .at)
+            (loop .end) (loop .done) (loop .inv) (loop-test .taken) _ (rest-is (now (start .args .text)) (loop .at)) _ _
+            _ (load-clause .ensures) (c .before .if1 .left) .room,
+      );
+    }
 
 add-end-2 : tie.Need-add-end-2 Inv-loop μ-loop
-add-end-2 c = record { fits = omega (arith, loading-on (now (c .before .before .before .before .before .before .before .before .before .args .text)) (c .before .before .before .before .before .before .before .before .before .args .clauses) (now (c .before .before .before .before .before .before .before .before .before .args .store)) (c .before .before .before .before .before .before .before .loop .store) (c .before .before .before .before .before .before .before .loop .at) (c .before .before .before .before .before .before .before .loop .end) (c .before .before .before .before .before .before .before .loop .done) (c .before .before .before .before .before .before .before .loop .inv) (c .before .before .before .before .before .before .loop-test .taken) _ (rest-is (now (c .before .before .before .before .before .before .before .before .before .args .text)) (c .before .before .before .before .before .before .before .loop .at)) _ _ _ (c .before .before .before .load-clause .ensures) (c .before .if1 .left) .room) }
+add-end-2 c =
+    let back = c .before .before .before in let load-clause = back .load-clause in
+    let back = back .before .before .before in let loop-test = back .loop-test in
+    let back = back .before in let loop = back .loop in
+    let start = back .before .before in
+    record {
+      fits = omega (
+        arith,
+        loading-on (now (start .args .text)) (start .args .clauses) (now (start .args .store)) (loop .store) (loop .at)
+            (loop .end) (loop .done) (loop .inv) (loop-test .taken) _ (rest-is (now (start .args .text)) (loop .at)) _ _
+            _ (load-clause .ensures) (c .before .if1 .left) .room,
+      );
+    }
 
 add-done : tie.Need-add-done Inv-loop μ-loop
-add-done c = record { fits = omega (arith, c .before .before .before .before .before .before .loop-test .taken) }
+add-done c =
+    let loop-test = c .before .before .before .before .before .before .loop-test in
+    record { fits = omega (arith, loop-test .taken) }
 
 loop-less : tie.Need-loop-less Inv-loop μ-loop
 loop-less c = omega arith
 
 loop-again : tie.Need-loop-again Inv-loop μ-loop
-loop-again c = loading-on (now (c .before .before .before .before .before .before .before .before .before .args .text)) (c .before .before .before .before .before .before .before .before .before .args .clauses) (now (c .before .before .before .before .before .before .before .before .before .args .store)) (c .before .before .before .before .before .before .before .loop .store) (c .before .before .before .before .before .before .before .loop .at) (c .before .before .before .before .before .before .before .loop .end) (c .before .before .before .before .before .before .before .loop .done) (c .before .before .before .before .before .before .before .loop .inv) (c .before .before .before .before .before .before .loop-test .taken) _ (rest-is (now (c .before .before .before .before .before .before .before .before .before .args .text)) (c .before .before .before .before .before .before .before .loop .at)) _ _ _ (c .before .before .before .load-clause .ensures) (c .before .if1 .left)
+loop-again c =
+    let back = c .before .before .before in let load-clause = back .load-clause in
+    let back = back .before .before .before in let loop-test = back .loop-test in
+    let back = back .before in let loop = back .loop in
+    let start = back .before .before in
+    loading-on (now (start .args .text)) (start .args .clauses) (now (start .args .store)) (loop .store) (loop .at)
+    (loop .end) (loop .done) (loop .inv) (loop-test .taken) _ (rest-is (now (start .args .text)) (loop .at)) _ _ _
+    (load-clause .ensures) (c .before .if1 .left)
 
 same-length-2 : tie.Need-same-length-2 Inv-loop μ-loop
 same-length-2 c = c .before .loop .inv .len
 
 returns-2 : tie.Need-returns-2 Inv-loop μ-loop
-returns-2 c = loading-end (now (c .before .before .before .args .text)) (c .before .before .before .args .clauses) (now (c .before .before .before .args .store)) (c .before .loop .store) (c .before .loop .at) (c .before .loop .end) (c .before .loop .done) (c .before .loop .inv) (c .loop-test .left)
+returns-2 c =
+    let back = c .before in let loop = back .loop in
+    let start = back .before .before in
+    loading-end (now (start .args .text)) (start .args .clauses) (now (start .args .store)) (loop .store) (loop .at)
+    (loop .end) (loop .done) (loop .inv) (c .loop-test .left)
 
 pub load-clauses-spec : {M : Type 1} → statement M
 load-clauses-spec =

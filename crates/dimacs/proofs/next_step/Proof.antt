@@ -17,13 +17,28 @@ enum-known-start : tie.Need-enum-known-start
 enum-known-start c = search needs
 
 sub-read-number : tie.Need-sub-read-number
-sub-read-number c = let f = word-answer blank (now (c .before .before .before .before .before .args .text)) (c .before .before .before .before .before .args .at) (sym (c .before .start .given .1) ∙ c .before .before .before .next-word .ensures) in omega (arith, f .some)
+sub-read-number c =
+    let back = c .before .before .before in let next-word = back .next-word in
+    let entry = back .before .before in
+    let f = word-answer blank (now (entry .args .text)) (entry .args .at)
+    (sym (c .before .start .given .1) ∙ next-word .ensures) in
+    omega (arith, f .some)
 
 part-read-number-start : tie.Need-part-read-number-start
-part-read-number-start c = let f = word-answer blank (now (c .before .before .before .before .before .args .text)) (c .before .before .before .before .before .args .at) (sym (c .before .start .given .1) ∙ c .before .before .before .next-word .ensures) in omega (arith, f .some)
+part-read-number-start c =
+    let back = c .before .before .before in let next-word = back .next-word in
+    let entry = back .before .before in
+    let f = word-answer blank (now (entry .args .text)) (entry .args .at)
+    (sym (c .before .start .given .1) ∙ next-word .ensures) in
+    omega (arith, f .some)
 
 part-read-number-end : tie.Need-part-read-number-end
-part-read-number-end c = let f = word-answer blank (now (c .before .before .before .before .before .args .text)) (c .before .before .before .before .before .args .at) (sym (c .before .start .given .1) ∙ c .before .before .before .next-word .ensures) in omega (arith, f .within)
+part-read-number-end c =
+    let back = c .before .before .before in let next-word = back .next-word in
+    let entry = back .before .before in
+    let f = word-answer blank (now (entry .args .text)) (entry .args .at)
+    (sym (c .before .start .given .1) ∙ next-word .ensures) in
+    omega (arith, f .within)
 
 read-number-requires : tie.Need-read-number-requires
 read-number-requires c κs = search needs
@@ -35,10 +50,22 @@ enum-told : tie.Need-enum-told
 enum-told c = search needs
 
 returns : tie.Need-returns
-returns c = let f = word-answer blank (now (c .before .before .before .before .before .before .before .before .args .text)) (c .before .before .before .before .before .before .before .before .args .at) (sym (c .before .before .before .before .start .given .1) ∙ c .before .before .before .before .before .before .next-word .ensures) in next-found (now (c .before .before .before .before .before .before .before .before .args .text)) (c .before .before .before .before .before .before .before .before .args .at) _ _ f _ (c .number-step .ensures ∙ ap (λ (n : Number). step-of (literal-in n) (c .before .before .before .before .start .given .0 .1 .0)) (c .before .read-number .ensures))
+returns c =
+    let back = c .before .before .before .before in let start = back .start in
+    let back = back .before .before in let next-word = back .next-word in
+    let entry = back .before .before in
+    let f = word-answer blank (now (entry .args .text)) (entry .args .at) (sym (start .given .1) ∙ next-word .ensures)
+    in
+    next-found (now (entry .args .text)) (entry .args .at) _ _ f _
+    (c .number-step .ensures
+    ∙ ap (λ (n : Number). step-of (literal-in n) (start .given .0 .1 .0)) (c .before .read-number .ensures))
 
 returns-2 : tie.Need-returns-2
-returns-2 c = next-none (now (c .before .before .before .before .args .text)) (c .before .before .before .before .args .at) (word-answer blank (now (c .before .before .before .before .args .text)) (c .before .before .before .before .args .at) (sym (c .enum-told .given .1) ∙ c .before .before .next-word .ensures))
+returns-2 c =
+    let entry = c .before .before .before .before in
+    next-none (now (entry .args .text)) (entry .args .at)
+    (word-answer blank (now (entry .args .text)) (entry .args .at)
+    (sym (c .enum-told .given .1) ∙ c .before .before .next-word .ensures))
 
 pub next-step-spec : {M : Type 1} → statement M
 next-step-spec =

@@ -27,22 +27,54 @@ is-zero-requires : tie.Need-is-zero-requires
 is-zero-requires c κs = search needs
 
 returns : tie.Need-returns
-returns c = let l = c .before .before .before .l .given .0 .0 in item-zero (c .before .before .before .before .before .before .before .args .variables) (number (now (c .before .before .before .before .before .before .before .args .word))) l (sym (c .before .before .before .before .before .read-number .ensures) ∙ c .before .before .before .l .given .1) (answered (λ (z : ℤ). eqb 0 (natAbs z)) l (search needs) (c .before .is-zero .ensures) (c .if1 .taken))
+returns c =
+    let back = c .before .before .before in let the-l = back .l in
+    let back = back .before .before in let read-number = back .read-number in
+    let start = back .before .before in
+    let l = the-l .given .0 .0 in
+    item-zero (start .args .variables) (number (now (start .args .word))) l
+    (sym (read-number .ensures) ∙ the-l .given .1)
+    (answered (λ (z : ℤ). eqb 0 (natAbs z)) l (search needs) (c .before .is-zero .ensures) (c .if1 .taken))
 
 variable-requires : tie.Need-variable-requires
 variable-requires c κs = search needs
 
 returns-2 : tie.Need-returns-2
-returns-2 c = let l = c .before .before .before .before .before .l .given .0 .0 in item-high (c .before .before .before .before .before .before .before .before .before .args .variables) (number (now (c .before .before .before .before .before .before .before .before .before .args .word))) l (sym (c .before .before .before .before .before .before .before .read-number .ensures) ∙ c .before .before .before .before .before .l .given .1) (answered (λ (z : ℤ). eqb 0 (natAbs z)) l (search needs) (c .before .before .before .is-zero .ensures) (c .before .before .if1 .left)) (omega (arith, answer natAbs l (search needs) (c .before .variable .ensures), c .if2 .taken))
+returns-2 c =
+    let back = c .before .before .before in let is-zero = back .is-zero in
+    let back = back .before .before in let the-l = back .l in
+    let back = back .before .before in let read-number = back .read-number in
+    let start = back .before .before in
+    let l = the-l .given .0 .0 in
+    item-high (start .args .variables) (number (now (start .args .word))) l
+    (sym (read-number .ensures) ∙ the-l .given .1)
+    (answered (λ (z : ℤ). eqb 0 (natAbs z)) l (search needs) (is-zero .ensures) (c .before .before .if1 .left))
+    (omega (arith, answer natAbs l (search needs) (c .before .variable .ensures), c .if2 .taken))
 
 returns-3 : tie.Need-returns-3
-returns-3 c = item-none (c .before .before .before .before .args .variables) (number (now (c .before .before .before .before .args .word))) (sym (c .before .before .read-number .ensures) ∙ c .enum-told .given .1)
+returns-3 c =
+    let start = c .before .before .before .before in
+    item-none (start .args .variables) (number (now (start .args .word)))
+    (sym (c .before .before .read-number .ensures) ∙ c .enum-told .given .1)
 
 returns-4 : tie.Need-returns-4
-returns-4 c = item-large (c .before .before .before .before .args .variables) (number (now (c .before .before .before .before .args .word))) (c .before .before .before .before .pre) (sym (c .before .before .read-number .ensures) ∙ c .enum-told2 .given .1)
+returns-4 c =
+    let start = c .before .before .before .before in
+    item-large (start .args .variables) (number (now (start .args .word))) (start .pre)
+    (sym (c .before .before .read-number .ensures) ∙ c .enum-told2 .given .1)
 
 returns-5 : tie.Need-returns-5
-returns-5 c = let l = c .before .before .before .before .before .l .given .0 .0 in at-arg (λ (z : ℤ). Item.Literal z) l (search needs) ∙ item-literal (c .before .before .before .before .before .before .before .before .before .args .variables) (number (now (c .before .before .before .before .before .before .before .before .before .args .word))) l (sym (c .before .before .before .before .before .before .before .read-number .ensures) ∙ c .before .before .before .before .before .l .given .1) (answered (λ (z : ℤ). eqb 0 (natAbs z)) l (search needs) (c .before .before .before .is-zero .ensures) (c .before .before .if1 .left)) (omega (arith, answer natAbs l (search needs) (c .before .variable .ensures), c .if2 .left))
+returns-5 c =
+    let back = c .before .before .before in let is-zero = back .is-zero in
+    let back = back .before .before in let the-l = back .l in
+    let back = back .before .before in let read-number = back .read-number in
+    let start = back .before .before in
+    let l = the-l .given .0 .0 in
+    at-arg (λ (z : ℤ). Item.Literal z) l (search needs)
+    ∙ item-literal (start .args .variables) (number (now (start .args .word))) l
+    (sym (read-number .ensures) ∙ the-l .given .1)
+    (answered (λ (z : ℤ). eqb 0 (natAbs z)) l (search needs) (is-zero .ensures) (c .before .before .if1 .left))
+    (omega (arith, answer natAbs l (search needs) (c .before .variable .ensures), c .if2 .left))
 
 pub number-item-spec : {M : Type 1} → statement M
 number-item-spec =

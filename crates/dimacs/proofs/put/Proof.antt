@@ -18,7 +18,9 @@ returns : tie.Need-returns
 returns c = search needs
 
 returns-2 : tie.Need-returns-2
-returns-2 c = sym (set-out (now (c .before .args .store)) (c .before .args .at) (c .before .args .l) (c .if1 .left))
+returns-2 c =
+    let start = c .before in
+    sym (set-out (now (start .args .store)) (start .args .at) (start .args .l) (c .if1 .left))
 
 pub put-spec : {M : Type 1} → statement M
 put-spec = tie.close (tie.spec mul-l slice-set-from-l same-length returns returns-2)

@@ -29,7 +29,16 @@ same-length : tie.Need-same-length
 same-length c = search needs
 
 returns : tie.Need-returns
-returns c = back-short (now (c .before .before .before .before .before .before .before .before .before .before .before .args .text)) (now (c .before .before .before .before .before .before .before .before .before .before .before .args .store)) (c .before .before .before .before .before .before .before .before .before .read-back-limits .result) (c .before .before .before .before .before .before .before .before .before .read-back-limits .ensures .0) _ (c .before .before .before .before .before .before .before .before .check .ensures) _ _ _ _ _ (c .before .before .before .before .before .before .v .given .1) (c .before .before .before .before .workspace-need .ensures) (c .before .before .before .if1 .taken) (c .before .zero-entries2 .ensures)
+returns c =
+    let back = c .before .before .before in let if1 = back .if1 in
+    let back = back .before in let workspace-need = back .workspace-need in
+    let back = back .before .before in let v = back .v in
+    let back = back .before .before in let check = back .check in
+    let back = back .before in let read-back-limits = back .read-back-limits in
+    let start = back .before .before in
+    back-short (now (start .args .text)) (now (start .args .store)) (read-back-limits .result)
+    (read-back-limits .ensures .0) _ (check .ensures) _ _ _ _ _ (v .given .1) (workspace-need .ensures) (if1 .taken)
+    (c .before .zero-entries2 .ensures)
 
 load-requires : tie.Need-load-requires
 load-requires c κs = search needs
@@ -38,13 +47,28 @@ same-length-2 : tie.Need-same-length-2
 same-length-2 c = search needs
 
 returns-2 : tie.Need-returns-2
-returns-2 c = back-fault (now (c .before .before .before .before .before .before .before .before .before .args .text)) (now (c .before .before .before .before .before .before .before .before .before .args .store)) (c .before .before .before .before .before .before .before .read-back-limits .result) (c .before .before .before .before .before .before .before .read-back-limits .ensures .0) _ (c .before .before .before .before .before .before .check .ensures) _ _ (c .before .before .before .before .n .given .1) (c .before .zero-entries .ensures)
+returns-2 c =
+    let back = c .before .before .before .before in let n = back .n in
+    let back = back .before .before in let check = back .check in
+    let back = back .before in let read-back-limits = back .read-back-limits in
+    let start = back .before .before in
+    back-fault (now (start .args .text)) (now (start .args .store)) (read-back-limits .result)
+    (read-back-limits .ensures .0) _ (check .ensures) _ _ (n .given .1) (c .before .zero-entries .ensures)
 
 same-length-3 : tie.Need-same-length-3
 same-length-3 c = search needs
 
 returns-3 : tie.Need-returns-3
-returns-3 c = back-read (now (c .before .before .before .before .before .before .before .before .before .before .before .args .text)) (now (c .before .before .before .before .before .before .before .before .before .before .before .args .store)) (c .before .before .before .before .before .before .before .before .before .read-back-limits .result) (c .before .before .before .before .before .before .before .before .before .read-back-limits .ensures .0) _ (c .before .before .before .before .before .before .before .before .check .ensures) _ _ _ _ _ (c .before .before .before .before .before .before .v .given .1) (c .before .before .before .before .workspace-need .ensures) (c .before .before .before .if1 .left) (c .before .load .ensures)
+returns-3 c =
+    let back = c .before .before .before in let if1 = back .if1 in
+    let back = back .before in let workspace-need = back .workspace-need in
+    let back = back .before .before in let v = back .v in
+    let back = back .before .before in let check = back .check in
+    let back = back .before in let read-back-limits = back .read-back-limits in
+    let start = back .before .before in
+    back-read (now (start .args .text)) (now (start .args .store)) (read-back-limits .result)
+    (read-back-limits .ensures .0) _ (check .ensures) _ _ _ _ _ (v .given .1) (workspace-need .ensures) (if1 .left)
+    (c .before .load .ensures)
 
 pub read-back-spec : {M : Type 1} → statement M
 read-back-spec =

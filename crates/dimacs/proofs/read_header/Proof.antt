@@ -1,6 +1,6 @@
 use native.Mathlib.Omega.{arith}
 use denote.Ref.{now}
-use Rattle.laws.proofs.Slices.{rest-is}
+use Rattle.theory_base.proofs.Slices.{rest-is}
 use Rattle.dimacs.proofs.HeaderLine.{whole-fault, whole-value}
 use borrow.Author.Needs.{needs}
 use Rattle.dimacs.proofs.read_header.Statement.{statement}
@@ -28,13 +28,39 @@ enum-known-v : tie.Need-enum-known-v
 enum-known-v c = search needs
 
 add-t14 : tie.Need-add-t14
-add-t14 c = let t = now (c .before .before .before .before .before .before .before .args .text) in let at = c .before .before .before .before .before .skip-comments .result in record { fits = omega (arith, whole-value (c .before .before .before .before .before .before .before .args .most) t _ at (rest-is t at) (c .before .before .before .before .before .skip-comments .ensures .1) _ (c .before .before .before .header-line .ensures) _ _ _ (c .before .v .given .1) (c .before .before .before .before .before .skip-comments .ensures .0) .1) }
+add-t14 c =
+    let back = c .before .before .before in let header-line = back .header-line in
+    let back = back .before .before in let skip-comments = back .skip-comments in
+    let start = back .before .before in
+    let t = now (start .args .text) in
+    let at = skip-comments .result in
+    record {
+      fits = omega (
+        arith,
+        whole-value (start .args .most) t _ at (rest-is t at) (skip-comments .ensures .1) _ (header-line .ensures) _ _ _
+            (c .before .v .given .1) (skip-comments .ensures .0) .1,
+      );
+    }
 
 returns : tie.Need-returns
-returns c = let t = now (c .before .before .before .before .before .before .before .args .text) in let at = c .before .before .before .before .before .skip-comments .result in whole-fault (c .before .before .before .before .before .before .before .args .most) t _ at (rest-is t at) (c .before .before .before .before .before .skip-comments .ensures .1) _ (c .before .before .before .header-line .ensures) _ (c .before .n .given .1)
+returns c =
+    let back = c .before .before .before in let header-line = back .header-line in
+    let back = back .before .before in let skip-comments = back .skip-comments in
+    let start = back .before .before in
+    let t = now (start .args .text) in
+    let at = skip-comments .result in
+    whole-fault (start .args .most) t _ at (rest-is t at) (skip-comments .ensures .1) _ (header-line .ensures) _
+    (c .before .n .given .1)
 
 returns-2 : tie.Need-returns-2
-returns-2 c = let t = now (c .before .before .before .before .before .before .before .args .text) in let at = c .before .before .before .before .before .skip-comments .result in whole-value (c .before .before .before .before .before .before .before .args .most) t _ at (rest-is t at) (c .before .before .before .before .before .skip-comments .ensures .1) _ (c .before .before .before .header-line .ensures) _ _ _ (c .before .v .given .1) (c .before .before .before .before .before .skip-comments .ensures .0)
+returns-2 c =
+    let back = c .before .before .before in let header-line = back .header-line in
+    let back = back .before .before in let skip-comments = back .skip-comments in
+    let start = back .before .before in
+    let t = now (start .args .text) in
+    let at = skip-comments .result in
+    whole-value (start .args .most) t _ at (rest-is t at) (skip-comments .ensures .1) _ (header-line .ensures) _ _ _
+    (c .before .v .given .1) (skip-comments .ensures .0)
 
 pub read-header-spec : {M : Type 1} → statement M
 read-header-spec =

@@ -28,10 +28,25 @@ loop-less : tie.Need-loop-less Inv-loop μ-loop
 loop-less c = search needs
 
 loop-again : tie.Need-loop-again Inv-loop μ-loop
-loop-again c = (omega arith, comment-goes-on (c .before .before .before .before .args .text .now) (c .before .before .before .loop .at) (c .before .before .loop-test .taken) ∙ ap (λ (x : Bool). past-comments x (drop (c .before .before .before .loop .at) (c .before .before .before .before .args .text .now))) (sym (c .if1 .taken)) ∙ c .before .before .before .loop .inv .1)
+loop-again c =
+    let back = c .before .before .before in let loop = back .loop in
+    let start = back .before in (
+      omega arith,
+      comment-goes-on (start .args .text .now) (loop .at) (c .before .before .loop-test .taken)
+          ∙ ap (λ (x : Bool). past-comments x (drop (loop .at) (start .args .text .now))) (sym (c .if1 .taken))
+          ∙ loop .inv .1,
+    )
 
 returns : tie.Need-returns Inv-loop μ-loop
-returns c = (omega arith, comments-end (c .before .before .before .before .before .args .text .now) (c .before .before .before .before .loop .at) (c .before .before .before .loop-test .taken) (c .if2 .taken) ∙ ap (λ (x : Bool). past-comments x (drop (c .before .before .before .before .loop .at) (c .before .before .before .before .before .args .text .now))) (sym (c .before .if1 .left)) ∙ c .before .before .before .before .loop .inv .1)
+returns c =
+    let back = c .before .before .before in let loop-test = back .loop-test in
+    let back = back .before in let loop = back .loop in
+    let start = back .before in (
+      omega arith,
+      comments-end (start .args .text .now) (loop .at) (loop-test .taken) (c .if2 .taken)
+          ∙ ap (λ (x : Bool). past-comments x (drop (loop .at) (start .args .text .now))) (sym (c .before .if1 .left))
+          ∙ loop .inv .1,
+    )
 
 add-at-2 : tie.Need-add-at-2 Inv-loop μ-loop
 add-at-2 c = search needs
@@ -40,10 +55,22 @@ loop-less-2 : tie.Need-loop-less-2 Inv-loop μ-loop
 loop-less-2 c = search needs
 
 loop-again-2 : tie.Need-loop-again-2 Inv-loop μ-loop
-loop-again-2 c = (omega arith, comment-begins (c .before .before .before .before .before .args .text .now) (c .before .before .before .before .loop .at) (c .before .before .before .loop-test .taken) (c .if2 .left) ∙ ap (λ (x : Bool). past-comments x (drop (c .before .before .before .before .loop .at) (c .before .before .before .before .before .args .text .now))) (sym (c .before .if1 .left)) ∙ c .before .before .before .before .loop .inv .1)
+loop-again-2 c =
+    let back = c .before .before .before in let loop-test = back .loop-test in
+    let back = back .before in let loop = back .loop in
+    let start = back .before in (
+      omega arith,
+      comment-begins (start .args .text .now) (loop .at) (loop-test .taken) (c .if2 .left)
+          ∙ ap (λ (x : Bool). past-comments x (drop (loop .at) (start .args .text .now))) (sym (c .before .if1 .left))
+          ∙ loop .inv .1,
+    )
 
 returns-2 : tie.Need-returns-2 Inv-loop μ-loop
-returns-2 c = (omega arith, comments-all (c .before .before .args .text .now) (c .before .loop .commented) (c .before .loop .at) (c .loop-test .left) ∙ c .before .loop .inv .1)
+returns-2 c =
+    let loop = c .before .loop in (
+      omega arith,
+      comments-all (c .before .before .args .text .now) (loop .commented) (loop .at) (c .loop-test .left) ∙ loop .inv .1,
+    )
 
 pub skip-comments-spec : {M : Type 1} → statement M
 skip-comments-spec =

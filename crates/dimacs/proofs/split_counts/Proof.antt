@@ -7,7 +7,7 @@ use lib.ListN.{length, take, drop}
 use lib.Seq.{length-take-le}
 use Rattle.definition.specs.Text.{Bytes, natural}
 use Rattle.text.specs.Numbers.{natural-class}
-use Rattle.laws.proofs.Slices.{rest-is}
+use Rattle.theory_base.proofs.Slices.{rest-is}
 use Rattle.dimacs.specs.HeaderLine.{until, counts-by}
 use Rattle.dimacs.proofs.HeaderLine.{until-within, counts-one, counts-two}
 use borrow.Author.Needs.{needs}
@@ -18,22 +18,38 @@ find-requires : tie.Need-find-requires
 find-requires c κs = search needs
 
 returns : tie.Need-returns
-returns c = counts-one (c .before .before .before .args .most) (c .before .before .before .pre) (now (c .before .before .before .args .rest)) (sym (c .before .find .ensures) ∙ c .if1 .taken)
+returns c =
+    let start = c .before .before .before in
+    counts-one (start .args .most) (start .pre) (now (start .args .rest))
+    (sym (c .before .find .ensures) ∙ c .if1 .taken)
 
 add-second : tie.Need-add-second
-add-second c = record { fits = omega (arith, until-within 32 (now (c .before .before .before .args .rest)), c .before .find .ensures) }
+add-second c =
+    let start = c .before .before .before in
+    record { fits = omega (arith, until-within 32 (now (start .args .rest)), c .before .find .ensures) }
 
 slice-aggregate-read-natural : tie.Need-slice-aggregate-read-natural
-slice-aggregate-read-natural c = sym (length-take-le (c .before .before .find .result) (now (c .before .before .before .before .args .rest)) (omega (arith, until-within 32 (now (c .before .before .before .before .args .rest)), c .before .before .find .ensures)))
+slice-aggregate-read-natural c =
+    let back = c .before .before in let find = back .find in
+    let start = back .before .before in
+    sym
+    (length-take-le (find .result) (now (start .args .rest))
+    (omega (arith, until-within 32 (now (start .args .rest)), find .ensures)))
 
 read-natural-requires : tie.Need-read-natural-requires
 read-natural-requires c κs = search needs
 
 sub-read-natural : tie.Need-sub-read-natural
-sub-read-natural c = omega (arith, until-within 32 (now (c .before .before .before .before .before .args .rest)), c .before .before .before .find .ensures)
+sub-read-natural c =
+    let back = c .before .before .before in let find = back .find in
+    let start = back .before .before in
+    omega (arith, until-within 32 (now (start .args .rest)), find .ensures)
 
 part-read-natural-start : tie.Need-part-read-natural-start
-part-read-natural-start c = omega (arith, until-within 32 (now (c .before .before .before .before .before .args .rest)), c .before .before .before .find .ensures)
+part-read-natural-start c =
+    let back = c .before .before .before in let find = back .find in
+    let start = back .before .before in
+    omega (arith, until-within 32 (now (start .args .rest)), find .ensures)
 
 part-read-natural-end : tie.Need-part-read-natural-end
 part-read-natural-end c = search needs
@@ -45,11 +61,21 @@ counts-from-requires : tie.Need-counts-from-requires
 counts-from-requires c κs = search needs
 
 returns-2 : tie.Need-returns-2
-returns-2 c = let t = now (c .before .before .before .before .before .before .before .before .args .rest) in
-    let h : until 32 t < length t = omega (arith, until-within 32 t, c .before .before .before .before .before .before .find .ensures) in
+returns-2 c =
+    let back = c .before .before .before in let read-natural = back .read-natural in
+    let back = back .before .before .before in let find = back .find in
+    let start = back .before .before in
+    let t = now (start .args .rest) in
+    let h : until 32 t < length t = omega (arith, until-within 32 t, find .ensures) in
     c .counts-from .ensures
-    ∙ ap₂ (counts-by (c .before .before .before .before .before .before .before .before .args .most)) (c .before .before .before .read-natural .ensures ∙ ap (λ (n : ℕ). natural-class 1_000_000 (natural (take n t))) (c .before .before .before .before .before .before .find .ensures)) (c .before .read-natural2 .ensures ∙ ap (λ (u : Bytes). natural-class 1_000_000 (natural u)) (rest-is t (c .before .before .before .before .before .before .find .result + 1) ∙ ap (λ (n : ℕ). drop n t) (add-one (c .before .before .before .before .before .before .find .result)) ∙ ap (λ (n : ℕ). drop (suc n) t) (c .before .before .before .before .before .before .find .ensures)))
-    ∙ counts-two (c .before .before .before .before .before .before .before .before .args .most) (c .before .before .before .before .before .before .before .before .pre) t h
+    ∙ ap₂ (counts-by (start .args .most))
+    (read-natural .ensures ∙ ap (λ (n : ℕ). natural-class 1_000_000 (natural (take n t))) (find .ensures))
+    (c .before .read-natural2 .ensures
+    ∙ ap (λ (u : Bytes). natural-class 1_000_000 (natural u))
+    (rest-is t (find .result + 1)
+    ∙ ap (λ (n : ℕ). drop n t) (add-one (find .result))
+    ∙ ap (λ (n : ℕ). drop (suc n) t) (find .ensures)))
+    ∙ counts-two (start .args .most) (start .pre) t h
 
 pub split-counts-spec : {M : Type 1} → statement M
 split-counts-spec =

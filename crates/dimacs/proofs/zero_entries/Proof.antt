@@ -36,13 +36,27 @@ loop-less : tie.Need-loop-less Inv-loop μ-loop
 loop-less c = search needs
 
 loop-again : tie.Need-loop-again Inv-loop μ-loop
-loop-again c = (search needs, simp length-set (c .before .loop .inv .1), ap (λ (l : List ℤ). set l (c .before .loop .i) (pos 0)) (c .before .loop .inv .2) ∙ zeros-more (c .before .loop .i) (now (c .before .before .args .store)) (search needs) ∙ ap (λ (k : ℕ). replicate k (pos 0) ++ drop k (now (c .before .before .args .store))) (sym (add-one (c .before .loop .i))))
+loop-again c =
+    let back = c .before in let loop = back .loop in
+    let start = back .before in (
+      search needs,
+      simp length-set (loop .inv .1),
+      ap (λ (l : List ℤ). set l (loop .i) (pos 0)) (loop .inv .2)
+          ∙ zeros-more (loop .i) (now (start .args .store)) (search needs)
+          ∙ ap (λ (k : ℕ). replicate k (pos 0) ++ drop k (now (start .args .store))) (sym (add-one (loop .i))),
+    )
 
 same-length : tie.Need-same-length Inv-loop μ-loop
 same-length c = search needs
 
 returns : tie.Need-returns Inv-loop μ-loop
-returns c = let e : c .before .loop .i ≡ length (now (c .before .before .args .store)) = omega arith in c .before .loop .inv .2 ∙ ap (λ (k : ℕ). replicate k (pos 0) ++ drop k (now (c .before .before .args .store))) e ∙ rw (drop-length, append-nil) refl
+returns c =
+    let back = c .before in let loop = back .loop in
+    let start = back .before in
+    let e : loop .i ≡ length (now (start .args .store)) = omega arith in
+    loop .inv .2
+    ∙ ap (λ (k : ℕ). replicate k (pos 0) ++ drop k (now (start .args .store))) e
+    ∙ rw (drop-length, append-nil) refl
 
 pub zero-entries-spec : {M : Type 1} → statement M
 zero-entries-spec =

@@ -18,7 +18,9 @@ returns : tie.Need-returns
 returns c = search needs
 
 returns-2 : tie.Need-returns-2
-returns-2 c = sym (set-out (now (c .before .args .tally)) (c .before .args .at) (c .before .args .n) (search needs))
+returns-2 c =
+    let start = c .before in
+    sym (set-out (now (start .args .tally)) (start .args .at) (start .args .n) (search needs))
 
 pub put-count-spec : {M : Type 1} → statement M
 put-count-spec = tie.close (tie.spec mul-tally slice-write-tally same-length returns returns-2)

@@ -29,7 +29,21 @@ same-length : tie.Need-same-length
 same-length c = search needs
 
 returns : tie.Need-returns
-returns c = rw (c .before .before .put-count6 .ensures, c .before .before .before .before .before .before .put-count5 .ensures, c .before .before .before .before .before .before .before .before .before .before .put-count4 .ensures, c .before .before .before .before .before .before .before .before .before .before .before .before .before .before .put-count3 .ensures, c .before .before .before .before .before .before .before .before .before .before .before .before .before .before .before .before .before .before .put-count2 .ensures, c .before .before .before .before .before .before .before .before .before .before .before .before .before .before .before .before .before .before .before .before .before .before .before .put-count .ensures) (six-counts (now (c .before .before .before .before .before .before .before .before .before .before .before .before .before .before .before .before .before .before .before .before .before .before .before .before .before .before .args .tally)) _ _ _ _ _ _)
+returns c =
+    let back = c .before .before .before .before .before .before in let put-count5 = back .put-count5 in
+    let back = back .before .before .before .before in let put-count4 = back .put-count4 in
+    let back = back .before .before .before .before in let put-count3 = back .put-count3 in
+    let back = back .before .before .before .before in let put-count2 = back .put-count2 in
+    let back = back .before .before .before .before .before in let put-count = back .put-count in
+    let start = back .before .before .before in
+    rw (
+      c .before .before .put-count6 .ensures,
+      put-count5 .ensures,
+      put-count4 .ensures,
+      put-count3 .ensures,
+      put-count2 .ensures,
+      put-count .ensures,
+    ) (six-counts (now (start .args .tally)) _ _ _ _ _ _)
 
 pub put-done-spec : {M : Type 1} → statement M
 put-done-spec =

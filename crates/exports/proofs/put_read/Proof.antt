@@ -17,7 +17,12 @@ same-length : tie.Need-same-length
 same-length c = search needs
 
 returns : tie.Need-returns
-returns c = rw (c .before .before .put-count3 .ensures, c .before .before .before .before .before .before .put-count2 .ensures, c .before .before .before .before .before .before .before .before .before .before .put-count .ensures) (three-counts (now (c .before .before .before .before .before .before .before .before .before .before .before .before .before .args .tally)) _ _ _)
+returns c =
+    let back = c .before .before .before .before .before .before in let put-count2 = back .put-count2 in
+    let back = back .before .before .before .before in let put-count = back .put-count in
+    let start = back .before .before .before in
+    rw (c .before .before .put-count3 .ensures, put-count2 .ensures, put-count .ensures)
+    (three-counts (now (start .args .tally)) _ _ _)
 
 pub put-read-spec : {M : Type 1} → statement M
 put-read-spec =

@@ -32,7 +32,14 @@ same-length-2 : tie.Need-same-length-2
 same-length-2 c = search needs
 
 returns : tie.Need-returns
-returns c = let k = read-counted (read-back (length (now (c .before .before .before .before .before .before .before .before .before .before .before .before .args .store))) (now (c .before .before .before .before .before .before .before .before .before .before .before .before .args .text))) _ _ _ (now (c .before .before .before .before .before .before .before .before .before .before .before .before .args .tally)) _ (sym (c .before .before .before .before .before .before .before .before .read-back .ensures .0) ∙ c .before .before .before .before .before .v .given .1) (c .before .before .put-read .ensures) in (k .0, (c .before .before .before .before .before .before .before .before .read-back .ensures .1, k .1))
+returns c =
+    let back = c .before .before .before .before .before in let v = back .v in
+    let back = back .before .before .before in let the-read-back = back .read-back in
+    let start = back .before .before .before .before in
+    let k = read-counted (read-back (length (now (start .args .store))) (now (start .args .text))) _ _ _
+    (now (start .args .tally)) _ (sym (the-read-back .ensures .0) ∙ v .given .1) (c .before .before .put-read .ensures)
+    in
+    (k .0, (the-read-back .ensures .1, k .1))
 
 same-length-3 : tie.Need-same-length-3
 same-length-3 c = search needs
@@ -41,7 +48,14 @@ same-length-4 : tie.Need-same-length-4
 same-length-4 c = search needs
 
 returns-2 : tie.Need-returns-2
-returns-2 c = let k = read-refused (read-back (length (now (c .before .before .before .before .before .before .before .before .before .before .before .before .args .store))) (now (c .before .before .before .before .before .before .before .before .before .before .before .before .args .text))) _ (now (c .before .before .before .before .before .before .before .before .before .before .before .before .args .tally)) _ (sym (c .before .before .before .before .before .before .before .before .read-back .ensures .0) ∙ c .before .before .before .before .before .n .given .1) (c .before .before .zero-counts .ensures) in (k .0, (c .before .before .before .before .before .before .before .before .read-back .ensures .1, k .1))
+returns-2 c =
+    let back = c .before .before .before .before .before in let n = back .n in
+    let back = back .before .before .before in let the-read-back = back .read-back in
+    let start = back .before .before .before .before in
+    let k = read-refused (read-back (length (now (start .args .store))) (now (start .args .text))) _
+    (now (start .args .tally)) _ (sym (the-read-back .ensures .0) ∙ n .given .1)
+    (c .before .before .zero-counts .ensures) in
+    (k .0, (the-read-back .ensures .1, k .1))
 
 pub sirgholyn-read-back-spec : {M : Type 1} → statement M
 sirgholyn-read-back-spec =

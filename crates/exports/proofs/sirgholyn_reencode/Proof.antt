@@ -42,7 +42,16 @@ same-length-4 : tie.Need-same-length-4
 same-length-4 c = search needs
 
 returns : tie.Need-returns
-returns c = exported-done (c .before .before .before .before .before .before .before .before .before .before .before .before .before .before .before .before .before .form-named .result) (c .before .before .before .before .before .before .before .before .before .before .before .before .before .before .before .before .wish-named .result) (c .before .before .before .before .before .before .before .before .before .before .before .before .before .before .before .before .before .before .before .before .before .before .args .form) (c .before .before .before .before .before .before .before .before .before .before .before .before .before .before .before .before .before .before .before .before .before .before .args .wish) (length (now (c .before .before .before .before .before .before .before .before .before .before .before .before .before .before .before .before .before .before .before .before .before .before .args .work))) (now (c .before .before .before .before .before .before .before .before .before .before .before .before .before .before .before .before .before .before .before .before .before .before .args .text)) (now (c .before .before .before .before .before .before .before .before .before .before .before .before .before .before .before .before .before .before .before .before .before .before .args .log)) _ (now (c .before .before .before .before .before .before .before .before .before .before .before .before .before .before .before .before .before .before .before .before .before .before .args .formula)) _ (now (c .before .before .before .before .before .before .before .before .before .before .before .before .before .before .before .before .before .before .before .before .before .before .args .tally)) _ _ (c .before .before .before .before .before .before .before .before .before .before .before .before .before .before .before .before .before .form-named .ensures) (c .before .before .before .before .before .before .before .before .before .before .before .before .before .before .before .before .wish-named .ensures) (c .before .before .before .before .before .before .before .before .before .before .before .before .reencode .ensures .0) (c .before .before .before .before .before .before .before .before .before .before .before .before .reencode .ensures .1 .0) (c .before .before .before .before .before .before .before .before .before .before .before .before .reencode .ensures .1 .1) _ (c .before .before .before .before .before .t .given .1) (c .before .before .put-done .ensures)
+returns c =
+    let back = c .before .before .before .before .before in let t = back .t in
+    let back = back .before .before .before .before .before .before .before in let reencode = back .reencode in
+    let back = back .before .before .before .before in let wish-named = back .wish-named in
+    let back = back .before in let form-named = back .form-named in
+    let start = back .before .before .before .before .before in
+    exported-done (form-named .result) (wish-named .result) (start .args .form) (start .args .wish)
+    (length (now (start .args .work))) (now (start .args .text)) (now (start .args .log)) _ (now (start .args .formula))
+    _ (now (start .args .tally)) _ _ (form-named .ensures) (wish-named .ensures) (reencode .ensures .0)
+    (reencode .ensures .1 .0) (reencode .ensures .1 .1) _ (t .given .1) (c .before .before .put-done .ensures)
 
 same-length-5 : tie.Need-same-length-5
 same-length-5 c = search needs
@@ -57,7 +66,16 @@ same-length-8 : tie.Need-same-length-8
 same-length-8 c = search needs
 
 returns-2 : tie.Need-returns-2
-returns-2 c = exported-refused (c .before .before .before .before .before .before .before .before .before .before .before .before .before .before .before .before .before .form-named .result) (c .before .before .before .before .before .before .before .before .before .before .before .before .before .before .before .before .wish-named .result) (c .before .before .before .before .before .before .before .before .before .before .before .before .before .before .before .before .before .before .before .before .before .before .args .form) (c .before .before .before .before .before .before .before .before .before .before .before .before .before .before .before .before .before .before .before .before .before .before .args .wish) (length (now (c .before .before .before .before .before .before .before .before .before .before .before .before .before .before .before .before .before .before .before .before .before .before .args .work))) (now (c .before .before .before .before .before .before .before .before .before .before .before .before .before .before .before .before .before .before .before .before .before .before .args .text)) (now (c .before .before .before .before .before .before .before .before .before .before .before .before .before .before .before .before .before .before .before .before .before .before .args .log)) _ (now (c .before .before .before .before .before .before .before .before .before .before .before .before .before .before .before .before .before .before .before .before .before .before .args .formula)) _ (now (c .before .before .before .before .before .before .before .before .before .before .before .before .before .before .before .before .before .before .before .before .before .before .args .tally)) _ _ (c .before .before .before .before .before .before .before .before .before .before .before .before .before .before .before .before .before .form-named .ensures) (c .before .before .before .before .before .before .before .before .before .before .before .before .before .before .before .before .wish-named .ensures) (c .before .before .before .before .before .before .before .before .before .before .before .before .reencode .ensures .0) (c .before .before .before .before .before .before .before .before .before .before .before .before .reencode .ensures .1 .0) (c .before .before .before .before .before .before .before .before .before .before .before .before .reencode .ensures .1 .1) _ (c .before .before .before .before .before .n .given .1) (c .before .before .zero-counts .ensures)
+returns-2 c =
+    let back = c .before .before .before .before .before in let n = back .n in
+    let back = back .before .before .before .before .before .before .before in let reencode = back .reencode in
+    let back = back .before .before .before .before in let wish-named = back .wish-named in
+    let back = back .before in let form-named = back .form-named in
+    let start = back .before .before .before .before .before in
+    exported-refused (form-named .result) (wish-named .result) (start .args .form) (start .args .wish)
+    (length (now (start .args .work))) (now (start .args .text)) (now (start .args .log)) _ (now (start .args .formula))
+    _ (now (start .args .tally)) _ _ (form-named .ensures) (wish-named .ensures) (reencode .ensures .0)
+    (reencode .ensures .1 .0) (reencode .ensures .1 .1) _ (n .given .1) (c .before .before .zero-counts .ensures)
 
 pub sirgholyn-reencode-spec : {M : Type 1} → statement M
 sirgholyn-reencode-spec =

@@ -35,7 +35,15 @@ same-length-3 : tie.Need-same-length-3
 same-length-3 c = search needs
 
 returns : tie.Need-returns
-returns c = let k = walk-counted (walk-back (length (now (c .before .before .before .before .before .before .before .before .before .before .before .before .before .before .before .before .before .before .args .work))) (length (now (c .before .before .before .before .before .before .before .before .before .before .before .before .before .before .before .before .before .before .args .out))) (c .before .before .before .before .before .before .before .before .before .before .before .before .before .before .before .before .before .before .args .kept) (now (c .before .before .before .before .before .before .before .before .before .before .before .before .before .before .before .before .before .before .args .formula)) (now (c .before .before .before .before .before .before .before .before .before .before .before .before .before .before .before .before .before .before .args .log)) (now (c .before .before .before .before .before .before .before .before .before .before .before .before .before .before .before .before .before .before .args .answer))) _ (now (c .before .before .before .before .before .before .before .before .before .before .before .before .before .before .before .before .before .before .args .tally)) _ (sym (c .before .before .before .before .before .before .before .before .before .before .walk-back .ensures .0) ∙ c .before .before .before .before .before .n .given .1) (c .before .before .put-count .ensures) in (k .0, (c .before .before .before .before .before .before .before .before .before .before .walk-back .ensures .1, k .1))
+returns c =
+    let back = c .before .before .before .before .before in let n = back .n in
+    let back = back .before .before .before .before .before in let the-walk-back = back .walk-back in
+    let start = back .before .before .before .before .before .before .before .before in
+    let k = walk-counted
+    (walk-back (length (now (start .args .work))) (length (now (start .args .out))) (start .args .kept)
+    (now (start .args .formula)) (now (start .args .log)) (now (start .args .answer))) _ (now (start .args .tally)) _
+    (sym (the-walk-back .ensures .0) ∙ n .given .1) (c .before .before .put-count .ensures) in
+    (k .0, (the-walk-back .ensures .1, k .1))
 
 same-length-4 : tie.Need-same-length-4
 same-length-4 c = search needs
@@ -47,7 +55,15 @@ same-length-6 : tie.Need-same-length-6
 same-length-6 c = search needs
 
 returns-2 : tie.Need-returns-2
-returns-2 c = let k = walk-refused (walk-back (length (now (c .before .before .before .before .before .before .before .before .before .before .before .before .before .before .before .before .before .before .args .work))) (length (now (c .before .before .before .before .before .before .before .before .before .before .before .before .before .before .before .before .before .before .args .out))) (c .before .before .before .before .before .before .before .before .before .before .before .before .before .before .before .before .before .before .args .kept) (now (c .before .before .before .before .before .before .before .before .before .before .before .before .before .before .before .before .before .before .args .formula)) (now (c .before .before .before .before .before .before .before .before .before .before .before .before .before .before .before .before .before .before .args .log)) (now (c .before .before .before .before .before .before .before .before .before .before .before .before .before .before .before .before .before .before .args .answer))) _ (now (c .before .before .before .before .before .before .before .before .before .before .before .before .before .before .before .before .before .before .args .tally)) _ (sym (c .before .before .before .before .before .before .before .before .before .before .walk-back .ensures .0) ∙ c .before .before .before .before .before .n2 .given .1) (c .before .before .zero-counts .ensures) in (k .0, (c .before .before .before .before .before .before .before .before .before .before .walk-back .ensures .1, k .1))
+returns-2 c =
+    let back = c .before .before .before .before .before in let n2 = back .n2 in
+    let back = back .before .before .before .before .before in let the-walk-back = back .walk-back in
+    let start = back .before .before .before .before .before .before .before .before in
+    let k = walk-refused
+    (walk-back (length (now (start .args .work))) (length (now (start .args .out))) (start .args .kept)
+    (now (start .args .formula)) (now (start .args .log)) (now (start .args .answer))) _ (now (start .args .tally)) _
+    (sym (the-walk-back .ensures .0) ∙ n2 .given .1) (c .before .before .zero-counts .ensures) in
+    (k .0, (the-walk-back .ensures .1, k .1))
 
 pub sirgholyn-walk-back-spec : {M : Type 1} → statement M
 sirgholyn-walk-back-spec =

@@ -28,15 +28,22 @@ cast-result-2 c = search needs
 
 returns : tie.Need-returns
 returns c =
-    let h = c .before .before .before .before .args .h in
-    let f = c .before .before .before .before .fits .h in
-    answer natAbs (c .before .flipped .result) (sfits-of (c .before .flipped .ok)) (c .variable .ensures) ∙ ap natAbs (answer flip h f (c .before .flipped .ensures)) ∙ literals-negative h (answered negative h f (c .before .before .before .is-negative .ensures) (c .before .before .if1 .taken))
+    let back = c .before in let flipped = back .flipped in
+    let back = back .before .before in let is-negative = back .is-negative in
+    let start = back .before in
+    let h = start .args .h in
+    let f = start .fits .h in
+    answer natAbs (flipped .result) (sfits-of (flipped .ok)) (c .variable .ensures)
+    ∙ ap natAbs (answer flip h f (flipped .ensures))
+    ∙ literals-negative h (answered negative h f (is-negative .ensures) (c .before .before .if1 .taken))
 
 returns-2 : tie.Need-returns-2
 returns-2 c =
-    let h = c .before .before .before .args .h in
-    let f = c .before .before .before .fits .h in
-    answer natAbs h f (c .variable2 .ensures) ∙ literals-positive h (answered negative h f (c .before .before .is-negative .ensures) (c .before .if1 .left))
+    let start = c .before .before .before in
+    let h = start .args .h in
+    let f = start .fits .h in
+    answer natAbs h f (c .variable2 .ensures)
+    ∙ literals-positive h (answered negative h f (c .before .before .is-negative .ensures) (c .before .if1 .left))
 
 pub header-length-spec : {M : Type 1} → statement M
 header-length-spec =

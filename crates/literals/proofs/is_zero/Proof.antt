@@ -10,7 +10,9 @@ variable-requires : tie.Need-variable-requires
 variable-requires c κs = search needs
 
 returns : tie.Need-returns
-returns c = ap (eqb 0) (answer natAbs (c .before .args .l) (c .before .fits .l) (c .variable .ensures))
+returns c =
+    let start = c .before in
+    ap (eqb 0) (answer natAbs (start .args .l) (start .fits .l) (c .variable .ensures))
 
 pub is-zero-spec : {M : Type 1} → statement M
 is-zero-spec = tie.close (tie.spec variable-requires returns)

@@ -27,15 +27,17 @@ add-result-3 c = search needs
 
 returns : tie.Need-returns
 returns c =
-    let l = c .before .before .before .args .l in
-    let f = c .before .before .before .fits .l in
+    let start = c .before .before .before in
+    let l = start .args .l in
+    let f = start .fits .l in
     let e = answer natAbs l f (c .before .before .variable .ensures) in
     rw (index-negative l (answered negative l f (c .before .is-negative .ensures) (c .if1 .taken))) (omega arith)
 
 returns-2 : tie.Need-returns-2
 returns-2 c =
-    let l = c .before .before .before .args .l in
-    let f = c .before .before .before .fits .l in
+    let start = c .before .before .before in
+    let l = start .args .l in
+    let f = start .fits .l in
     let e = answer natAbs l f (c .before .before .variable .ensures) in
     rw (index-positive l (answered negative l f (c .before .is-negative .ensures) (c .if1 .left))) (omega arith)
 

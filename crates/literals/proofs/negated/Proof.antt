@@ -22,15 +22,27 @@ signed-requires-2 c κs = search needs
 
 returns : tie.Need-returns
 returns c =
-    let l = c .before .before .before .before .args .l in
-    let f = c .before .before .before .before .fits .l in
-    at-arg (λ (z : ℤ). z) (c .signed .result) (sfits-of (c .signed .ok)) ∙ c .signed .ensures ∙ ap (signed-of false) (answer natAbs l f (c .before .before .before .variable .ensures)) ∙ ap (λ s. signed-of (not s) (natAbs l)) (sym (answered negative l f (c .before .before .is-negative .ensures) (c .before .if1 .taken)))
+    let back = c .before .before .before in let variable = back .variable in
+    let start = back .before in
+    let l = start .args .l in
+    let f = start .fits .l in
+    at-arg (λ (z : ℤ). z) (c .signed .result) (sfits-of (c .signed .ok))
+    ∙ c .signed .ensures
+    ∙ ap (signed-of false) (answer natAbs l f (variable .ensures))
+    ∙ ap (λ s. signed-of (not s) (natAbs l))
+    (sym (answered negative l f (c .before .before .is-negative .ensures) (c .before .if1 .taken)))
 
 returns-2 : tie.Need-returns-2
 returns-2 c =
-    let l = c .before .before .before .before .args .l in
-    let f = c .before .before .before .before .fits .l in
-    at-arg (λ (z : ℤ). z) (c .signed2 .result) (sfits-of (c .signed2 .ok)) ∙ c .signed2 .ensures ∙ ap (signed-of true) (answer natAbs l f (c .before .before .before .variable .ensures)) ∙ ap (λ s. signed-of (not s) (natAbs l)) (sym (answered negative l f (c .before .before .is-negative .ensures) (c .before .if1 .left)))
+    let back = c .before .before .before in let variable = back .variable in
+    let start = back .before in
+    let l = start .args .l in
+    let f = start .fits .l in
+    at-arg (λ (z : ℤ). z) (c .signed2 .result) (sfits-of (c .signed2 .ok))
+    ∙ c .signed2 .ensures
+    ∙ ap (signed-of true) (answer natAbs l f (variable .ensures))
+    ∙ ap (λ s. signed-of (not s) (natAbs l))
+    (sym (answered negative l f (c .before .before .is-negative .ensures) (c .before .if1 .left)))
 
 pub negated-spec : {M : Type 1} → statement M
 negated-spec =

@@ -23,19 +23,34 @@ same-requires c κs = search needs
 
 returns : tie.Need-returns
 returns c =
-    let a = c .before .before .before .before .before .args .a in
-    let b = c .before .before .before .before .before .args .b in
-    let f = c .before .before .before .before .before .fits .a in
-    let g = c .before .before .before .before .before .fits .b in
-    c .same .ensures ∙ at-arg2 same (c .before .negated .result) b (sfits-of (c .before .negated .ok)) g ∙ ap (λ z. same z b) (answer negation a f (c .before .negated .ensures)) ∙ opposite-same a b f g (sym (answer natAbs a f (c .before .before .before .before .variable .ensures)) ∙ c .before .before .if1 .taken ∙ answer natAbs b g (c .before .before .before .variable2 .ensures))
+    let back = c .before in let negated = back .negated in
+    let back = back .before .before in let variable2 = back .variable2 in
+    let back = back .before in let variable = back .variable in
+    let start = back .before in
+    let a = start .args .a in
+    let b = start .args .b in
+    let f = start .fits .a in
+    let g = start .fits .b in
+    c .same .ensures
+    ∙ at-arg2 same (negated .result) b (sfits-of (negated .ok)) g
+    ∙ ap (λ z. same z b) (answer negation a f (negated .ensures))
+    ∙ opposite-same a b f g
+    (sym (answer natAbs a f (variable .ensures))
+    ∙ c .before .before .if1 .taken
+    ∙ answer natAbs b g (variable2 .ensures))
 
 returns-2 : tie.Need-returns-2
 returns-2 c =
-    let a = c .before .before .before .args .a in
-    let b = c .before .before .before .args .b in
-    let f = c .before .before .before .fits .a in
-    let g = c .before .before .before .fits .b in
-    opposite-other a b (λ e. c .if1 .left (answer natAbs a f (c .before .before .variable .ensures) ∙ e ∙ sym (answer natAbs b g (c .before .variable2 .ensures))))
+    let start = c .before .before .before in
+    let a = start .args .a in
+    let b = start .args .b in
+    let f = start .fits .a in
+    let g = start .fits .b in
+    opposite-other a b
+    (λ e. c .if1 .left
+    (answer natAbs a f (c .before .before .variable .ensures)
+    ∙ e
+    ∙ sym (answer natAbs b g (c .before .variable2 .ensures))))
 
 pub opposite-spec : {M : Type 1} → statement M
 opposite-spec =

@@ -14,17 +14,21 @@ cast-z : tie.Need-cast-z
 cast-z c = search needs
 
 sub-result : tie.Need-sub-result
-sub-result c = let e = c .before .capped .ensures in minus-asks (c .before .capped .result) (omega arith)
+sub-result c =
+    let capped = c .before .capped in
+    let e = capped .ensures in minus-asks (capped .result) (omega arith)
 
 returns : tie.Need-returns
 returns c =
-    let e = c .before .capped .ensures in
-    minus-value (c .before .capped .result) (omega arith) ∙ ap (with-sign true) e ∙ rw (c .if1 .taken) refl
+    let capped = c .before .capped in
+    let e = capped .ensures in
+    minus-value (capped .result) (omega arith) ∙ ap (with-sign true) e ∙ rw (c .if1 .taken) refl
 
 returns-2 : tie.Need-returns-2
 returns-2 c =
-    let e = c .before .capped .ensures in
-    cast-signed (c .before .capped .result) (omega arith) ∙ ap (with-sign false) e ∙ rw (c .if1 .left) refl
+    let capped = c .before .capped in
+    let e = capped .ensures in
+    cast-signed (capped .result) (omega arith) ∙ ap (with-sign false) e ∙ rw (c .if1 .left) refl
 
 pub signed-spec : {M : Type 1} → statement M
 signed-spec = tie.close (tie.spec capped-requires cast-z sub-result returns returns-2)

@@ -14,24 +14,36 @@ flipped-requires c κs = search needs
 
 cast-result : tie.Need-cast-result
 cast-result c =
-    let l = c .before .before .before .args .l in
-    let f = c .before .before .before .fits .l in
-    turned-cast l (c .flipped .result) f (sfits-of (c .flipped .ok)) (answered negative l f (c .before .before .is-negative .ensures) (c .before .if1 .taken)) (answer flip l f (c .flipped .ensures))
+    let start = c .before .before .before in
+    let l = start .args .l in
+    let f = start .fits .l in
+    turned-cast l (c .flipped .result) f (sfits-of (c .flipped .ok))
+    (answered negative l f (c .before .before .is-negative .ensures) (c .before .if1 .taken))
+    (answer flip l f (c .flipped .ensures))
 
 add-result : tie.Need-add-result
 add-result c =
-    let l = c .before .before .before .args .l in
-    let f = c .before .before .before .fits .l in
-    turned-add l (c .flipped .result) f (sfits-of (c .flipped .ok)) (answered negative l f (c .before .before .is-negative .ensures) (c .before .if1 .taken)) (answer flip l f (c .flipped .ensures))
+    let start = c .before .before .before in
+    let l = start .args .l in
+    let f = start .fits .l in
+    turned-add l (c .flipped .result) f (sfits-of (c .flipped .ok))
+    (answered negative l f (c .before .before .is-negative .ensures) (c .before .if1 .taken))
+    (answer flip l f (c .flipped .ensures))
 
 cast-result-2 : tie.Need-cast-result-2
-cast-result-2 c = cast-fits (c .before .before .args .l) (c .before .before .fits .l) (answered negative (c .before .before .args .l) (c .before .before .fits .l) (c .before .is-negative .ensures) (c .if1 .left))
+cast-result-2 c =
+    let start = c .before .before in
+    cast-fits (start .args .l) (start .fits .l)
+    (answered negative (start .args .l) (start .fits .l) (c .before .is-negative .ensures) (c .if1 .left))
 
 returns : tie.Need-returns
 returns c =
-    let l = c .before .before .before .args .l in
-    let f = c .before .before .before .fits .l in
-    turned-variable l (c .flipped .result) f (sfits-of (c .flipped .ok)) (answered negative l f (c .before .before .is-negative .ensures) (c .before .if1 .taken)) (answer flip l f (c .flipped .ensures))
+    let start = c .before .before .before in
+    let l = start .args .l in
+    let f = start .fits .l in
+    turned-variable l (c .flipped .result) f (sfits-of (c .flipped .ok))
+    (answered negative l f (c .before .before .is-negative .ensures) (c .before .if1 .taken))
+    (answer flip l f (c .flipped .ensures))
 
 returns-2 : tie.Need-returns-2
 returns-2 c = search needs

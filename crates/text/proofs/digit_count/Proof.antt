@@ -1,5 +1,5 @@
 use borrow.Author.Needs.{needs}
-use Rattle.laws.proofs.Digits.{count-one, count-more}
+use Rattle.theory_base.proofs.Digits.{count-one, count-more}
 use Rattle.text.proofs.Output.{number-length}
 use Rattle.definition.specs.Text.{digits}
 use mathlib.Core.Path.{_≡_}

@@ -34,19 +34,40 @@ loop-less : tie.Need-loop-less Inv-loop μ-loop
 loop-less c = search needs
 
 loop-again : tie.Need-loop-again Inv-loop μ-loop
-loop-again c = (search needs, omega arith, rw (c .next-value .ensures) (digits-step (c .before .before .before .before .before .before .before .args .most) (search needs) (c .before .before .before .before .before .before .before .args .word .now) (c .before .before .before .before .before .loop .i) (c .before .before .before .before .before .loop .value) (search needs) (sym (c .before .before .is-digit .ensures) ∙ c .before .if1 .taken) ∙ c .before .before .before .before .before .loop .inv .2))
+loop-again c =
+    let back = c .before .before .before .before .before in let loop = back .loop in
+    let start = back .before .before in (
+      search needs,
+      omega arith,
+      rw (c .next-value .ensures)
+          (digits-step (start .args .most) (search needs) (start .args .word .now) (loop .i) (loop .value)
+          (search needs) (sym (c .before .before .is-digit .ensures) ∙ c .before .if1 .taken)
+          ∙ loop .inv .2),
+    )
 
 returns : tie.Need-returns Inv-loop μ-loop
 returns c =
-    digits-stop (c .before .before .before .before .before .before .args .most) (search needs) (c .before .before .before .before .before .before .args .word .now) (c .before .before .before .before .loop .i) (c .before .before .before .before .loop .value) (search needs) (sym (c .before .is-digit .ensures) ∙ c .if1 .left) ∙ c .before .before .before .before .loop .inv .2
+    let back = c .before .before .before .before in let loop = back .loop in
+    let start = back .before .before in
+    digits-stop (start .args .most) (search needs) (start .args .word .now) (loop .i) (loop .value) (search needs)
+    (sym (c .before .is-digit .ensures) ∙ c .if1 .left)
+    ∙ loop .inv .2
 
 returns-2 : tie.Need-returns-2 Inv-loop μ-loop
 returns-2 c =
-    digits-end (c .before .before .before .before .args .most) (search needs) (c .before .before .before .before .args .word .now) (c .before .before .loop .i) (c .before .before .loop .value) (search needs) (search needs) ∙ c .before .before .loop .inv .2
+    let back = c .before .before in let loop = back .loop in
+    let start = back .before .before in
+    digits-end (start .args .most) (search needs) (start .args .word .now) (loop .i) (loop .value) (search needs)
+    (search needs)
+    ∙ loop .inv .2
 
 returns-3 : tie.Need-returns-3 Inv-loop μ-loop
 returns-3 c =
-    digits-large (c .before .before .before .before .args .most) (search needs) (c .before .before .before .before .args .word .now) (c .before .before .loop .i) (c .before .before .loop .value) (search needs) (search needs) ∙ c .before .before .loop .inv .2
+    let back = c .before .before in let loop = back .loop in
+    let start = back .before .before in
+    digits-large (start .args .most) (search needs) (start .args .word .now) (loop .i) (loop .value) (search needs)
+    (search needs)
+    ∙ loop .inv .2
 
 pub digits-value-spec : {M : Type 1} → statement M
 digits-value-spec =

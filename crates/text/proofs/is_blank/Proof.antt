@@ -19,7 +19,8 @@ returns-3 c = simp (ne-eqb _ _ (c .before .before .if1 .left), ne-eqb _ _ (c .be
 returns-4 : tie.Need-returns-4
 unfolding blank is
 returns-4 c =
-    let b = c .before .before .before .args .b in
+    let start = c .before .before .before in
+    let b = start .args .b in
     rw (ne-eqb b 32 (c .before .before .if1 .left), ne-eqb b 9 (c .before .if2 .left), ne-eqb b 13 (c .if3 .left)) refl
 
 pub is-blank-spec : {M : Type 1} → statement M

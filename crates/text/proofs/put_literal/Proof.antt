@@ -30,18 +30,31 @@ same-length c = search needs
 
 returns : tie.Need-returns
 returns c =
-    let l = c .before .before .before .before .before .before .before .before .before .before .before .before .args .l in
-    let f = c .before .before .before .before .before .before .before .before .before .before .before .before .fits .l in
-    put-same (put-then (c .before .before .before .before .before .before .put-byte .ensures) (c .before .before .put-number .ensures)) (ap (λ (v : ℕ). (45 ∷ []) ++ digits v) (answer natAbs l f (c .before .before .before .before .before .before .before .before .before .before .variable .ensures)) ∙ negative-text l (answered negative l f (c .before .before .before .before .before .before .before .before .before .is-negative .ensures) (c .before .before .before .before .before .before .before .before .if1 .taken)))
+    let back = c .before .before .before .before .before .before in let put-byte = back .put-byte in
+    let back = back .before .before in let if1 = back .if1 in
+    let back = back .before in let is-negative = back .is-negative in
+    let back = back .before in let variable = back .variable in
+    let start = back .before .before in
+    let l = start .args .l in
+    let f = start .fits .l in
+    put-same (put-then (put-byte .ensures) (c .before .before .put-number .ensures))
+    (ap (λ (v : ℕ). (45 ∷ []) ++ digits v) (answer natAbs l f (variable .ensures))
+    ∙ negative-text l (answered negative l f (is-negative .ensures) (if1 .taken)))
 
 same-length-2 : tie.Need-same-length-2
 same-length-2 c = search needs
 
 returns-2 : tie.Need-returns-2
 returns-2 c =
-    let l = c .before .before .before .before .before .before .before .before .args .l in
-    let f = c .before .before .before .before .before .before .before .before .fits .l in
-    put-same (c .before .before .put-number2 .ensures) (ap digits (answer natAbs l f (c .before .before .before .before .before .before .variable .ensures)) ∙ positive-text l (answered negative l f (c .before .before .before .before .before .is-negative .ensures) (c .before .before .before .before .if1 .left)))
+    let back = c .before .before .before .before in let if1 = back .if1 in
+    let back = back .before in let is-negative = back .is-negative in
+    let back = back .before in let variable = back .variable in
+    let start = back .before .before in
+    let l = start .args .l in
+    let f = start .fits .l in
+    put-same (c .before .before .put-number2 .ensures)
+    (ap digits (answer natAbs l f (variable .ensures))
+    ∙ positive-text l (answered negative l f (is-negative .ensures) (if1 .left)))
 
 pub put-literal-spec : {M : Type 1} → statement M
 put-literal-spec =

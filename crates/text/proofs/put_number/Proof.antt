@@ -20,7 +20,9 @@ add-end : tie.Need-add-end Inv-loop μ-loop
 add-end c = omega (arith, number-length (c .before .before .args .n) (search needs))
 
 loop-holds : tie.Need-loop-holds Inv-loop μ-loop
-loop-holds c = (refl, rw (c .digit-count .ensures) (writing-start (c .before .before .args .buf .now) (c .before .before .args .at) (c .before .before .args .n)))
+loop-holds c =
+    let start = c .before .before in
+    (refl, rw (c .digit-count .ensures) (writing-start (start .args .buf .now) (start .args .at) (start .args .n)))
 
 sub-k : tie.Need-sub-k Inv-loop μ-loop
 sub-k c = writing-room (c .before .loop .inv .1) (search needs)
@@ -38,7 +40,9 @@ loop-less : tie.Need-loop-less Inv-loop μ-loop
 loop-less c = search needs
 
 loop-again : tie.Need-loop-again Inv-loop μ-loop
-loop-again c = (search needs, rw (c .before .before .store .ensures) (writing-step (c .before .before .before .before .before .loop .inv .1) (search needs)))
+loop-again c =
+    let loop = c .before .before .before .before .before .loop in
+    (search needs, rw (c .before .before .store .ensures) (writing-step (loop .inv .1) (search needs)))
 
 add-store-2 : tie.Need-add-store-2 Inv-loop μ-loop
 add-store-2 c = search needs
@@ -53,7 +57,10 @@ same-length : tie.Need-same-length Inv-loop μ-loop
 same-length c = search needs
 
 returns : tie.Need-returns Inv-loop μ-loop
-returns c = rw (c .before .before .store2 .ensures, c .before .before .before .before .before .before .digit-count .ensures) (writing-end (c .before .before .before .before .before .loop .inv .1) (search needs))
+returns c =
+    let back = c .before .before .before .before .before in let loop = back .loop in
+    let digit-count = back .before .digit-count in
+    rw (c .before .before .store2 .ensures, digit-count .ensures) (writing-end (loop .inv .1) (search needs))
 
 pub put-number-spec : {M : Type 1} → statement M
 put-number-spec =

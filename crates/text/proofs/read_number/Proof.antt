@@ -1,4 +1,4 @@
-use Rattle.laws.proofs.Slices.{rest-is}
+use Rattle.theory_base.proofs.Slices.{rest-is}
 use Rattle.text.proofs.Numbers.{sign-plain, sign-minus, number-none, number-minus, number-plain}
 use Rattle.text.specs.Numbers.{natural-class, number-class, with-sign}
 use Rattle.definition.specs.Text.{natural}
@@ -41,11 +41,24 @@ signed-number-requires-2 c κs = search needs
 
 returns-2 : tie.Need-returns-2
 returns-2 c =
-    c .signed-number .ensures ∙ ap (with-sign true) (c .before .natural-up-to .ensures ∙ ap (λ (s : List ℕ). natural-class 70_000 (natural s)) (rest-is (c .before .before .before .before .before .before .before .args .word .now) 1)) ∙ sign-minus (natural (drop 1 (c .before .before .before .before .before .before .before .args .word .now))) ∙ ap number-class (number-minus (c .before .before .before .before .before .before .before .args .word .now) (c .before .before .before .before .before .if1 .left) (c .before .before .before .if2 .taken))
+    let back = c .before .before .before in let if2 = back .if2 in
+    let back = back .before .before in let if1 = back .if1 in
+    let start = back .before .before in
+    c .signed-number .ensures
+    ∙ ap (with-sign true)
+    (c .before .natural-up-to .ensures
+    ∙ ap (λ (s : List ℕ). natural-class 70_000 (natural s)) (rest-is (start .args .word .now) 1))
+    ∙ sign-minus (natural (drop 1 (start .args .word .now)))
+    ∙ ap number-class (number-minus (start .args .word .now) (if1 .left) (if2 .taken))
 
 returns-3 : tie.Need-returns-3
 returns-3 c =
-    c .signed-number2 .ensures ∙ ap (with-sign false) (c .before .natural-up-to2 .ensures) ∙ sign-plain (natural (c .before .before .before .before .before .before .args .word .now)) ∙ ap number-class (number-plain (c .before .before .before .before .before .before .args .word .now) (c .before .before .before .before .if1 .left) (c .before .before .if2 .left))
+    let back = c .before .before .before .before in let if1 = back .if1 in
+    let start = back .before .before in
+    c .signed-number2 .ensures
+    ∙ ap (with-sign false) (c .before .natural-up-to2 .ensures)
+    ∙ sign-plain (natural (start .args .word .now))
+    ∙ ap number-class (number-plain (start .args .word .now) (if1 .left) (c .before .before .if2 .left))
 
 pub read-number-spec : {M : Type 1} → statement M
 read-number-spec =

@@ -31,14 +31,23 @@ loop-less c = search needs
 
 loop-again : tie.Need-loop-again Inv-loop μ-loop
 loop-again c =
-    run-step _ (c .before .before .before .before .before .before .args .text .now) (c .before .before .before .before .loop .i) (search needs) (sym (c .before .belongs .ensures) ∙ c .if1 .taken) ∙ c .before .before .before .before .loop .inv
+    let back = c .before .before .before .before in let loop = back .loop in
+    let start = back .before .before in
+    run-step _ (start .args .text .now) (loop .i) (search needs) (sym (c .before .belongs .ensures) ∙ c .if1 .taken)
+    ∙ loop .inv
 
 returns : tie.Need-returns Inv-loop μ-loop
 returns c =
-    run-stop _ (c .before .before .before .before .before .before .args .text .now) (c .before .before .before .before .loop .i) (search needs) (sym (c .before .belongs .ensures) ∙ c .if1 .left) ∙ c .before .before .before .before .loop .inv
+    let back = c .before .before .before .before in let loop = back .loop in
+    let start = back .before .before in
+    run-stop _ (start .args .text .now) (loop .i) (search needs) (sym (c .before .belongs .ensures) ∙ c .if1 .left)
+    ∙ loop .inv
 
 returns-2 : tie.Need-returns-2 Inv-loop μ-loop
-returns-2 c = run-stop-end _ (c .before .before .before .args .text .now) (c .before .loop .i) (search needs) ∙ c .before .loop .inv
+returns-2 c =
+    let back = c .before in let loop = back .loop in
+    let start = back .before .before in
+    run-stop-end _ (start .args .text .now) (loop .i) (search needs) ∙ loop .inv
 
 pub run-end-spec : {M : Type 1} → statement M
 run-end-spec =

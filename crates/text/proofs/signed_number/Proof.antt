@@ -18,7 +18,11 @@ signed-requires c κs = search needs
 
 returns-2 : tie.Need-returns-2
 returns-2 c =
-    rw (c .before .before .before .before .n .given .1, c .before .before .if1 .taken) (at-arg Number.Value (c .signed .result) (sfits-of (c .signed .ok)) ∙ ap Number.Value (c .signed .ensures) ∙ sign-some _ (c .before .if2 .left))
+    let n = c .before .before .before .before .n in
+    rw (n .given .1, c .before .before .if1 .taken)
+    (at-arg Number.Value (c .signed .result) (sfits-of (c .signed .ok))
+    ∙ ap Number.Value (c .signed .ensures)
+    ∙ sign-some _ (c .before .if2 .left))
 
 signed-requires-2 : tie.Need-signed-requires-2
 signed-requires-2 c κs = search needs
@@ -31,7 +35,9 @@ enum-told-2 c = search needs
 
 returns-3 : tie.Need-returns-3
 returns-3 c =
-    rw (c .before .before .before .n .given .1, c .before .if1 .left) (at-arg Number.Value (c .signed2 .result) (sfits-of (c .signed2 .ok)) ∙ ap Number.Value (c .signed2 .ensures))
+    let n = c .before .before .before .n in
+    rw (n .given .1, c .before .if1 .left)
+    (at-arg Number.Value (c .signed2 .result) (sfits-of (c .signed2 .ok)) ∙ ap Number.Value (c .signed2 .ensures))
 
 returns-4 : tie.Need-returns-4
 returns-4 c = search needs

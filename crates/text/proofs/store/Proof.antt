@@ -15,7 +15,9 @@ returns : tie.Need-returns
 returns c = search needs
 
 returns-2 : tie.Need-returns-2
-returns-2 c = sym (set-out (now (c .before .args .buf)) (c .before .args .at) (c .before .args .b) (c .if1 .left))
+returns-2 c =
+    let start = c .before in
+    sym (set-out (now (start .args .buf)) (start .args .at) (start .args .b) (c .if1 .left))
 
 pub store-spec : {M : Type 1} → statement M
 store-spec = tie.close (tie.spec slice-write-buf same-length returns returns-2)

@@ -29,15 +29,25 @@ loop-less : tie.Need-loop-less Inv-loop μ-loop
 loop-less c = search needs
 
 loop-again : tie.Need-loop-again Inv-loop μ-loop
-loop-again c = (search needs, simp length-set (c .before .loop .inv .1), ap (λ (l : List ℕ). set l (c .before .loop .i) 0) (c .before .loop .inv .2) ∙ fill-more (c .before .loop .i) 0 (now (c .before .before .args .buf)) (search needs))
+loop-again c =
+    let loop = c .before .loop in (
+      search needs,
+      simp length-set (loop .inv .1),
+      ap (λ (l : List ℕ). set l (loop .i) 0) (loop .inv .2)
+          ∙ fill-more (loop .i) 0 (now (c .before .before .args .buf)) (search needs),
+    )
 
 same-length : tie.Need-same-length Inv-loop μ-loop
 same-length c = search needs
 
 returns : tie.Need-returns Inv-loop μ-loop
 returns c =
-    let e : c .before .loop .i ≡ length (now (c .before .before .args .buf)) = omega arith in
-    c .before .loop .inv .2 ∙ ap (λ (k : ℕ). replicate k 0 ++ drop k (now (c .before .before .args .buf))) e ∙ rw (drop-length, append-nil) refl
+    let back = c .before in let loop = back .loop in
+    let start = back .before in
+    let e : loop .i ≡ length (now (start .args .buf)) = omega arith in
+    loop .inv .2
+    ∙ ap (λ (k : ℕ). replicate k 0 ++ drop k (now (start .args .buf))) e
+    ∙ rw (drop-length, append-nil) refl
 
 pub zero-all-spec : {M : Type 1} → statement M
 zero-all-spec =

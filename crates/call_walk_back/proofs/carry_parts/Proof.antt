@@ -1,0 +1,74 @@
+use mathlib.Core.Path.{sym}
+use native.Mathlib.Omega.{arith}
+use lib.Seq.{length-take-le}
+use Rattle.call_walk_back.proofs.Outcome.{carried-walks}
+use borrow.Author.Needs.{needs}
+use Rattle.call_walk_back.proofs.carry_parts.Statement.{statement}
+use Rattle.call_walk_back.proofs.carry_parts.Tie as tie
+
+slice-aggregate-formula : tie.Need-slice-aggregate-formula
+slice-aggregate-formula c =
+    let start = c .before .before .before in
+    sym
+    (length-take-le (start .args .n) (start .args .work .now)
+    (omega (arith, start .pre .0, start .pre .1, start .pre .2)))
+
+mul-lines : tie.Need-mul-lines
+mul-lines c = search needs
+
+sub-lines : tie.Need-sub-lines
+sub-lines c = search needs
+
+part-lines-start : tie.Need-part-lines-start
+part-lines-start c = search needs
+
+part-lines-end : tie.Need-part-lines-end
+part-lines-end c = search needs
+
+mul-standing : tie.Need-mul-standing
+mul-standing c = search needs
+
+sub-standing : tie.Need-sub-standing
+sub-standing c = search needs
+
+part-standing-start : tie.Need-part-standing-start
+part-standing-start c = search needs
+
+part-standing-end : tie.Need-part-standing-end
+part-standing-end c = search needs
+
+carry-answer-requires : tie.Need-carry-answer-requires
+carry-answer-requires c κs = search needs
+
+carried-as-requires : tie.Need-carried-as-requires
+carried-as-requires c κs = search needs
+
+same-length : tie.Need-same-length
+same-length c = search needs
+
+same-length-2 : tie.Need-same-length-2
+same-length-2 c = search needs
+
+returns : tie.Need-returns
+returns c =
+    let carry-answer = c .before .before .before .before .before .carry-answer in
+    carried-walks _ _ _ (carry-answer .result) (c .carried-as .result) (carry-answer .ensures) (c .carried-as .ensures)
+
+pub carry-parts-spec : {M : Type 1} → statement M
+carry-parts-spec =
+    tie.close
+    (tie.spec
+    slice-aggregate-formula
+    mul-lines
+    sub-lines
+    part-lines-start
+    part-lines-end
+    mul-standing
+    sub-standing
+    part-standing-start
+    part-standing-end
+    carry-answer-requires
+    carried-as-requires
+    same-length
+    same-length-2
+    returns)

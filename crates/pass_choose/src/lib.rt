@@ -1,0 +1,75 @@
+// The list of choices: the unique literal clauses of 5 to 64 literals, in a store of their own.
+ghost use mathlib.Core.Path.{_≡_};
+ghost use mathlib.Core.List.{[], _∷_};
+ghost use Prim.Native.Nat.{_+_, _<_, _≤_};
+ghost use lib.ListN.{length, drop};
+ghost use Rattle.definition.specs.Calls.{numbers-of};
+ghost use Rattle.definition.specs.Counter.{choices};
+ghost use Rattle.store.specs.Store.{Formed, stored};
+ghost use Rattle.pass_choose.specs.Collecting.{choice-by, chosen-at, Joined, Walkable, Collectable, Collected};
+
+// Whether a clause is a choice.
+fn is_choice(counts: &[u32], clause: &[i32]) -> bool
+    ensures { λ r. ⌜ r ≡ choice-by (now (counts .entry)) (now (clause .entry)) ⌝ }
+{
+    if clause.len() < 5 {
+        return false;
+    }
+    if 64 < clause.len() {
+        return false;
+    }
+    pass_pure::is_unique(counts, clause)
+}
+
+// Puts a choice at the end of the list; the result is the place past it.
+fn append(chosen: &mut [i32], end: usize, clause: &[i32]) -> usize
+    requires { ⌜ (length (now clause) ≤ 64) × (end + (length (now clause) + 1) ≤ length (now chosen)) ⌝ }
+    ensures { λ r. ⌜ Joined (now (clause .entry) ∷ []) (now (chosen .entry)) end r (now (chosen .exit)) ⌝ }
+{
+    match store::append_clause(chosen, end, clause) {
+        store::Added::To(next) => next,
+        store::Added::Full => end,
+    }
+}
+
+// Puts the clause at a place at the end of the list if it stands and is a choice; the result is the place past the list.
+fn collect_at(store: &[i32], at: usize, counts: &[u32], chosen: &mut [i32], end: usize) -> usize
+    requires { ⌜ (at < length (now store)) × Formed (drop at (now store)) ⌝ }
+    requires { ⌜ end + numbers-of (chosen-at (now counts) (now store) at) ≤ length (now chosen) ⌝ }
+    ensures { λ r. ⌜ Joined (chosen-at (now (counts .entry)) (now (store .entry)) at) (now (chosen .entry)) end r (now (chosen .exit)) ⌝ }
+{
+    if literals::is_negative(store[at]) {
+        return end;
+    }
+    let next = store::next_at(store, at);
+    let first = at + 1;
+    if is_choice(counts, &store[first..next]) {
+        append(chosen, end, &store[first..next])
+    } else {
+        end
+    }
+}
+
+// Collects the choices of a store by the table of its counts; the result is the place past them.
+fn collect_all(store: &[i32], counts: &[u32], chosen: &mut [i32]) -> usize
+    requires { ⌜ Walkable (now store) (now counts) (now chosen) ⌝ }
+    ensures { λ r. ⌜ Collected (choices (stored (now (store .entry)))) (length (now (chosen .entry))) r (now (chosen .exit)) ⌝ }
+{
+    let mut end = 0;
+    let mut at = 0;
+    while at < store.len() {
+        end = collect_at(store, at, counts, chosen, end);
+        at = store::next_at(store, at);
+    }
+    end
+}
+
+// Collects the choices that stand in a store: unique literal clauses of 5 to 64 literals. The result is the place past them.
+pub fn collect(store: &[i32], chosen: &mut [i32]) -> usize
+    requires { ⌜ Collectable (now store) (now chosen) ⌝ }
+    ensures { λ r. ⌜ Collected (choices (stored (now (store .entry)))) (length (now (chosen .entry))) r (now (chosen .exit)) ⌝ }
+{
+    let mut counts = [0u32; 16002];
+    store::count_all(&mut counts, store);
+    collect_all(store, &counts, chosen)
+}

@@ -1,0 +1,76 @@
+-- The test by a table of one clause says whether the resolvent has a literal and its negation. Assumes nothing.
+use mathlib.Core.Path.{_≡_, refl, sym, ap, _∙_}
+use mathlib.Core.Logic.{_⊎_, inl, inr, ⊎-elim}
+use mathlib.Core.Bool.{Bool, true, false, not}
+use mathlib.Core.List.{List, [], _∷_, _++_, List·Memᴰ, List·Memᴰ·append-cases, List·Memᴰ·eq-of-singleton, Memᴰ·append-left, Memᴰ·append-right, Memᴰ·cast}
+use Prim.Native.Nat.{ℕ, _+_, _≤_}
+use native.Mathlib.Omega.{arith}
+use lib.Dec.{T, eqb}
+use lib.IntN.{ℤ, negℤ, negℤ-negℤ, natAbs}
+use lib.ListN.{getD, replicate}
+use Rattle.definition.specs.Lists.{bit, any}
+use Rattle.definition.specs.Literals.{Clause, same, holds, without, opposed}
+use Rattle.theory_base.proofs.Tests.{of-true, to-true, not-true, of-false, and-l, and-r, and-i, each-way}
+use Rattle.theory_base.proofs.Members.{any-mem, mem-any, unlike, unlike-false, holds-mem, mem-holds, opposes-mem, mem-opposes, Proper, proper-unopposed, natAbs-neg}
+use Rattle.literals.specs.Literal.{index-of}
+use Rattle.literals.proofs.Laws.{negation-small}
+use Rattle.theory_soundness.proofs.Times.{times-nil, times-cons}
+use Rattle.theory_soundness.proofs.Without.{without-mem, mem-without}
+use Rattle.store.specs.Tally.{tallied, tallied-all}
+use Rattle.pass_pure.specs.Table.{Counts, pure-in}
+use Rattle.pass_pure.specs.Pass.{reach}
+use Rattle.pass_pure.proofs.Tests.{counted-table}
+use Rattle.pass_clashes.specs.Resolving.{opposite-in}
+
+module _ (A B : Clause) (v : ℤ) (p : Proper A) (q : Proper B) (f : (x : ℤ) → List·Memᴰ x B → natAbs x ≤ reach) where
+  abbrev t : List ℕ
+  t = tallied (replicate (reach + reach + 2) 0) A
+
+  table : Counts reach t (A ∷ [])
+  unfolding tallied-all
+  table = counted-table reach (A ∷ []) (λ d i. Proper-of d (List·Memᴰ·eq-of-singleton i)) (omega arith)
+    where
+      Proper-of : (d : Clause) → d ≡ A → Proper d
+      Proper-of d e = rw e p
+
+  counted : (l : ℤ) → natAbs l ≤ reach → not (pure-in t l) ≡ holds (negℤ l) A
+  counted l b =
+      ap (λ (n : ℕ). not (eqb n 0)) (ap (λ (z : ℤ). getD t (index-of z) 0) (negation-small l (omega arith)) ∙ table (negℤ l) (rw natAbs-neg b) ∙ times-cons (negℤ l) A [] ∙ ap (λ (n : ℕ). bit (holds (negℤ l) A) + n) (times-nil (negℤ l)))
+      ∙ go (holds (negℤ l) A)
+    where
+      go : (r : Bool) → not (eqb (bit r + 0) 0) ≡ r
+      go true = refl
+      go false = refl
+
+  abbrev joint : Clause
+  joint = without v A ++ without (negℤ v) B
+
+  -- a literal of B other than -v whose negation is in A
+  opposite-mem : (l : ℤ) → List·Memᴰ l B → T (opposite-in t (negℤ v) l) → T (opposed joint)
+  unfolding opposed
+  opposite-mem l i u =
+      let apart = unlike (negℤ v) l (not-true (and-l (not (same (negℤ v) l)) (not (pure-in t l)) u)) in
+      let there = holds-mem (negℤ l) A (of-true (sym (counted l (f l i)) ∙ to-true (and-r (not (same (negℤ v) l)) (not (pure-in t l)) u))) in
+      mem-opposes joint joint l
+      (Memᴰ·append-right (without v A) (⊎-elim (λ e. absurd (apart (sym e))) (λ j. j) (mem-without (negℤ v) B l i)))
+      (Memᴰ·append-left (without (negℤ v) B) (⊎-elim (λ e. absurd (apart (sym (sym (negℤ-negℤ l) ∙ ap negℤ e)))) (λ j. j) (mem-without v A (negℤ l) there)))
+
+  mem-opposite : (l : ℤ) → List·Memᴰ l (without (negℤ v) B) → List·Memᴰ (negℤ l) (without v A) → T (any (opposite-in t (negℤ v)) B)
+  mem-opposite l i j =
+      let m = without-mem (negℤ v) B l i in
+      let n = without-mem v A (negℤ l) j in
+      mem-any (opposite-in t (negℤ v)) B l (m .0)
+      (and-i (not (same (negℤ v) l)) (not (pure-in t l)) (of-false (unlike-false (negℤ v) l (λ e. m .1 (sym e)))) (of-true (counted l (f l (m .0)) ∙ to-true (mem-holds (negℤ l) A (n .0)))))
+
+  opposed-mem : (x : ℤ) → List·Memᴰ x (without v A) ⊎ List·Memᴰ x (without (negℤ v) B) → List·Memᴰ (negℤ x) (without v A) ⊎ List·Memᴰ (negℤ x) (without (negℤ v) B) → T (any (opposite-in t (negℤ v)) B)
+  opposed-mem x (inl i) (inl j) = absurd (proper-unopposed A p x (without-mem v A x i .0) (without-mem v A (negℤ x) j .0))
+  opposed-mem x (inr i) (inr j) = absurd (proper-unopposed B q x (without-mem (negℤ v) B x i .0) (without-mem (negℤ v) B (negℤ x) j .0))
+  opposed-mem x (inl i) (inr j) = mem-opposite (negℤ x) j (Memᴰ·cast (negℤ-negℤ x) i)
+  opposed-mem x (inr i) (inl j) = mem-opposite x i j
+
+  pub opposed-is : any (opposite-in t (negℤ v)) B ≡ opposed joint
+  unfolding opposed
+  opposed-is =
+      each-way {a = any (opposite-in t (negℤ v)) B} {b = opposed joint}
+      (λ u. let r = any-mem (opposite-in t (negℤ v)) B u in opposite-mem (r .0) (r .1) (r .2))
+      (λ u. let r = opposes-mem joint joint u in opposed-mem (r .0) (List·Memᴰ·append-cases (without v A) (r .1)) (List·Memᴰ·append-cases (without v A) (r .2)))

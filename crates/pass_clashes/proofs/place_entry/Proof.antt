@@ -1,0 +1,129 @@
+use native.Mathlib.Omega.{arith}
+use denote.Ref.{now}
+use borrow.Author.Needs.{sfits-of}
+use Rattle.literals.specs.Literal.{negative}
+use Rattle.literals.proofs.Laws.{answered}
+use Rattle.store.specs.Store.{header-at}
+use Rattle.store.proofs.Laws.{formed-next}
+use Rattle.pass_clashes.proofs.Filling.{entry-deleted, entry-unique, entry-other}
+use borrow.Author.Needs.{needs}
+use Rattle.pass_clashes.proofs.place_entry.Statement.{statement}
+use Rattle.pass_clashes.proofs.place_entry.Tie as tie
+
+mul-is-negative : tie.Need-mul-is-negative
+mul-is-negative c = search needs
+
+shared-slice-copy-out-is-negative : tie.Need-shared-slice-copy-out-is-negative
+shared-slice-copy-out-is-negative c = search needs
+
+is-negative-requires : tie.Need-is-negative-requires
+is-negative-requires c κs = search needs
+
+returns : tie.Need-returns
+returns c =
+    let start = c .before .before .before .before .before in
+    entry-deleted (now (start .args .places)) (now (start .args .counts)) (now (start .args .store)) (start .args .at)
+    (answered negative (header-at (now (start .args .store)) (start .args .at))
+    (sfits-of (c .before .before .is-negative-arg .given)) (c .before .is-negative .ensures) (c .if1 .taken))
+
+next-at-requires : tie.Need-next-at-requires
+next-at-requires c κs = search needs
+
+add-first : tie.Need-add-first
+add-first c = search needs
+
+mul-is-unique : tie.Need-mul-is-unique
+mul-is-unique c = search needs
+
+sub-is-unique : tie.Need-sub-is-unique
+sub-is-unique c = search needs
+
+part-is-unique-start : tie.Need-part-is-unique-start
+part-is-unique-start c = search needs
+
+part-is-unique-end : tie.Need-part-is-unique-end
+part-is-unique-end c =
+    let start = c .before .before .before .before .before .before in
+    omega (
+      arith,
+      c .next-at .ensures,
+      formed-next (now (start .args .store)) (start .args .at) (start .pre .0) (start .pre .1) .0,
+    )
+
+is-unique-requires : tie.Need-is-unique-requires
+is-unique-requires c κs = search needs
+
+mul-set-places : tie.Need-mul-set-places
+mul-set-places c = search needs
+
+sub-set-places : tie.Need-sub-set-places
+sub-set-places c = search needs
+
+part-set-places-start : tie.Need-part-set-places-start
+part-set-places-start c = search needs
+
+part-set-places-end : tie.Need-part-set-places-end
+part-set-places-end c =
+    let back = c .before .before .before .before in let next-at = back .next-at in
+    let start = back .before .before .before .before .before .before in
+    omega (
+      arith,
+      next-at .ensures,
+      formed-next (now (start .args .store)) (start .args .at) (start .pre .0) (start .pre .1) .0,
+    )
+
+set-places-requires : tie.Need-set-places-requires
+set-places-requires c κs = search needs
+
+same-length : tie.Need-same-length
+same-length c = search needs
+
+returns-2 : tie.Need-returns-2
+returns-2 c =
+    let back = c .before .before .before .before .before in let if2 = back .if2 in
+    let back = back .before in let is-unique = back .is-unique in
+    let back = back .before .before in let next-at = back .next-at in
+    let back = back .before in let if1 = back .if1 in
+    let back = back .before in let is-negative = back .is-negative in
+    let back = back .before in let is-negative-arg = back .is-negative-arg in
+    let start = back .before .before .before in
+    entry-unique (now (start .args .places)) (now (start .args .counts)) (now (start .args .store)) (start .args .at)
+    (next-at .result) (next-at .ensures)
+    (answered negative (header-at (now (start .args .store)) (start .args .at)) (sfits-of (is-negative-arg .given))
+    (is-negative .ensures) (if1 .left)) (is-unique .ensures) (if2 .taken) (c .before .before .set-places .ensures)
+
+returns-3 : tie.Need-returns-3
+returns-3 c =
+    let back = c .before .before .before in let next-at = back .next-at in
+    let back = back .before in let if1 = back .if1 in
+    let back = back .before in let is-negative = back .is-negative in
+    let back = back .before in let is-negative-arg = back .is-negative-arg in
+    let start = back .before .before .before in
+    entry-other (now (start .args .places)) (now (start .args .counts)) (now (start .args .store)) (start .args .at)
+    (next-at .result) (next-at .ensures)
+    (answered negative (header-at (now (start .args .store)) (start .args .at)) (sfits-of (is-negative-arg .given))
+    (is-negative .ensures) (if1 .left)) (c .before .is-unique .ensures) (c .if2 .left)
+
+pub place-entry-spec : {M : Type 1} → statement M
+place-entry-spec =
+    tie.close
+    (tie.spec
+    mul-is-negative
+    shared-slice-copy-out-is-negative
+    is-negative-requires
+    returns
+    next-at-requires
+    add-first
+    mul-is-unique
+    sub-is-unique
+    part-is-unique-start
+    part-is-unique-end
+    is-unique-requires
+    mul-set-places
+    sub-set-places
+    part-set-places-start
+    part-set-places-end
+    set-places-requires
+    same-length
+    returns-2
+    returns-3)

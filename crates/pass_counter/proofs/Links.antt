@@ -1,0 +1,134 @@
+-- The literals of the counter clauses as the code makes them, and the stages in parts. Assumes nothing.
+use mathlib.Core.Path.{_≡_, refl, sym, ap, ap₂, _∙_}
+use mathlib.Core.Bool.{true, false}
+use mathlib.Core.List.{List, [], _∷_, _++_}
+use Prim.Native.Nat.{ℕ, _+_, _-_, _≤_}
+use native.Mathlib.Omega.{arith}
+use lib.IntN.{ℤ, pos, negℤ}
+use lib.ListN.{length}
+use mir.Syntax.{w32}
+use mir.Val.{SFits, ofZ, toZ}
+use mir.ValLaws.{toZ-ofZ}
+use Rattle.definition.specs.Lists.{for-from}
+use Rattle.definition.specs.Literals.{Clause, Formula}
+use Rattle.definition.specs.Text.{Bytes}
+use Rattle.definition.specs.Counter.{size, lit, new, stage-2, stage-3, counter}
+use Rattle.literals.specs.Literal.{negation, signed-of}
+use Rattle.literals.proofs.Laws.{signed-small}
+use Rattle.progress.specs.declared.Progress.{Progress}
+use Rattle.theory_counter.proofs.Ready.{of-literals}
+use Rattle.pass_counter.specs.Pairs.{literal-at}
+use Rattle.pass_counter.specs.Growth.{Grow-room, Grown, link-2, link-3, Small}
+use Rattle.pass_counter.proofs.Places.{negation-at}
+use Rattle.pass_counter.proofs.Growing.{grow-first, grow-rest, grown-then, grown-length}
+
+-- ---- literals passed on
+
+pub two-passed : {x y a b : ℤ} → SFits w32 x → SFits w32 y → x ≡ a → y ≡ b → _≡_ {A = Formula} ((toZ w32 (ofZ w32 x) ∷ toZ w32 (ofZ w32 y) ∷ []) ∷ []) ((a ∷ b ∷ []) ∷ [])
+two-passed {x} {y} f g d e = ap₂ (λ (u v : ℤ). (u ∷ v ∷ []) ∷ []) (toZ-ofZ w32 x f ∙ d) (toZ-ofZ w32 y g ∙ e)
+
+pub three-passed : {x y z a b c : ℤ} → SFits w32 x → SFits w32 y → SFits w32 z → x ≡ a → y ≡ b → z ≡ c → _≡_ {A = Formula} ((toZ w32 (ofZ w32 x) ∷ toZ w32 (ofZ w32 y) ∷ toZ w32 (ofZ w32 z) ∷ []) ∷ []) ((a ∷ b ∷ c ∷ []) ∷ [])
+three-passed {x} {y} {z} {a} {b} {c} f g h d e k =
+    ap₂ (λ (u v : ℤ). (u ∷ v ∷ toZ w32 (ofZ w32 z) ∷ []) ∷ []) (toZ-ofZ w32 x f ∙ d) (toZ-ofZ w32 y g ∙ e) ∙ ap (λ (w : ℤ). (a ∷ b ∷ w ∷ []) ∷ []) (toZ-ofZ w32 z h ∙ k)
+
+pub grow-as : {f g : Formula} {size room : ℕ} {p : Progress} → Grow-room f size p → f ≡ g → size ≡ room → Grow-room g room p
+grow-as r e s = rw (e, s) at r
+
+pub grown-as : {f g : Formula} {w v : List ℤ} {x y : Bytes} {p q : Progress} → Grown f w x p v y q → f ≡ g → Grown g w x p v y q
+grown-as a e = rw e at a
+
+-- ---- the literals of a choice, old and new
+
+module _ {l : Clause} {below : ℕ} (s : Small l below) where
+  pub new-is : (m n : ℕ) → n ≡ below + m → m ≤ 64 → signed-of false n ≡ new (of-literals l below) m
+  unfolding new
+  new-is m n e h = signed-small false n (omega (arith, s .new-few)) ∙ ap pos e
+
+  pub new-negated : (m n : ℕ) → n ≡ below + m → m ≤ 64 → signed-of true n ≡ negℤ (new (of-literals l below) m)
+  unfolding new
+  new-negated m n e h = signed-small true n (omega (arith, s .new-few)) ∙ ap (λ (k : ℕ). negℤ (pos k)) e
+
+  pub lit-negated : (i : ℕ) → 1 ≤ i → i ≤ length l → negation (literal-at l (i - 1)) ≡ negℤ (lit (of-literals l below) i)
+  unfolding lit
+  lit-negated i a b = negation-at l (s .reach) (i - 1) (omega arith)
+
+pub lit-is : (l : Clause) (below i : ℕ) → literal-at l (i - 1) ≡ lit (of-literals l below) i
+unfolding lit
+lit-is l below i = refl
+
+-- ---- the clauses of the literal li, from i = 2 on, as the code makes them
+
+module _ {l : Clause} {below : ℕ} (s : Small l below) (i : ℕ) (a : 2 ≤ i) (b : i ≤ length l) where
+  pub first-made : {x y : ℤ} → SFits w32 x → SFits w32 y → SFits w32 (literal-at l (i - 1)) → x ≡ signed-of true (below + i) → y ≡ signed-of false (below + i - 1) →
+      _≡_ {A = Formula} ((toZ w32 (ofZ w32 x) ∷ toZ w32 (ofZ w32 y) ∷ toZ w32 (ofZ w32 (literal-at l (i - 1))) ∷ []) ∷ []) ((negℤ (new (of-literals l below) i) ∷ new (of-literals l below) (i - 1) ∷ lit (of-literals l below) i ∷ []) ∷ [])
+  first-made f g h d e =
+      three-passed f g h (d ∙ new-negated s i (below + i) refl (omega (arith, s .most-literals))) (e ∙ new-is s (i - 1) (below + i - 1) (omega arith) (omega (arith, s .most-literals))) (lit-is l below i)
+
+  pub second-made : {x y : ℤ} → SFits w32 x → SFits w32 y → x ≡ signed-of false (below + i) → y ≡ signed-of true (below + i - 1) →
+      _≡_ {A = Formula} ((toZ w32 (ofZ w32 x) ∷ toZ w32 (ofZ w32 y) ∷ []) ∷ []) ((new (of-literals l below) i ∷ negℤ (new (of-literals l below) (i - 1)) ∷ []) ∷ [])
+  second-made f g d e =
+      two-passed f g (d ∙ new-is s i (below + i) refl (omega (arith, s .most-literals))) (e ∙ new-negated s (i - 1) (below + i - 1) (omega arith) (omega (arith, s .most-literals)))
+
+  pub third-made : {x y : ℤ} → SFits w32 x → SFits w32 y → x ≡ signed-of false (below + i) → y ≡ negation (literal-at l (i - 1)) →
+      _≡_ {A = Formula} ((toZ w32 (ofZ w32 x) ∷ toZ w32 (ofZ w32 y) ∷ []) ∷ []) ((new (of-literals l below) i ∷ negℤ (lit (of-literals l below) i) ∷ []) ∷ [])
+  third-made f g d e = two-passed f g (d ∙ new-is s i (below + i) refl (omega (arith, s .most-literals))) (e ∙ lit-negated s i (omega arith) b)
+
+  pub link-3-made : {x y : ℤ} → SFits w32 x → SFits w32 y → x ≡ signed-of true (below + i - 1) → y ≡ negation (literal-at l (i - 1)) →
+      _≡_ {A = Formula} ((toZ w32 (ofZ w32 x) ∷ toZ w32 (ofZ w32 y) ∷ []) ∷ []) (link-3 (of-literals l below) i)
+  link-3-made f g d e = two-passed f g (d ∙ new-negated s (i - 1) (below + i - 1) (omega arith) (omega (arith, s .most-literals))) (e ∙ lit-negated s i (omega arith) b)
+
+-- ---- the stages in parts
+
+-- the clauses of stage 2 behind the first of a literal, and the last
+abbrev pub link-2-more : Clause → ℕ → ℕ → Formula
+link-2-more l below i = (new (of-literals l below) i ∷ negℤ (new (of-literals l below) (i - 1)) ∷ []) ∷ (new (of-literals l below) i ∷ negℤ (lit (of-literals l below) i) ∷ []) ∷ []
+
+abbrev pub link-2-last : Clause → ℕ → ℕ → Formula
+link-2-last l below i = (new (of-literals l below) i ∷ negℤ (lit (of-literals l below) i) ∷ []) ∷ []
+
+pub link-2-parts : (l : Clause) (below i : ℕ) → link-2 (of-literals l below) i ≡
+    ((negℤ (new (of-literals l below) i) ∷ new (of-literals l below) (i - 1) ∷ lit (of-literals l below) i ∷ []) ∷ []) ++ (((new (of-literals l below) i ∷ negℤ (new (of-literals l below) (i - 1)) ∷ []) ∷ []) ++ link-2-last l below i)
+link-2-parts l below i = refl
+
+-- the clauses of stage 2 from the second literal on, and with the second clause
+abbrev pub stage-2-last : Clause → ℕ → Formula
+stage-2-last l below = for-from 2 (length l - 2) (link-2 (of-literals l below))
+
+abbrev pub stage-2-more : Clause → ℕ → Formula
+stage-2-more l below = ((new (of-literals l below) 1 ∷ negℤ (lit (of-literals l below) 1) ∷ []) ∷ []) ++ stage-2-last l below
+
+pub stage-2-parts : (l : Clause) (below : ℕ) → stage-2 (of-literals l below) ≡ ((negℤ (new (of-literals l below) 1) ∷ lit (of-literals l below) 1 ∷ []) ∷ []) ++ stage-2-more l below
+unfolding stage-2 size
+stage-2-parts l below = refl
+
+-- the last clause of stage 3
+abbrev pub stage-3-last : Clause → ℕ → Formula
+stage-3-last l below = (new (of-literals l below) (length l - 1) ∷ lit (of-literals l below) (length l) ∷ []) ∷ []
+
+pub stage-3-parts : (l : Clause) (below : ℕ) → stage-3 (of-literals l below) ≡ for-from 2 (length l - 1) (link-3 (of-literals l below)) ++ stage-3-last l below
+unfolding stage-3 size
+stage-3-parts l below = refl
+
+pub counter-parts : (l : Clause) (below : ℕ) → counter (of-literals l below) ≡ stage-2 (of-literals l below) ++ stage-3 (of-literals l below)
+unfolding counter
+counter-parts l below = refl
+
+-- ---- parts added one after another, as the code makes them
+
+pub first-room : {F f : Formula} (g : Formula) {made : Formula} {size : ℕ} {p : Progress} → F ≡ f ++ g → made ≡ f → Grow-room F size p → Grow-room made size p
+first-room {f = f} g e d o = grow-as (grow-first f g (rw e at o)) (sym d) refl
+
+pub rest-room : {F f g made more : Formula} {w v : List ℤ} {x y : Bytes} {p q : Progress} → F ≡ f ++ g → made ≡ f → more ≡ g → Grow-room F (length w) p → Grown made w x p v y q → Grow-room more (length v) q
+rest-room {f = f} {g = g} e d k o a = let b = grown-as a d in grow-as (grow-rest f g (rw e at o) b) (sym k) (sym (grown-length b))
+
+pub two-grown : {F f g made more : Formula} {w v u : List ℤ} {x y z : Bytes} {p q r : Progress} → F ≡ f ++ g → made ≡ f → more ≡ g → Grown made w x p v y q → Grown more v y q u z r → Grown F w x p u z r
+two-grown e d k a b = grown-as (grown-then (grown-as a d) (grown-as b k)) (sym e)
+
+pub second-room : {F f g : Formula} (h : Formula) {made more : Formula} {w v : List ℤ} {x y : Bytes} {p q : Progress} → F ≡ f ++ (g ++ h) → made ≡ f → more ≡ g → Grow-room F (length w) p → Grown made w x p v y q → Grow-room more (length v) q
+second-room {g = g} h e d k o a = first-room h refl k (rest-room {g = g ++ h} {more = g ++ h} e d refl o a)
+
+pub third-room : {F f g h made more last : Formula} {w v u : List ℤ} {x y z : Bytes} {p q r : Progress} → F ≡ f ++ (g ++ h) → made ≡ f → more ≡ g → last ≡ h → Grow-room F (length w) p → Grown made w x p v y q → Grown more v y q u z r → Grow-room last (length u) r
+third-room {g = g} {h = h} e d k m o a b = rest-room {F = g ++ h} refl k m (rest-room {g = g ++ h} {more = g ++ h} e d refl o a) b
+
+pub three-grown : {F f g h made more last : Formula} {w v u t : List ℤ} {x y z o : Bytes} {p q r n : Progress} → F ≡ f ++ (g ++ h) → made ≡ f → more ≡ g → last ≡ h → Grown made w x p v y q → Grown more v y q u z r → Grown last u z r t o n → Grown F w x p t o n
+three-grown {g = g} {h = h} e d k m a b c = two-grown {more = g ++ h} e d refl a (two-grown {F = g ++ h} refl k m b c)

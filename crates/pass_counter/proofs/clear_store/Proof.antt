@@ -1,0 +1,30 @@
+use Rattle.pass_counter.proofs.Steps.{countable-then}
+use borrow.Author.Needs.{needs}
+use Rattle.pass_counter.proofs.clear_store.Statement.{statement}
+use Rattle.pass_counter.proofs.clear_store.Tie as tie
+
+delete-clause-requires : tie.Need-delete-clause-requires
+delete-clause-requires c κs = search needs
+
+take-pairs-requires : tie.Need-take-pairs-requires
+take-pairs-requires c κs =
+    let back = c .before .before .before in let delete-clause = back .delete-clause in
+    let start = back .before .before .before .before in
+    countable-then (start .pre) (delete-clause .ensures)
+
+same-length : tie.Need-same-length
+same-length c = search needs
+
+same-length-2 : tie.Need-same-length-2
+same-length-2 c = search needs
+
+returns : tie.Need-returns
+returns c =
+    let back = c .before .before .before in let take-pairs = back .take-pairs in
+    let delete-clause = back .before .before .before .before .delete-clause in
+    rw (delete-clause .ensures .left) at (take-pairs .ensures)
+
+pub clear-store-spec : {M : Type 1} → statement M
+clear-store-spec =
+    tie.close
+    (tie.spec delete-clause-requires take-pairs-requires same-length same-length-2 returns)

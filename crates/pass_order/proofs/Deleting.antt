@@ -1,0 +1,187 @@
+-- Deletions one after the other. Assumes nothing.
+use mathlib.Core.Path.{_≡_, refl, sym, ap, ap₂, subst, _∙_}
+use mathlib.Core.Bool.{Bool, true, false}
+use mathlib.Core.List.{List, [], _∷_, _++_, map, map-append, append-assoc}
+use Prim.Native.Nat.{ℕ, suc, _+_, _-_, _≤_, _<_, _^_}
+use native.Mathlib.Omega.{arith}
+use lib.Dec.{ltb}
+use lib.IntN.{ℤ, pos, negℤ, natAbs}
+use lib.ListN.{length, getD, take, length-append}
+use lib.Seq.{sets}
+use mir.Syntax.{w32}
+use mir.Val.{SFits, ofZ, toZ}
+use mir.ValLaws.{toZ-ofZ}
+use Rattle.definition.specs.Lists.{only-if, for-from}
+use Rattle.definition.specs.Literals.{Clause, Formula}
+use Rattle.definition.specs.Text.{Bytes}
+use Rattle.definition.specs.Standing.{deletion}
+use Rattle.theory_base.proofs.Loops.{for-from-snoc, getD-mem, for-from-around}
+use Rattle.theory_base.proofs.Fitting.{Fit-all}
+use Rattle.definition.specs.Counter.{size, lit, new}
+use Rattle.definition.specs.Order.{previous, negated-new, deletions-of}
+use Rattle.literals.specs.Literal.{signed-of, negation}
+use Rattle.literals.proofs.Laws.{at-arg2, signed-small, negation-small}
+use Rattle.theory_soundness.proofs.Removals.{take-all, take-all-++}
+use Rattle.store.specs.Store.{Formed, stored}
+use Rattle.progress.specs.declared.Progress.{Progress}
+use Rattle.progress.proofs.Laws.{written-none, written-then, written-length, room-first, room-rest}
+use Rattle.theory_counter.proofs.Ready.{of-literals}
+use Rattle.pass_order.specs.Order.{first-deletion, Deletable, Deletes}
+use Rattle.pass_order.proofs.Writing.{wanted, new-arg, array-clause}
+
+pub deletes-none : {s : List ℤ} (log : Bytes) (p : Progress) → Formed s → Deletes [] s log p s log p
+deletes-none log p f = record { formed = f; stands = refl; written = written-none log p p refl refl; kept = refl }
+
+pub deletable-first : (A B : List Clause) {s : List ℤ} {p : Progress} → Deletable (A ++ B) s p → Deletable A s p
+deletable-first A B d = record { formed = d .formed; room = room-first (map deletion A) (map deletion B) (rw (map-append deletion A B) at (d .room)) }
+
+module _ (A B : List Clause) {s s1 : List ℤ} {x y : Bytes} {p q : Progress} where
+  pub deletable-rest : Deletable (A ++ B) s p → Deletes A s x p s1 y q → Deletable B s1 q
+  deletable-rest d e = record { formed = e .formed; room = room-rest (map deletion A) (map deletion B) (rw (map-append deletion A B) at (d .room)) (e .written) }
+
+  pub deletes-then : {s2 : List ℤ} {z : Bytes} {r : Progress} → Deletes A s x p s1 y q → Deletes B s1 y q s2 z r → Deletes (A ++ B) s x p s2 z r
+  deletes-then d e = record {
+    formed = e .formed;
+    stands = e .stands ∙ ap (λ (F : Formula). take-all F B) (d .stands) ∙ sym (take-all-++ (stored s) A B);
+    written = rw (map-append deletion A B) (written-then (d .written) (e .written));
+    kept = e .kept ∙ d .kept;
+  }
+
+-- ---- for i = 1, 2, ..
+
+-- those up to place i - 1 are done
+pub record Deleting (f : ℕ → List Clause) (n : ℕ) (old : List ℤ) (old-log : Bytes) (p : Progress) (i : ℕ) (s : List ℤ) (log : Bytes) (q : Progress) : Type 0 where
+  pub from : 1 ≤ i
+  pub within : i ≤ n + 1
+  pub size : length s ≡ length old
+  pub log-size : length log ≡ length old-log
+  pub done : Deletes (for-from 1 (i - 1) f) old old-log p s log q
+
+pub deleting-start : (f : ℕ → List Clause) (n : ℕ) (s : List ℤ) (log : Bytes) (p : Progress) → Formed s → Deleting f n s log p 1 s log p
+unfolding for-from
+deleting-start f n s log p g = record { from = omega arith; within = omega arith; size = refl; log-size = refl; done = deletes-none log p g }
+
+module _ {f : ℕ → List Clause} {n : ℕ} {old : List ℤ} {x : Bytes} {p : Progress} {i : ℕ} {s : List ℤ} {y : Bytes} {q : Progress} (d : Deleting f n old x p i s y q) (h : i ≤ n) where
+  split : for-from 1 n f ≡ for-from 1 (i - 1) f ++ (f i ++ for-from (suc i) (n - i) f)
+  split =
+      let e : 1 + n - suc i ≡ n - i = omega arith in
+      for-from-around 1 n i f (d .from) (omega arith) ∙ ap (λ (m : ℕ). for-from 1 (i - 1) f ++ (f i ++ for-from (suc i) m f)) e
+
+  pub deleting-room : Deletable (for-from 1 n f) old p → Deletable (f i) s q
+  deleting-room r =
+      deletable-first (f i) (for-from (suc i) (n - i) f)
+      (deletable-rest (for-from 1 (i - 1) f) (f i ++ for-from (suc i) (n - i) f) (rw split at r) (d .done))
+
+  pub deleting-step : {t : List ℤ} {z : Bytes} {r : Progress} → length t ≡ length s → Deletes (f i) s y q t z r → Deleting f n old x p (i + 1) t z r
+  deleting-step {t} {z} {r} a e =
+      let g : i + 1 - 1 ≡ suc (i - 1) = omega (arith, d .from) in
+      let j : 1 + (i - 1) ≡ i = omega (arith, d .from) in
+      let k : for-from 1 (i + 1 - 1) f ≡ for-from 1 (i - 1) f ++ f i = ap (λ (m : ℕ). for-from 1 m f) g ∙ for-from-snoc 1 (i - 1) f ∙ ap (λ (m : ℕ). for-from 1 (i - 1) f ++ f m) j in
+      record {
+        from = omega arith;
+        within = omega arith;
+        size = a ∙ d .size;
+        log-size = written-length (e .written) ∙ d .log-size;
+        done = subst (λ (D : List Clause). Deletes D old x p t z r) (sym k) (deletes-then (for-from 1 (i - 1) f) (f i) (d .done) e);
+      }
+
+pub deleting-end : {f : ℕ → List Clause} {n : ℕ} {old : List ℤ} {x : Bytes} {p : Progress} {i : ℕ} {s : List ℤ} {y : Bytes} {q : Progress} → Deleting f n old x p i s y q → n < i → Deletes (for-from 1 n f) old x p s y q
+deleting-end {f} {n} {old} {x} {p} {i} {s} {y} {q} d h =
+    let e : i - 1 ≡ n = omega (arith, d .within) in
+    subst (λ (k : ℕ). Deletes (for-from 1 k f) old x p s y q) e (d .done)
+
+-- ---- the clauses as i32
+
+pub pair-is : (b : Bool) (x y : ℤ) → b ≡ true → SFits w32 x → SFits w32 y → only-if b ((x ∷ y ∷ []) ∷ []) ≡ (toZ w32 (ofZ w32 x) ∷ toZ w32 (ofZ w32 y) ∷ []) ∷ []
+pair-is b x y e f g = wanted b ((x ∷ y ∷ []) ∷ []) e ∙ sym (at-arg2 (λ (m n : ℤ). (m ∷ n ∷ []) ∷ []) x y f g)
+
+one-long : (b : Bool) (x : ℤ) → length (only-if b (x ∷ [])) ≤ 1
+unfolding only-if
+one-long true x = omega arith
+one-long false x = omega arith
+
+-- the clause with the literal itself, written into an array
+module _ (l : ℤ) (i n below : ℕ) (f : SFits w32 l) (h : i ≤ 64) (k : below + 64 ≤ 70000) (z y : ℤ) (p : SFits w32 z) (q : SFits w32 y)
+    (o : z ≡ signed-of true (below + i)) (u : y ≡ signed-of false (below + (i - 1))) where
+  abbrev A : Clause
+  A = only-if (ltb i n) (toZ w32 (ofZ w32 z) ∷ [])
+
+  abbrev B : Clause
+  B = only-if (ltb 1 i) (toZ w32 (ofZ w32 y) ∷ [])
+
+  abbrev base : List ℤ
+  base = toZ w32 (ofZ w32 l) ∷ pos 0 ∷ pos 0 ∷ []
+
+  pub positive-is : {w1 w2 : List ℤ} {a b : ℕ} → a ≡ 1 + length (only-if (ltb i n) (toZ w32 (ofZ w32 z) ∷ [])) → w1 ≡ sets (toZ w32 (ofZ w32 l) ∷ pos 0 ∷ pos 0 ∷ []) 1 (only-if (ltb i n) (toZ w32 (ofZ w32 z) ∷ [])) →
+      b ≡ a + length (only-if (ltb 1 i) (toZ w32 (ofZ w32 y) ∷ [])) → w2 ≡ sets w1 a (only-if (ltb 1 i) (toZ w32 (ofZ w32 y) ∷ [])) → take b w2 ≡ first-deletion l i n below
+  positive-is a b c d =
+      array-clause A B base l (ap (λ (m : ℤ). m ∷ []) (toZ-ofZ w32 l f))
+      (omega (arith, length-append A B, one-long (ltb i n) (toZ w32 (ofZ w32 z)), one-long (ltb 1 i) (toZ w32 (ofZ w32 y)))) a b c d
+      ∙ ap₂ (λ (r s : Clause). (l ∷ r) ++ s) (new-arg (ltb i n) true below i z p o (omega arith)) (new-arg (ltb 1 i) false below (i - 1) y q u (omega arith))
+
+pub one-room : (b : Bool) (x : ℤ) → 1 + length (only-if b (x ∷ [])) ≤ 3
+one-room b x = omega (arith, one-long b x)
+
+pub two-room : (b c : Bool) (x y : ℤ) {a n : ℕ} → a ≡ 1 + length (only-if b (x ∷ [])) → n ≡ 3 → a + length (only-if c (y ∷ [])) ≤ n
+two-room b c x y e f = omega (arith, one-long b x, one-long c y)
+
+pub long-room : (b c : Bool) (x y : ℤ) {a d n m : ℕ} → a ≡ 1 + length (only-if b (x ∷ [])) → n ≡ 3 → d ≡ a + length (only-if c (y ∷ [])) → m ≡ n → (d ≤ m) × (d ≤ 3)
+long-room b c x y e f g h = (omega (arith, one-long b x, one-long c y), omega (arith, one-long b x, one-long c y))
+
+-- ---- the clauses with one literal
+module _ (l : Clause) (below i : ℕ) (h : 1 ≤ i) (b : i ≤ length l) (n : length l ≤ 64) (k : below + 64 ≤ 70000) (u : Fit-all 8000 l) (s : SFits w32 (getD l (i - 1) (pos 0)))
+    {store : List ℤ} {p : Progress} (r : Deletable (deletions-of (of-literals l below) i) store p) where
+  abbrev x : ℤ
+  x = getD l (i - 1) (pos 0)
+
+  abbrev D1 : List Clause
+  D1 = first-deletion (toZ w32 (ofZ w32 x)) i (length l) below ∷ []
+
+  abbrev Y : List Clause
+  Y = only-if (ltb i (length l)) ((negℤ x ∷ pos (below + i) ∷ []) ∷ [])
+
+  abbrev Z : List Clause
+  Z = only-if (ltb 1 i) ((negℤ x ∷ negℤ (pos (below + (i - 1))) ∷ []) ∷ [])
+
+  are : deletions-of (of-literals l below) i ≡ D1 ++ (Y ++ Z)
+  unfolding deletions-of negated-new previous new size lit
+  are = append-assoc (first-deletion x i (length l) below ∷ []) Y Z ∙ ap (λ (m : ℤ). (first-deletion m i (length l) below ∷ []) ++ (Y ++ Z)) (sym (toZ-ofZ w32 x s))
+
+  all-deletable : Deletable (D1 ++ (Y ++ Z)) store p
+  all-deletable = subst (λ (D : List Clause). Deletable D store p) are r
+
+  pub first-deletable : Deletable (first-deletion (toZ w32 (ofZ w32 (getD l (i - 1) (pos 0)))) i (length l) below ∷ []) store p
+  first-deletable = deletable-first D1 (Y ++ Z) all-deletable
+
+  module _ {x0 y1 : Bytes} {s1 : List ℤ} {q : Progress} (d1 : Deletes (first-deletion (toZ w32 (ofZ w32 (getD l (i - 1) (pos 0)))) i (length l) below ∷ []) store x0 p s1 y1 q)
+      (m a : ℤ) (fm : SFits w32 m) (fa : SFits w32 a) (em : m ≡ negation (getD l (i - 1) (pos 0))) (ea : a ≡ signed-of false (below + i)) where
+    rest-deletable : Deletable (Y ++ Z) s1 q
+    rest-deletable = deletable-rest D1 (Y ++ Z) all-deletable d1
+
+    small-literal : natAbs x < 2 ^ 31
+    small-literal = omega (arith, u x (getD-mem l (i - 1) (pos 0) (omega arith)) .1)
+
+    negated-is : toZ w32 (ofZ w32 m) ≡ negℤ x
+    negated-is = toZ-ofZ w32 m fm ∙ em ∙ negation-small x small-literal
+
+    second-is : Y ≡ only-if (ltb i (length l)) ((toZ w32 (ofZ w32 m) ∷ toZ w32 (ofZ w32 a) ∷ []) ∷ [])
+    second-is = sym (ap₂ (λ (v w : ℤ). only-if (ltb i (length l)) ((v ∷ w ∷ []) ∷ [])) negated-is (toZ-ofZ w32 a fa ∙ ea ∙ signed-small false (below + i) (omega arith)))
+
+    pub second-deletable : Deletable (only-if (ltb i (length l)) ((toZ w32 (ofZ w32 m) ∷ toZ w32 (ofZ w32 a) ∷ []) ∷ [])) s1 q
+    second-deletable = subst (λ (D : List Clause). Deletable D s1 q) second-is (deletable-first Y Z rest-deletable)
+
+    module _ {y2 : Bytes} {s2 : List ℤ} {q2 : Progress} (d2 : Deletes (only-if (ltb i (length l)) ((toZ w32 (ofZ w32 m) ∷ toZ w32 (ofZ w32 a) ∷ []) ∷ [])) s1 y1 q s2 y2 q2)
+        (e : ℤ) (fe : SFits w32 e) (ee : e ≡ signed-of true (below + (i - 1))) where
+      d2′ : Deletes Y s1 y1 q s2 y2 q2
+      d2′ = subst (λ (D : List Clause). Deletes D s1 y1 q s2 y2 q2) (sym second-is) d2
+
+      third-is : Z ≡ only-if (ltb 1 i) ((toZ w32 (ofZ w32 m) ∷ toZ w32 (ofZ w32 e) ∷ []) ∷ [])
+      third-is = sym (ap₂ (λ (v w : ℤ). only-if (ltb 1 i) ((v ∷ w ∷ []) ∷ [])) negated-is (toZ-ofZ w32 e fe ∙ ee ∙ signed-small true (below + (i - 1)) (omega arith)))
+
+      pub third-deletable : Deletable (only-if (ltb 1 i) ((toZ w32 (ofZ w32 m) ∷ toZ w32 (ofZ w32 e) ∷ []) ∷ [])) s2 q2
+      third-deletable = subst (λ (D : List Clause). Deletable D s2 q2) third-is (deletable-rest Y Z rest-deletable d2′)
+
+      pub literal-deletes : {y3 : Bytes} {s3 : List ℤ} {q3 : Progress} → Deletes (only-if (ltb 1 i) ((toZ w32 (ofZ w32 m) ∷ toZ w32 (ofZ w32 e) ∷ []) ∷ [])) s2 y2 q2 s3 y3 q3 → Deletes (deletions-of (of-literals l below) i) store x0 p s3 y3 q3
+      literal-deletes {y3} {s3} {q3} d3 =
+          subst (λ (D : List Clause). Deletes D store x0 p s3 y3 q3) (sym are)
+          (deletes-then D1 (Y ++ Z) d1 (deletes-then Y Z d2′ (subst (λ (D : List Clause). Deletes D s2 y2 q2 s3 y3 q3) (sym third-is) d3)))

@@ -1,0 +1,223 @@
+-- The loop over the store: the events so far and those of the rest make up the pass. Assumes nothing.
+use mathlib.Core.Path.{_≡_, refl, sym, ap, subst, _∙_}
+use mathlib.Core.Bool.{true, false}
+use mathlib.Core.List.{List, [], _∷_, _++_, append-nil, append-assoc, List·Memᴰ, List·Memᴰ·head as here, Memᴰ·append-right}
+use mathlib.Core.Option.{Option, some, none}
+use Prim.Native.Nat.{ℕ, _+_, _-_, _≤_, _<_, _^_}
+use native.Mathlib.Omega.{arith}
+use lib.IntN.{ℤ, negℤ}
+use lib.ListN.{length, take, drop, length-append, length-drop, length-set, replicate}
+use Rattle.definition.specs.Lists.{for-each}
+use Rattle.definition.specs.Literals.{Clause, Formula, with-first}
+use Rattle.definition.specs.Text.{Bytes}
+use Rattle.definition.specs.Standing.{Line, deletion, changed, after}
+use Rattle.definition.specs.Log.{log-text}
+use Rattle.definition.specs.Events.{Event, pure-deleted}
+use Rattle.definition.specs.Clearing.{times, pure-literal, pure-lines, pure-next, clear-pure}
+use Rattle.definition.specs.Reencoding.{lines, lines-of}
+use Rattle.theory_base.proofs.Members.{Fits}
+use Rattle.theory_base.proofs.Tests.{by-test}
+use Rattle.theory_base.proofs.Removal.{Removed, removed-take-out, mem-removed}
+use Rattle.theory_base.proofs.Replay.{after-++, lines-++}
+use Rattle.theory_soundness.proofs.Times.{times-removed, times-at, unique-at, unique-some, at-unique}
+use Rattle.theory_clearing.proofs.Clashes.{Clash-free}
+use Rattle.theory_clearing.proofs.Pure.{Is-pure, pure-some, pure-removed}
+use Rattle.theory_clearing.proofs.Pass.{pure-at-start}
+use Rattle.store.specs.Store.{Formed, stored, deleted-at, clause-at, past, marked, Place}
+use Rattle.store.proofs.Laws.{place-start, place-formed, place-next, stored-end, stored-around, rest-deleted, rest-stands, marked-place, marked-past, marked-behind, marked-stored, part-there}
+use Rattle.progress.specs.declared.Progress.{Progress}
+use Rattle.progress.specs.Progress.{Written, Ran}
+use Rattle.progress.proofs.Laws.{lines-none, lines-one, text-++, written-none, written-then, ran-lines}
+use Rattle.pass_pure.specs.Table.{Counts, pure-by, as-pure}
+use Rattle.pass_pure.specs.declared.Pure.{Pure}
+use Rattle.pass_pure.specs.declared.Pure.the-variants.{Literal, Nothing}
+use lib.Seq.{length-take-le, take-at}
+use Rattle.store.specs.Tally.{tallied-all}
+use Rattle.pass_pure.specs.Pass.{reach, pure-at, Step, Room, Ready, Passed, Pure-ready}
+use Rattle.pass_pure.proofs.Tests.{literal-is, nothing-is, counted-table, pure-literal-is}
+
+-- the events of a clause, tested where F stands
+abbrev pub pure-of : Formula → Clause → List Event
+pure-of F c = pure-next c [] [] (pure-literal F c)
+
+-- the clauses before `at` are gone through
+pub record Passing (F : Formula) (old-log : Bytes) (old : Progress) (s : List ℤ) (at : ℕ) (log : Bytes) (q : Progress) : Type 0 where
+  pub events : List Event
+  pub place : Place s at
+  pub inside : (c : Clause) → List·Memᴰ c (stored s) → List·Memᴰ c F
+  pub fewer : (x : ℤ) → times x (stored s) ≤ times x F
+  pub rest : events ++ for-each (stored (drop at s)) (pure-of F) ≡ clear-pure F
+  pub written : Written (lines events) old-log old log q
+  pub stands : stored s ≡ after F (lines events)
+  pub kept : q .end ≡ old .end
+
+pub passing-start : (s : List ℤ) (log : Bytes) (p : Progress) → Formed s → Clash-free (stored s) → Passing (stored s) log p s 0 log p
+unfolding after
+passing-start s log p f n = record {
+  events = [];
+  place = place-start f;
+  inside = λ c i. i;
+  fewer = λ x. omega arith;
+  rest = sym (pure-at-start (stored s) n);
+  written = rw lines-none (written-none log p p refl refl);
+  stands = ap (after (stored s)) (sym lines-none);
+  kept = refl;
+}
+
+module _ {F : Formula} {x y : Bytes} {p q : Progress} {s : List ℤ} {at : ℕ} (i : Passing F x p s at y q) (h : at < length s) where
+  -- the clause there stays
+  passing-kept : for-each (stored (drop (past s at) s)) (pure-of F) ≡ for-each (stored (drop at s)) (pure-of F) → Passing F x p s (past s at) y q
+  passing-kept e = record {
+    events = i .events;
+    place = place-next s at h (i .place);
+    inside = i .inside;
+    fewer = i .fewer;
+    rest = ap (λ (r : List Event). i .events ++ r) e ∙ i .rest;
+    written = i .written;
+    stands = i .stands;
+    kept = i .kept;
+  }
+
+  -- the clause there is deleted
+  module _ (d : deleted-at s at ≡ false) (l : ℤ) (e : pure-literal F (clause-at s at) ≡ some l) where
+    abbrev X : Formula
+    X = stored (take at s)
+
+    abbrev R : Formula
+    R = stored (drop (past s at) s)
+
+    abbrev c : Clause
+    c = clause-at s at
+
+    around : stored s ≡ X ++ (c ∷ R)
+    around = stored-around s at h (i .place) d
+
+    stands-there : List·Memᴰ c (X ++ (c ∷ R))
+    stands-there = Memᴰ·append-right X (here refl)
+
+    fewer-there : (z : ℤ) → times z (X ++ (c ∷ R)) ≤ times z F
+    fewer-there z = rw (ap (times z) around) at (i .fewer z)
+
+    at-start : Is-pure F c l
+    at-start = pure-some F c l (i .inside c (rw around stands-there)) e
+
+    there : Is-pure (X ++ (c ∷ R)) c l
+    there = record {
+      stands = stands-there;
+      literal = at-start .literal;
+      alone = at-unique (X ++ (c ∷ R)) c (unique-some F c (at-start .alone)) (λ z j. omega (arith, fewer-there z, unique-at F c (at-start .alone) z j, times-at z stands-there j));
+      nowhere = omega (arith, fewer-there (negℤ l), at-start .nowhere);
+    }
+
+    removed : Removed (with-first l c) (X ++ (c ∷ R)) (X ++ R)
+    removed = pure-removed X R c l there
+
+    left : stored (marked s at) ≡ X ++ R
+    left = marked-stored s at h (i .place) d
+
+    new-place : Place (marked s at) (past s at)
+    new-place = subst (λ (k : ℕ). Place (marked s at) k) (marked-past s at h) (place-next (marked s at) at (rw length-set h) (marked-place s at h (i .place)))
+
+    more : (i .events ++ (pure-deleted l c ∷ [])) ++ for-each (stored (drop (past s at) (marked s at))) (pure-of F) ≡ clear-pure F
+    unfolding for-each pure-next
+    more =
+        append-assoc (i .events) (pure-deleted l c ∷ []) (for-each (stored (drop (past s at) (marked s at))) (pure-of F))
+        ∙ ap (λ (r : List ℤ). i .events ++ (pure-deleted l c ∷ for-each (stored r) (pure-of F))) (marked-behind s at h (past s at) (omega arith))
+        ∙ ap (λ (r : List Event). i .events ++ r) (sym (ap (λ (f : Formula). for-each f (pure-of F)) (rest-stands s at h d) ∙ rw e refl))
+        ∙ i .rest
+
+    line : lines (i .events ++ (pure-deleted l c ∷ [])) ≡ lines (i .events) ++ (deletion (with-first l c) ∷ [])
+    unfolding lines-of pure-lines
+    line = lines-++ (i .events) (pure-deleted l c ∷ []) ∙ ap (λ (r : List Line). lines (i .events) ++ r) (lines-one (pure-deleted l c))
+
+    after-line : stored (marked s at) ≡ after F (lines (i .events ++ (pure-deleted l c ∷ [])))
+    unfolding after changed
+    after-line =
+        left ∙ sym (removed-take-out removed)
+        ∙ sym (ap (after F) line ∙ after-++ F (lines (i .events)) (deletion (with-first l c) ∷ []) ∙ ap (λ (f : Formula). after f (deletion (with-first l c) ∷ [])) (sym (i .stands) ∙ around))
+
+    passing-deleted : {z : Bytes} {r : Progress} → Written (deletion (with-first l c) ∷ []) y q z r → r .end ≡ q .end → Passing F x p (marked s at) (past s at) z r
+    passing-deleted w k = record {
+      events = i .events ++ (pure-deleted l c ∷ []);
+      place = new-place;
+      inside = λ b j. i .inside b (rw around (mem-removed removed (rw left at j)));
+      fewer = λ b. rw left (omega (arith, times-removed b removed, fewer-there b));
+      rest = more;
+      written = rw line (written-then (i .written) w);
+      stands = after-line;
+      kept = k ∙ i .kept;
+    }
+
+  module _ (t : List ℕ) (f : Fits reach F) (k : Counts reach t F) (u : List ℤ) (z : Bytes) (r : Progress) where
+    by-literal : deleted-at s at ≡ false → (o : Option ℤ) → pure-literal F (clause-at s at) ≡ o → Step o s at y q u z r → Passing F x p u (past s at) z r
+    unfolding for-each pure-next
+    by-literal d none e w =
+        rw (w .0, w .1, w .2) (passing-kept (sym (ap (λ (g : Formula). for-each g (pure-of F)) (rest-stands s at h d) ∙ rw e refl)))
+    by-literal d (some l) e w = rw (w .0) (passing-deleted d l e (w .1) (w .2))
+
+    same-literal : deleted-at s at ≡ false → pure-by t (clause-at s at) ≡ pure-literal F (clause-at s at)
+    same-literal d =
+        pure-literal-is reach (omega arith) t F k (clause-at s at)
+        (λ b j. f (clause-at s at) (i .inside (clause-at s at) (rw (stored-around s at h (i .place) d) (Memᴰ·append-right (stored (take at s)) (here refl)))) b j .1)
+
+    passing-stays : deleted-at s at ≡ true → Step none s at y q u z r → Passing F x p u (past s at) z r
+    passing-stays d w = rw (w .0, w .1, w .2) (passing-kept (ap (λ (g : Formula). for-each g (pure-of F)) (sym (rest-deleted s at h d))))
+
+    pub passing-step : Step (pure-at t s at) s at y q u z r → Passing F x p u (past s at) z r
+    passing-step w =
+        by-test (deleted-at s at) (λ d. passing-stays d (rw d at w))
+        (λ d. by-literal d (pure-literal F (clause-at s at)) refl (rw (same-literal d) at (rw d at w)))
+
+pub passing-end : {F : Formula} {x y : Bytes} {p q : Progress} {s : List ℤ} {at : ℕ} → Passing F x p s at y q → length s ≤ at → Passed F x p s y q
+unfolding for-each
+passing-end {F} {s = s} {at = at} i h =
+    let e : i .events ≡ clear-pure F = sym (append-nil (i .events)) ∙ ap (λ (f : Formula). i .events ++ for-each f (pure-of F)) (sym (stored-end s at h)) ∙ i .rest in
+    record { formed = place-formed (i .place); stands = i .stands ∙ ap (λ (es : List Event). after F (lines es)) e; written = rw e at (i .written); kept = i .kept }
+
+-- the log has room for the next line
+pub passing-room : {F : Formula} {x y : Bytes} {p q : Progress} {s : List ℤ} {at : ℕ} → Room F p → Passing F x p s at y q → (q .at < 2 ^ 62) × (q .lines < 2 ^ 62)
+passing-room {F} {s = s} {at = at} b i =
+    let others = for-each (stored (drop at s)) (pure-of F) in
+    let e : lines (i .events) ++ lines others ≡ lines (clear-pure F) = sym (lines-++ (i .events) others) ∙ ap lines (i .rest) in
+    let g = ap length e in
+    let k = ap (λ (ls : List Line). length (log-text ls)) e in
+    let m = ap length (text-++ (lines (i .events)) (lines others)) in (
+      omega (arith, b .text, i .written .written .next, k, m, length-append (log-text (lines (i .events))) (log-text (lines others))),
+      omega (arith, b .count, i .written .counted, g, length-append (lines (i .events)) (lines others)),
+    )
+
+-- ---- at a place, by what the functions answer there
+
+pub at-deleted : (t : List ℕ) (s : List ℤ) (at : ℕ) (log : Bytes) (p : Progress) → deleted-at s at ≡ true → Step (pure-at t s at) s at log p s log p
+at-deleted t s at log p d = rw d (refl, refl, refl)
+
+module _ (t : List ℕ) (s : List ℤ) (at next : ℕ) (e : next ≡ past s at) (d : deleted-at s at ≡ false) where
+  part : take (next - (at + 1)) (drop (at + 1) s) ≡ clause-at s at
+  part = part-there s at next e
+
+  pub at-nothing : (log : Bytes) (p : Progress) {r : Pure} → r ≡ as-pure (pure-by t (take (next - (at + 1)) (drop (at + 1) s))) → r ≡ Nothing → Step (pure-at t s at) s at log p s log p
+  at-nothing log p a b =
+      let k = nothing-is (pure-by t (clause-at s at)) (ap (λ (c : Clause). as-pure (pure-by t c)) (sym part) ∙ sym a ∙ b) in
+      rw (d, k) (refl, refl, refl)
+
+  pub at-literal : {log new-log : Bytes} {p q : Progress} {new : List ℤ} {r : Pure} (l : ℤ) → r ≡ as-pure (pure-by t (take (next - (at + 1)) (drop (at + 1) s))) → r ≡ Literal l → new ≡ marked s at →
+      Written (deletion (with-first l (take (next - (at + 1)) (drop (at + 1) s))) ∷ []) log p new-log q → q .end ≡ p .end → Step (pure-at t s at) s at log p new new-log q
+  at-literal l a b n w f =
+      let k = literal-is (pure-by t (clause-at s at)) l (ap (λ (c : Clause). as-pure (pure-by t c)) (sym part) ∙ sym a ∙ b) in
+      rw (d, k) (n, rw part at w, f)
+
+-- ---- the store as the first part of the workspace
+
+pub ready-of : {work : List ℤ} {t : List ℕ} {p : Progress} → Pure-ready work p → t ≡ tallied-all (replicate (reach + reach + 2) 0) (stored (take (p .end) work)) → Ready (take (p .end) work) t p
+ready-of {work} {t} {p} r e =
+    record { formed = r .formed; fits = r .fits; free = r .free; table = rw e (counted-table reach (stored (take (p .end) work)) (r .proper) (r .few)); room = r .room }
+
+pub pass-ran : {work new : List ℤ} {x y : Bytes} {p q : Progress} → Pure-ready work p → length new ≡ length (take (p .end) work) → Passed (stored (take (p .end) work)) x p new y q →
+    Ran (stored (take (p .end) work)) (clear-pure (stored (take (p .end) work))) (length work) x p (new ++ drop (p .end) work) y q
+pass-ran {work} {new} {p = p} {q = q} r e s =
+    let n : length new ≡ p .end = e ∙ length-take-le (p .end) work (r .inside) in
+    let size = length-append new (drop (p .end) work) in
+    let part : take (q .end) (new ++ drop (p .end) work) ≡ new = take-at new (drop (p .end) work) (q .end) (n ∙ sym (s .kept)) in
+    ran-lines (omega (arith, size, n, length-drop (p .end) work, r .inside))
+    (record { inside = omega (arith, size, n, s .kept); formed = rw part (s .formed); stands = ap stored part })
+    (s .stands) (s .written)

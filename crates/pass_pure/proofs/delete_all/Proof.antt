@@ -1,0 +1,79 @@
+use mathlib.Core.Path.{_≡_, refl, _∙_}
+use native.Mathlib.Omega.{arith}
+use Prim.Native.Nat.{_-_}
+use lib.ListN.{length}
+use denote.Ref.{now}
+use Rattle.store.specs.Store.{stored}
+use Rattle.progress.proofs.Laws.{written-length}
+use Rattle.pass_pure.proofs.Pass.{Passing, passing-start, passing-step, passing-end, passing-room}
+use Rattle.pass_pure.proofs.delete_all.Statement.{statement}
+use Rattle.pass_pure.proofs.delete_all.Tie as tie
+
+abbrev Inv-loop : tie.InvT-loop
+Inv-loop work₀ counts log₀ q₀ at₀ work log q at = (length work ≡ length work₀) × Passing (stored work₀) log₀ q₀ work at log q
+
+abbrev μ-loop : tie.MeasureT-loop
+μ-loop work₀ counts log₀ q₀ at₀ work log q at = length work - at
+
+loop-holds : tie.Need-loop-holds Inv-loop μ-loop
+loop-holds c =
+    let start = c .before .before in (
+      refl,
+      passing-start (now (start .args .work)) (now (start .args .log)) (start .args .p) (start .pre .formed)
+          (start .pre .free),
+    )
+
+next-at-requires : tie.Need-next-at-requires Inv-loop μ-loop
+next-at-requires c κs = c .before .loop-test .taken
+
+delete-at-requires : tie.Need-delete-at-requires Inv-loop μ-loop
+delete-at-requires c κs =
+    let back = c .before .before .before .before in let loop-test = back .loop-test in
+    let back = back .before in let loop = back .loop in
+    let start = back .before .before .before in
+    let r = passing-room (start .pre .room) (loop .inv .1) in
+    ((loop-test .taken, loop .inv .1 .place .rest), (omega (arith, r .0), omega (arith, r .1)))
+
+loop-less : tie.Need-loop-less Inv-loop μ-loop
+loop-less c =
+    let back = c .before .before .before in let delete-at = back .delete-at in
+    let back = back .before .before .before in let next-at = back .next-at in
+    let loop-test = back .before .before .loop-test in
+    omega (arith, next-at .ensures, delete-at .kept .0, loop-test .taken)
+
+loop-again : tie.Need-loop-again Inv-loop μ-loop
+loop-again c =
+    let back = c .before .before .before in let delete-at = back .delete-at in
+    let back = back .before .before .before in let next-at = back .next-at in
+    let back = back .before .before in let loop-test = back .loop-test in
+    let back = back .before in let loop = back .loop in
+    let start = back .before .before .before in
+    rw (next-at .ensures) (
+      delete-at .kept .0 ∙ loop .inv .0,
+      passing-step (loop .inv .1) (loop-test .taken) (now (start .args .counts)) (start .pre .fits) (start .pre .table)
+          _ _ _ (delete-at .ensures),
+    )
+
+same-length : tie.Need-same-length Inv-loop μ-loop
+same-length c = c .before .loop .inv .0
+
+same-length-2 : tie.Need-same-length-2 Inv-loop μ-loop
+same-length-2 c = written-length (c .before .loop .inv .1 .written)
+
+returns : tie.Need-returns Inv-loop μ-loop
+returns c = passing-end (c .before .loop .inv .1) (c .loop-test .left)
+
+pub delete-all-spec : {M : Type 1} → statement M
+delete-all-spec =
+    tie.close
+    (tie.spec
+    Inv-loop
+    μ-loop
+    loop-holds
+    next-at-requires
+    delete-at-requires
+    loop-less
+    loop-again
+    same-length
+    same-length-2
+    returns)

@@ -1,0 +1,106 @@
+// Runs the listed sessions that are not shown by proof, a line for each.
+mod texts;
+
+use call_reencode::Form;
+use call_reencode::Reencoding;
+use call_reencode::Tally;
+use call_reencode::Wish;
+use libc::STDOUT_FILENO;
+
+// Prints a number after a blank.
+pub fn print_number(n: usize) {
+    io::write_all(STDOUT_FILENO, b" ");
+    io::print_decimal(STDOUT_FILENO, n as u64);
+}
+
+// Ends a line.
+pub fn print_end() {
+    io::write_all(STDOUT_FILENO, b"\n");
+}
+
+// Prints the number of the outcome: 0, or that of the refusal.
+fn print_outcome(text: &[u8]) {
+    let mut work = [0i32; 16384];
+    let mut log = [0u8; 1024];
+    let mut formula = [0u8; 1024];
+    io::write_all(STDOUT_FILENO, b"refusal");
+    match call_reencode::reencode(
+        text,
+        Form::Counter,
+        Wish::NoWish,
+        &mut work,
+        &mut log,
+        &mut formula,
+    ) {
+        Reencoding::Done(_) => print_number(0),
+        Reencoding::Refused(n) => print_number(n as usize),
+    }
+    print_end();
+}
+
+// The six refusals with V 1, C 1.
+fn print_refusals() {
+    print_outcome(b"p cnf 1 1\n1 1 0\n");
+    print_outcome(b"p cnf 1 1\n1 -1 0\n");
+    print_outcome(b"p cnf 1 1\n2 0\n");
+    print_outcome(b"p cnf 1 1\n-0\n");
+    print_outcome(b"p cnf 1 1\n1\n");
+    print_outcome(b"p cnf 1 1\n1 0 1 0\n");
+}
+
+// Prints choices, H, M, lines and both lengths.
+fn print_tally(t: Tally) {
+    print_number(t.choices);
+    print_number(t.highest as usize);
+    print_number(t.clauses);
+    print_number(t.lines);
+    print_number(t.log_bytes);
+    print_number(t.formula_bytes);
+}
+
+// Prints the result for a formula with one unique literal clause of a size.
+fn print_size(size: u8) {
+    let mut text = [0u8; 2048];
+    let mut work = [0i32; 16384];
+    let mut log = [0u8; 65536];
+    let mut formula = [0u8; 8192];
+    let n = texts::put_unique(&mut text, size);
+    io::write_all(STDOUT_FILENO, b"size");
+    print_number(size as usize);
+    if n <= text.len() {
+        let f = Form::Counter;
+        let w = Wish::NoWish;
+        match call_reencode::reencode(&text[..n], f, w, &mut work, &mut log, &mut formula) {
+            Reencoding::Done(t) => print_tally(t),
+            Reencoding::Refused(k) => prog_common::print_refusal(k),
+        }
+    }
+    print_end();
+}
+
+// 1..5 and 6..10, linked 1-8 and 2-6; each negated literal stands twice. Prints the log's line that deletes the second choice.
+fn print_alignment(wish: Wish) {
+    let text =
+        b"p cnf 10 24\n1 2 3 4 5 0\n6 7 8 9 10 0\n-1 0\n-1 0\n-2 0\n-2 0\n-3 0\n-3 0\n-4 0\n-4 0\n-5 0\n-5 0\n-6 0\n-6 0\n-7 0\n-7 0\n-8 0\n-8 0\n-9 0\n-9 0\n-10 0\n-10 0\n-1 -8 0\n-2 -6 0\n";
+    let mut work = [0i32; 16384];
+    let mut log = [0u8; 1024];
+    let mut formula = [0u8; 1024];
+    match call_reencode::reencode(text, Form::Counter, wish, &mut work, &mut log, &mut formula) {
+        Reencoding::Done(_) => {
+            let a = texts::past_lines(&log, 63);
+            let b = texts::past_lines(&log, 64);
+            texts::print_part(&log, a, b);
+        }
+        Reencoding::Refused(k) => prog_common::print_refusal(k),
+    }
+}
+
+fn main() {
+    print_refusals();
+    print_size(4);
+    print_size(5);
+    print_size(64);
+    print_size(65);
+    print_alignment(Wish::NoWish);
+    print_alignment(Wish::Alignment);
+}

@@ -1,0 +1,91 @@
+// Buffers and workspaces of just the length that is asked for, and one short: the refusal, and its buffers all zero.
+use call_reencode::Form;
+use call_reencode::Reencoding;
+use call_reencode::Wish;
+use call_walk_back::WalkedBack;
+use libc::STDOUT_FILENO;
+
+// Fills a buffer with a pattern.
+fn fill(buf: &mut [u8]) {
+    let mut i = 0;
+    while i < buf.len() {
+        buf[i] = 170;
+        i += 1;
+    }
+}
+
+// Whether every byte is 0.
+fn is_zero(buf: &[u8]) -> bool {
+    let mut i = 0;
+    while i < buf.len() {
+        if buf[i] != 0 {
+            return false;
+        }
+        i += 1;
+    }
+    true
+}
+
+// Prints the number of the outcome after the call's name.
+fn print_outcome(name: &[u8], n: u8) {
+    io::write_all(STDOUT_FILENO, name);
+    io::write_all(STDOUT_FILENO, b" ");
+    io::print_decimal(STDOUT_FILENO, n as u64);
+}
+
+// Prints whether a buffer is all zero.
+fn print_zero(is_all: bool) {
+    if is_all {
+        io::write_all(STDOUT_FILENO, b" zero");
+    } else {
+        io::write_all(STDOUT_FILENO, b" filled");
+    }
+}
+
+// Reencodes session F in order form, over filled buffers.
+fn print_reencoding(work: &mut [i32], log: &mut [u8], formula: &mut [u8]) {
+    let text = b"p cnf 6 7\n1 2 3 4 5 0\n-1 -2 0\n-1 6 0\n-2 6 0\n-3 6 0\n-4 -6 0\n-5 -6 0\n";
+    fill(log);
+    fill(formula);
+    match call_reencode::reencode(text, Form::Order, Wish::NoWish, work, log, formula) {
+        Reencoding::Done(_) => print_outcome(b"reencode", 0),
+        Reencoding::Refused(n) => print_outcome(b"reencode", n),
+    }
+    print_zero(is_zero(log));
+    print_zero(is_zero(formula));
+    io::write_all(STDOUT_FILENO, b"\n");
+}
+
+// Walks session H back over its log and a filled buffer.
+fn print_walk_back(log: &[u8], work: &mut [i32], out: &mut [u8]) {
+    let formula = b"p cnf 6 7\n1 2 3 4 5 0\n-1 -2 0\n-1 6 0\n-2 6 0\n-3 6 0\n-4 -6 0\n-5 -6 0\n";
+    let answer = b"s SATISFIABLE\nv 1 2 3 4 5 -6 -7 -8 -9 10 0\n";
+    fill(out);
+    match call_walk_back::walk_back(formula, log, 59, answer, work, out) {
+        WalkedBack::Line(_) => print_outcome(b"walk_back", 0),
+        WalkedBack::Refused(n) => print_outcome(b"walk_back", n),
+    }
+    print_zero(is_zero(out));
+    io::write_all(STDOUT_FILENO, b"\n");
+}
+
+// Session F: 8,582 entries, 533 bytes and 77 bytes; session H: 956 entries and 21 bytes.
+fn main() {
+    let mut work = [0i32; 8582];
+    let mut log = [0u8; 533];
+    let mut formula = [0u8; 77];
+    let mut short_work = [0i32; 8581];
+    let mut short_log = [0u8; 532];
+    let mut short_formula = [0u8; 76];
+    print_reencoding(&mut short_work, &mut log, &mut formula);
+    print_reencoding(&mut work, &mut short_log, &mut formula);
+    print_reencoding(&mut work, &mut log, &mut short_formula);
+    print_reencoding(&mut work, &mut log, &mut formula);
+    let mut table = [0i32; 956];
+    let mut short_table = [0i32; 955];
+    let mut line = [0u8; 21];
+    let mut short_line = [0u8; 20];
+    print_walk_back(&log, &mut short_table, &mut line);
+    print_walk_back(&log, &mut table, &mut short_line);
+    print_walk_back(&log, &mut table, &mut line);
+}

@@ -1,0 +1,34 @@
+-- How far a run is, and what a phase of it does.
+use mathlib.Core.Path.{_≡_}
+use mathlib.Core.List.{List}
+use Prim.Native.Nat.{ℕ, _+_, _≤_, _<_, _^_}
+use lib.IntN.{ℤ}
+use lib.ListN.{length, take}
+use Rattle.definition.specs.Literals.{Formula}
+use Rattle.definition.specs.Text.{Bytes}
+use Rattle.definition.specs.Standing.{Line, after}
+use Rattle.definition.specs.Log.{log-text}
+use Rattle.definition.specs.Events.{Event}
+use Rattle.definition.specs.Reencoding.{lines}
+use Rattle.text.specs.Output.{Put}
+use Rattle.store.specs.Store.{Formed, stored}
+use Rattle.progress.specs.declared.Progress.{Progress}
+
+-- the lines' text is written, and they are counted
+pub record Written (ls : List Line) (old-log : Bytes) (old : Progress) (log : Bytes) (new : Progress) : Type 0 where
+  pub written : Put old-log (old .at) (log-text ls) (new .at) log
+  pub counted : new .lines ≡ old .lines + length ls
+
+-- the log's places and line numbers stay small while the lines are recorded
+pub record Log-room (ls : List Line) (p : Progress) : Type 0 where
+  pub text : p .at + length (log-text ls) < 2 ^ 62
+  pub count : p .lines + length ls < 2 ^ 62
+
+-- the events es happened where F stood: the store holds what stands after them, the log their lines' text
+pub record Ran (F : Formula) (es : List Event) (room : ℕ) (old-log : Bytes) (old : Progress) (work : List ℤ) (log : Bytes) (new : Progress) : Type 0 where
+  pub size : length work ≡ room
+  pub inside : new .end ≤ room
+  pub formed : Formed (take (new .end) work)
+  pub stands : stored (take (new .end) work) ≡ after F (lines es)
+  pub written : Put old-log (old .at) (log-text (lines es)) (new .at) log
+  pub counted : new .lines ≡ old .lines + length (lines es)

@@ -1,0 +1,103 @@
+// Recording: proof lines go into the log's buffer, and are counted.
+ghost use mathlib.Core.Path.{_≡_};
+ghost use mathlib.Core.Bool.{true};
+ghost use mathlib.Core.List.{[], _∷_, _++_};
+ghost use Prim.Native.Nat.{_+_, _*_, _≤_, _<_, _^_};
+ghost use lib.ListN.{length};
+ghost use Rattle.definition.specs.Text.{bytes, literal-text};
+ghost use Rattle.definition.specs.Literals.{without, with-first};
+ghost use Rattle.definition.specs.Standing.{deletion};
+ghost use Rattle.theory_text.proofs.ClauseText.{literals-text};
+ghost use Rattle.text.specs.Output.{Put};
+ghost use Rattle.drat.specs.Lines.{line-of};
+ghost use Rattle.progress.specs.Progress.{Written};
+
+// How far a run is: the store's end, the log's end and the lines in the log.
+pub struct Progress {
+    pub end: usize,
+    pub at: usize,
+    pub lines: usize,
+}
+
+// Records a proof line: an added clause, or a deleted one.
+pub fn record_line(log: &mut [u8], p: Progress, is_deletion: bool, clause: &[i32]) -> Progress
+    requires { ⌜ p .at + 12 * length (now clause) + 4 < 2 ^ 64 ⌝ }
+    requires { ⌜ p .lines + 1 < 2 ^ 64 ⌝ }
+    ensures written { λ r. ⌜ Written (line-of «is_deletion» (now (clause .entry)) ∷ []) (now (log .entry)) p (now (log .exit)) r ⌝ }
+    ensures kept { λ r. ⌜ r .end ≡ p .end ⌝ }
+{
+    let at = drat::log_line(log, p.at, is_deletion, clause);
+    Progress {
+        end: p.end,
+        at,
+        lines: p.lines + 1,
+    }
+}
+
+// ---- a deletion with a literal first
+
+// Writes a literal and a blank.
+fn put_item(log: &mut [u8], at: usize, l: i32) -> usize
+    requires { ⌜ at + 12 < 2 ^ 64 ⌝ }
+    ensures written { λ r. ⌜ Put (now (log .entry)) at (literal-text l ++ bytes " ") r (now (log .exit)) ⌝ }
+    ensures within { λ r. ⌜ r ≤ at + 12 ⌝ }
+{
+    let a = text::put_literal(log, at, l);
+    text::put_byte(log, a, 32)
+}
+
+// Writes a literal and a blank, unless it is the first one.
+fn put_other(log: &mut [u8], at: usize, first: i32, l: i32) -> usize
+    requires { ⌜ at + 12 < 2 ^ 64 ⌝ }
+    ensures written { λ r. ⌜ Put (now (log .entry)) at (literals-text (without first (l ∷ []))) r (now (log .exit)) ⌝ }
+    ensures within { λ r. ⌜ r ≤ at + 12 ⌝ }
+{
+    if literals::same(first, l) {
+        return at;
+    }
+    put_item(log, at, l)
+}
+
+// Writes the literals of a clause without the first one, a blank after each.
+fn put_others(log: &mut [u8], at: usize, first: i32, clause: &[i32]) -> usize
+    requires { ⌜ at + 12 * length (now clause) < 2 ^ 64 ⌝ }
+    ensures written { λ r. ⌜ Put (now (log .entry)) at (literals-text (without first (now (clause .entry)))) r (now (log .exit)) ⌝ }
+    ensures within { λ r. ⌜ r ≤ at + 12 * length (now (clause .entry)) ⌝ }
+{
+    let mut end = at;
+    let mut i = 0;
+    while i < clause.len() {
+        end = put_other(log, end, first, clause[i]);
+        i += 1;
+    }
+    end
+}
+
+// Writes `d` and a literal, a blank after each.
+fn put_first(log: &mut [u8], at: usize, first: i32) -> usize
+    requires { ⌜ at + 14 < 2 ^ 64 ⌝ }
+    ensures written { λ r. ⌜ Put (now (log .entry)) at (bytes "d " ++ literal-text first ++ bytes " ") r (now (log .exit)) ⌝ }
+    ensures within { λ r. ⌜ r ≤ at + 14 ⌝ }
+{
+    let a = text::put_byte(log, at, 100);
+    let b = text::put_byte(log, a, 32);
+    put_item(log, b, first)
+}
+
+// Records the deletion of a clause with a literal first and the others in order.
+pub fn record_first(log: &mut [u8], p: Progress, first: i32, clause: &[i32]) -> Progress
+    requires { ⌜ p .at + 12 * length (now clause) + 16 < 2 ^ 64 ⌝ }
+    requires { ⌜ p .lines + 1 < 2 ^ 64 ⌝ }
+    ensures written { λ r. ⌜ Written (deletion (with-first first (now (clause .entry))) ∷ []) (now (log .entry)) p (now (log .exit)) r ⌝ }
+    ensures kept { λ r. ⌜ r .end ≡ p .end ⌝ }
+{
+    let a = put_first(log, p.at, first);
+    let b = put_others(log, a, first, clause);
+    let c = text::put_byte(log, b, 48);
+    let at = text::put_byte(log, c, 10);
+    Progress {
+        end: p.end,
+        at,
+        lines: p.lines + 1,
+    }
+}

@@ -1,0 +1,88 @@
+use mathlib.Core.Path.{_≡_, ap, _∙_}
+use native.Mathlib.Omega.{arith}
+use Prim.Native.Nat.{ℕ, _+_, _-_}
+use lib.ListN.{length, take, drop, length-drop, getD, set}
+use lib.Seq.{length-take-le}
+use denote.Ref.{now}
+use Rattle.literals.specs.Literal.{header-of}
+use Rattle.replay.specs.Replayed.{between}
+use Rattle.replay.specs.Index.{key-at}
+use Rattle.replay.proofs.Indexing.{part-rest, part-link, added-so, linked-added}
+use borrow.Author.Needs.{needs}
+use Rattle.replay.proofs.add_part.Statement.{statement}
+use Rattle.replay.proofs.add_part.Tie as tie
+
+append-part-requires : tie.Need-append-part-requires
+append-part-requires c κs = search needs
+
+sub-index-entry : tie.Need-sub-index-entry
+sub-index-entry c = search needs
+
+index-entry-requires : tie.Need-index-entry-requires
+index-entry-requires c κs =
+    let back = c .before .before .before in let append-part = back .append-part in
+    let start = back .before .before .before in
+    let w = now (start .args .work) in
+    let l = start .pre .3 in
+    let d = take (start .args .n) (drop (start .args .first) w) in
+    let m : length d ≡ start .args .n = length-take-le (start .args .n) (drop (start .args .first) w)
+    (omega (arith, start .pre .0, l .order, l .within, l .room, length-drop (start .args .first) w)) in
+    let x : append-part .result ≡ start .args .end + (length d + 1) = omega (arith, append-part .ensures .0, m) in (
+      omega (arith, x, l .order),
+      omega (arith, x, m, start .pre .1),
+      part-link w (append-part .last .0) w (now (start .args .heads)) (now (start .args .heads)) (start .args .store)
+          (start .args .end) (start .args .links) d l (omega (arith, m, start .pre .2))
+          (omega (arith, m, start .pre .1)) (append-part .ensures .1),
+      l .table,
+      rw x
+          (part-rest w (append-part .last .0) w (now (start .args .heads)) (now (start .args .heads))
+          (start .args .store) (start .args .end) (start .args .links) d l (omega (arith, m, start .pre .2))
+          (omega (arith, m, start .pre .1)) (append-part .ensures .1)),
+    )
+
+same-length : tie.Need-same-length
+same-length c = search needs
+
+same-length-2 : tie.Need-same-length-2
+same-length-2 c = search needs
+
+returns : tie.Need-returns
+returns c =
+    let back = c .before .before .before in let index-entry = back .index-entry in
+    let back = back .before .before .before .before in let append-part = back .append-part in
+    let start = back .before .before .before in
+    let w = now (start .args .work) in
+    let l = start .pre .3 in
+    let d = take (start .args .n) (drop (start .args .first) w) in
+    let m : length d ≡ start .args .n = length-take-le (start .args .n) (drop (start .args .first) w)
+    (omega (arith, start .pre .0, l .order, l .within, l .room, length-drop (start .args .first) w)) in
+    let x : append-part .result ≡ start .args .end + (length d + 1) = omega (arith, append-part .ensures .0, m) in
+    let u = index-entry .ensures .0
+    ∙ ap
+    (λ (k : ℕ). set (append-part .last .0) (start .args .links + (start .args .end - start .args .store))
+    (header-of
+    (getD (now (start .args .heads))
+    (key-at (between (start .args .store) k (append-part .last .0)) (start .args .end - start .args .store)) 0))) x in
+    let v = index-entry .ensures .1
+    ∙ ap
+    (λ (k : ℕ). set (now (start .args .heads))
+    (key-at (between (start .args .store) k (append-part .last .0)) (start .args .end - start .args .store))
+    (start .args .end - start .args .store + 1)) x in (
+      added-so w (append-part .last .0) _ (now (start .args .heads)) _ (start .args .store) (start .args .end)
+          (start .args .links) d l (omega (arith, m, start .pre .2)) (omega (arith, m, start .pre .1))
+          (append-part .ensures .1) u v _ x,
+      linked-added w (append-part .last .0) _ (now (start .args .heads)) _ (start .args .store) (start .args .end)
+          (start .args .links) d l (omega (arith, m, start .pre .2)) (omega (arith, m, start .pre .1))
+          (append-part .ensures .1) u v _ x,
+    )
+
+pub add-part-spec : {M : Type 1} → statement M
+add-part-spec =
+    tie.close
+    (tie.spec
+    append-part-requires
+    sub-index-entry
+    index-entry-requires
+    same-length
+    same-length-2
+    returns)

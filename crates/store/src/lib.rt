@@ -1,0 +1,404 @@
+// Clauses in a lent slice, the store: a clause is a header and its literals; -1 - n in place of the header n says that it is deleted.
+ghost use mathlib.Core.Path.{_≡_};
+ghost use mathlib.Core.Bool.{cond};
+ghost use Prim.Native.Nat.{_+_, _≤_, _<_};
+ghost use lib.ListN.{length, set, take, drop};
+ghost use lib.Seq.{sets};
+ghost use Rattle.definition.specs.Lists.{all};
+ghost use Rattle.definition.specs.Literals.{holds as holds-literal, same-set as same-literals};
+ghost use Rattle.definition.specs.Calls.{numbers-of};
+ghost use Rattle.literals.specs.Literal.{index-of};
+ghost use Rattle.store.specs.Marks.{with-marks, Marks};
+ghost use Rattle.store.specs.Tally.{bumped, tallied, tallied-all, tallied-at};
+ghost use Rattle.store.specs.Store.{Formed, stored, past, marked, begins-with, place-of, Deleted, end-after, with-entry, slid, slid-to, filled-by as filled, Compacted};
+
+pub enum Found {
+    // the place of the entry
+    At(usize),
+    Nothing,
+}
+
+pub enum Added {
+    // the place past the entry
+    To(usize),
+    Full,
+}
+
+// ---- a clause's part of one of two slices
+
+// The clause's own part of the store of read clauses or the store of added ones.
+pub fn clause_part<'a>(
+    read: &'a [i32],
+    added: &'a [i32],
+    is_added: bool,
+    at: usize,
+    len: usize,
+) -> &'a [i32]
+    requires { ⌜ at + len ≤ length (cond «is_added» (now added) (now read)) ⌝ }
+    ensures { λ r. ⌜ now r ≡ take len (drop at (cond «is_added» (now (added .entry)) (now (read .entry)))) ⌝ }
+{
+    if is_added {
+        &added[at..at + len]
+    } else {
+        &read[at..at + len]
+    }
+}
+
+// ---- sets of literals
+
+// Whether a literal is in a clause.
+pub fn holds(clause: &[i32], l: i32) -> bool
+    ensures { λ r. ⌜ r ≡ holds-literal l (now (clause .entry)) ⌝ }
+{
+    let mut i = 0;
+    while i < clause.len() {
+        if literals::same(l, clause[i]) {
+            return true;
+        }
+        i += 1;
+    }
+    false
+}
+
+// Whether every literal of a clause is in another.
+pub fn all_in(a: &[i32], b: &[i32]) -> bool
+    ensures { λ r. ⌜ r ≡ all (λ l. holds-literal l (now (b .entry))) (now (a .entry)) ⌝ }
+{
+    let mut i = 0;
+    while i < a.len() {
+        if holds(b, a[i]) {
+            i += 1;
+        } else {
+            return false;
+        }
+    }
+    true
+}
+
+// Whether two clauses have the same set of literals.
+pub fn same_set(a: &[i32], b: &[i32]) -> bool
+    ensures { λ r. ⌜ r ≡ same-literals (now (a .entry)) (now (b .entry)) ⌝ }
+{
+    if all_in(a, b) { all_in(b, a) } else { false }
+}
+
+// ---- the entries of a store
+
+// The place past the entry at a place.
+pub fn next_at(store: &[i32], at: usize) -> usize
+    requires { ⌜ at < length (now store) ⌝ }
+    ensures { λ r. ⌜ r ≡ past (now (store .entry)) at ⌝ }
+{
+    at + (1 + literals::header_length(store[at]))
+}
+
+// Sets the mark of a literal, where the table reaches.
+fn mark_literal(marks: &mut [u8], l: i32)
+    ensures { λ _. ⌜ now (marks .exit) ≡ set (now (marks .entry)) (index-of l) 1 ⌝ }
+{
+    let i = literals::literal_index(l);
+    if i < marks.len() {
+        marks[i] = 1;
+    }
+}
+
+// Sets the mark of each literal of a clause.
+fn mark_literals(marks: &mut [u8], clause: &[i32])
+    ensures { λ _. ⌜ now (marks .exit) ≡ with-marks (now (marks .entry)) (now (clause .entry)) ⌝ }
+{
+    let mut i = 0;
+    while i < clause.len() {
+        mark_literal(marks, clause[i]);
+        i += 1;
+    }
+}
+
+// Whether a literal is in the marked clause; the clause is walked only past the table's reach.
+fn is_marked(marks: &[u8], clause: &[i32], l: i32) -> bool
+    requires { ⌜ Marks (now marks) (now clause) ⌝ }
+    ensures { λ r. ⌜ r ≡ holds-literal l (now (clause .entry)) ⌝ }
+{
+    let i = literals::literal_index(l);
+    if i < marks.len() {
+        marks[i] == 1
+    } else {
+        holds(clause, l)
+    }
+}
+
+// Whether every literal of a clause is in the marked one.
+fn all_marked(a: &[i32], marks: &[u8], clause: &[i32]) -> bool
+    requires { ⌜ Marks (now marks) (now clause) ⌝ }
+    ensures { λ r. ⌜ r ≡ all (λ l. holds-literal l (now (clause .entry))) (now (a .entry)) ⌝ }
+{
+    let mut i = 0;
+    while i < a.len() {
+        if is_marked(marks, clause, a[i]) {
+            i += 1;
+        } else {
+            return false;
+        }
+    }
+    true
+}
+
+// Whether a clause has the marked one's set of literals.
+fn same_marked(a: &[i32], marks: &[u8], clause: &[i32]) -> bool
+    requires { ⌜ Marks (now marks) (now clause) ⌝ }
+    ensures { λ r. ⌜ r ≡ same-literals (now (clause .entry)) (now (a .entry)) ⌝ }
+{
+    if all_marked(a, marks, clause) {
+        all_in(clause, a)
+    } else {
+        false
+    }
+}
+
+// Whether the clause at a place stands and has the marked clause's set of literals.
+fn matches(store: &[i32], at: usize, marks: &[u8], clause: &[i32]) -> bool
+    requires { ⌜ at < length (now store) ⌝ }
+    requires { ⌜ Formed (drop at (now store)) ⌝ }
+    requires { ⌜ Marks (now marks) (now clause) ⌝ }
+    ensures { λ r. ⌜ r ≡ begins-with (now (clause .entry)) (drop at (now (store .entry))) ⌝ }
+{
+    if literals::is_negative(store[at]) {
+        return false;
+    }
+    let next = next_at(store, at);
+    let first = at + 1;
+    same_marked(&store[first..next], marks, clause)
+}
+
+// The place of the first standing clause with the marked clause's set of literals.
+fn find_marked(store: &[i32], marks: &[u8], clause: &[i32]) -> Found
+    requires { ⌜ Formed (now store) ⌝ }
+    requires { ⌜ Marks (now marks) (now clause) ⌝ }
+    ensures { λ r. ⌜ r ≡ place-of (now (clause .entry)) (now (store .entry)) ⌝ }
+{
+    let mut at = 0;
+    while at < store.len() {
+        if matches(store, at, marks, clause) {
+            return Found::At(at);
+        }
+        at = next_at(store, at);
+    }
+    Found::Nothing
+}
+
+// Whether the clause at a place stands and has the same set of literals; the entry is walked first, so that most entries fail at their first literal.
+fn matches_plain(store: &[i32], at: usize, clause: &[i32]) -> bool
+    requires { ⌜ at < length (now store) ⌝ }
+    requires { ⌜ Formed (drop at (now store)) ⌝ }
+    ensures { λ r. ⌜ r ≡ begins-with (now (clause .entry)) (drop at (now (store .entry))) ⌝ }
+{
+    if literals::is_negative(store[at]) {
+        return false;
+    }
+    let next = next_at(store, at);
+    let first = at + 1;
+    same_set(&store[first..next], clause)
+}
+
+// The place of the first standing clause with the same set of literals, without marks.
+fn find_plain(store: &[i32], clause: &[i32]) -> Found
+    requires { ⌜ Formed (now store) ⌝ }
+    ensures { λ r. ⌜ r ≡ place-of (now (clause .entry)) (now (store .entry)) ⌝ }
+{
+    let mut at = 0;
+    while at < store.len() {
+        if matches_plain(store, at, clause) {
+            return Found::At(at);
+        }
+        at = next_at(store, at);
+    }
+    Found::Nothing
+}
+
+// The place of the first standing clause with the same set of literals. A clause of more than 16 literals is marked in a table, which reaches up to variable 70,000.
+pub fn find_same_set(store: &[i32], clause: &[i32]) -> Found
+    requires { ⌜ Formed (now store) ⌝ }
+    ensures { λ r. ⌜ r ≡ place-of (now (clause .entry)) (now (store .entry)) ⌝ }
+{
+    if clause.len() <= 16 {
+        return find_plain(store, clause);
+    }
+    let mut marks = [0u8; 140002];
+    mark_literals(&mut marks, clause);
+    find_marked(store, &marks, clause)
+}
+
+// Marks the clause at a place as deleted.
+pub fn mark_deleted(store: &mut [i32], at: usize)
+    requires { ⌜ at < length (now store) ⌝ }
+    ensures { λ _. ⌜ now (store .exit) ≡ marked (now (store .entry)) at ⌝ }
+{
+    let h = store[at];
+    store[at] = literals::flipped(h);
+}
+
+// Deletes the first standing clause with the same set of literals; says whether there was one.
+pub fn delete_clause(store: &mut [i32], clause: &[i32]) -> bool
+    requires { ⌜ Formed (now store) ⌝ }
+    ensures { λ r. ⌜ Deleted (now (clause .entry)) (now (store .entry)) r (now (store .exit)) ⌝ }
+{
+    match find_same_set(store, clause) {
+        Found::At(at) => {
+            mark_deleted(store, at);
+            true
+        }
+        Found::Nothing => false,
+    }
+}
+
+// ---- adding
+
+// Copies a clause's literals to a place.
+fn copy_at(work: &mut [i32], at: usize, clause: &[i32])
+    requires { ⌜ at + length (now clause) ≤ length (now work) ⌝ }
+    ensures { λ _. ⌜ now (work .exit) ≡ sets (now (work .entry)) at (now (clause .entry)) ⌝ }
+{
+    let mut i = 0;
+    while i < clause.len() {
+        work[at + i] = clause[i];
+        i += 1;
+    }
+}
+
+// Writes a clause's entry at the end of what is filled, if there is room.
+pub fn append_clause(work: &mut [i32], end: usize, clause: &[i32]) -> Added
+    requires { ⌜ end ≤ length (now work) ⌝ }
+    ensures end { λ r. ⌜ r ≡ end-after (length (now (work .entry))) end (now (clause .entry)) ⌝ }
+    ensures written { λ _. ⌜ now (work .exit) ≡ with-entry (now (work .entry)) end (now (clause .entry)) ⌝ }
+{
+    let n = clause.len();
+    if 2147483647 < n {
+        return Added::Full;
+    }
+    if work.len() - end < n + 1 {
+        return Added::Full;
+    }
+    work[end] = literals::header(n);
+    copy_at(work, end + 1, clause);
+    Added::To(end + (n + 1))
+}
+
+// ---- sliding the standing clauses down
+
+// Moves n elements down to a place.
+fn move_down(store: &mut [i32], to: usize, from: usize, n: usize)
+    requires { ⌜ (to ≤ from) × (from + n ≤ length (now store)) ⌝ }
+    ensures { λ _. ⌜ now (store .exit) ≡ sets (now (store .entry)) to (take n (drop from (now (store .entry)))) ⌝ }
+{
+    let mut i = 0;
+    while i < n {
+        let x = store[from + i];
+        store[to + i] = x;
+        i += 1;
+    }
+}
+
+// Moves the clause at a place down if it stands; the result is the place past it.
+fn slide(store: &mut [i32], to: usize, from: usize) -> usize
+    requires { ⌜ (to ≤ from) × (from < length (now store)) × Formed (drop from (now store)) ⌝ }
+    ensures next { λ r. ⌜ r ≡ slid-to (now (store .entry)) to from ⌝ }
+    ensures moved { λ _. ⌜ now (store .exit) ≡ slid (now (store .entry)) to from ⌝ }
+{
+    if literals::is_negative(store[from]) {
+        return to;
+    }
+    let n = next_at(store, from) - from;
+    move_down(store, to, from, n);
+    to + n
+}
+
+// Slides the standing clauses down; the result is how many elements they fill.
+pub fn compact(store: &mut [i32]) -> usize
+    requires { ⌜ Formed (now store) ⌝ }
+    ensures { λ r. ⌜ Compacted (now (store .entry)) r (now (store .exit)) ⌝ }
+{
+    let mut to = 0;
+    let mut from = 0;
+    while from < store.len() {
+        let next = next_at(store, from);
+        to = slide(store, to, from);
+        from = next;
+    }
+    to
+}
+
+// How many elements the clause at a place fills if it stands.
+fn filled_by(store: &[i32], at: usize) -> usize
+    requires { ⌜ at < length (now store) ⌝ }
+    ensures { λ r. ⌜ r ≡ filled (now (store .entry)) at ⌝ }
+{
+    if literals::is_negative(store[at]) {
+        return 0;
+    }
+    1 + literals::header_length(store[at])
+}
+
+// How many elements the standing clauses fill.
+pub fn size_standing(store: &[i32]) -> usize
+    requires { ⌜ Formed (now store) ⌝ }
+    ensures { λ r. ⌜ r ≡ numbers-of (stored (now (store .entry))) ⌝ }
+{
+    let mut n = 0;
+    let mut at = 0;
+    while at < store.len() {
+        n += filled_by(store, at);
+        at = next_at(store, at);
+    }
+    n
+}
+
+// ---- how often each literal stands: a table with an entry at each literal's index
+
+// One more at a literal's index; nothing where the table has no such entry, and no more than the largest u32.
+fn bump(table: &mut [u32], l: i32)
+    ensures { λ _. ⌜ now (table .exit) ≡ bumped (now (table .entry)) l ⌝ }
+{
+    let i = literals::literal_index(l);
+    if table.len() <= i {
+        return;
+    }
+    let x = table[i];
+    if x < 4294967295 {
+        table[i] = x + 1;
+    }
+}
+
+// One more at the index of each literal of a clause.
+pub fn count_clause(table: &mut [u32], clause: &[i32])
+    ensures { λ _. ⌜ now (table .exit) ≡ tallied (now (table .entry)) (now (clause .entry)) ⌝ }
+{
+    let mut i = 0;
+    while i < clause.len() {
+        bump(table, clause[i]);
+        i += 1;
+    }
+}
+
+// Counts the literals of the clause at a place if it stands.
+fn count_entry(table: &mut [u32], store: &[i32], at: usize)
+    requires { ⌜ (at < length (now store)) × Formed (drop at (now store)) ⌝ }
+    ensures { λ _. ⌜ now (table .exit) ≡ tallied-at (now (table .entry)) (now (store .entry)) at ⌝ }
+{
+    if literals::is_negative(store[at]) {
+        return;
+    }
+    let next = next_at(store, at);
+    let first = at + 1;
+    count_clause(table, &store[first..next]);
+}
+
+// Counts the literals of the standing clauses.
+pub fn count_all(table: &mut [u32], store: &[i32])
+    requires { ⌜ Formed (now store) ⌝ }
+    ensures { λ _. ⌜ now (table .exit) ≡ tallied-all (now (table .entry)) (stored (now (store .entry))) ⌝ }
+{
+    let mut at = 0;
+    while at < store.len() {
+        count_entry(table, store, at);
+        at = next_at(store, at);
+    }
+}

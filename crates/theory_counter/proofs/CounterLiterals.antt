@@ -1,0 +1,134 @@
+-- The literals of the counter clauses, and the number of these clauses.
+use mathlib.Core.Path.{_≡_, refl, ap}
+use mathlib.Core.Logic.{_≢_}
+use mathlib.Core.List.{[], _∷_, _++_, List·Memᴰ, List·Memᴰ·head as here, List·Memᴰ·tail as there}
+use Prim.Native.Nat.{ℕ, suc, _+_, _-_, _*_, _≤_, _<_}
+use native.Mathlib.Omega.{arith}
+use lib.IntN.{ℤ, pos, negsuc, negℤ, natAbs}
+use lib.ListN.{length, length-append}
+use Rattle.definition.specs.Literals.{Clause, Formula}
+use Rattle.definition.specs.Events.{Choice}
+use Rattle.definition.specs.Counter.{counter, last-new}
+use Rattle.theory_base.proofs.Members.{Same, Fit, Fits, far, turn, Absent}
+use Rattle.theory_soundness.proofs.Written.{Each, Every, every, each-++, of-each, In-none, in-none}
+use Rattle.theory_soundness.proofs.CounterClauses.{stage-2-from, stage-3-from, counter-from, written, counter-is}
+use Rattle.theory_counter.proofs.Ready.{Well-formed, Other}
+use Rattle.theory_base.proofs.Fitting.{Fit-all, fit-neg, fit-pos, fit-negsuc, fit-up}
+
+-- ---- the first literal of each is a new one, so none is a clause of old literals
+abbrev First-above : ℕ → Formula → Type 0
+First-above g [] = Unit {0}
+First-above g ([] ∷ F) = ⊥
+First-above g ((x ∷ c) ∷ F) = (g < natAbs x) × First-above g F
+
+first-above-++ : (g : ℕ) (F G : Formula) → First-above g F → First-above g G → First-above g (F ++ G)
+first-above-++ g [] G s t = t
+first-above-++ g ((x ∷ c) ∷ F) G s t = (s .0, first-above-++ g F G (s .1) t)
+
+first-above-not : (g : ℕ) (F : Formula) → First-above g F → (p : Clause) → Fit-all g p → (d : Clause) → List·Memᴰ d F → Same p d → ⊥
+first-above-not g ([] ∷ F) a p f d i s = a
+first-above-not g ((x ∷ c) ∷ F) a p f d (here e) s = omega (arith, a .0, f x (s .1 x (rw e (here refl))) .1)
+first-above-not g ((x ∷ c) ∷ F) a p f d (there i) s = first-above-not g F (a .1) p f d i s
+
+stages-first : (g h : ℕ) (c : Clause) → g ≤ h → First-above g (stage-2-from h c) × First-above g (stage-3-from h c)
+stages-first g h [] b = (tt, tt)
+stages-first g h (l ∷ []) b = (tt, (omega arith, (omega arith, tt)))
+stages-first g h (l ∷ m ∷ c) b =
+    let r = stages-first g (suc h) (m ∷ c) (omega arith) in ((omega arith, (omega arith, (omega arith, r .0))), (omega arith, r .1))
+
+pub counter-from-new : (h : ℕ) (l : ℤ) (c p : Clause) → Fit-all h p → (d : Clause) → List·Memᴰ d (counter-from h l c) → Same p d → ⊥
+counter-from-new h l c p =
+    let r = stages-first h h c (omega arith) in
+    first-above-not h (counter-from h l c) (omega arith, (omega arith, first-above-++ h (stage-2-from h c) (stage-3-from h c) (r .0) (r .1))) p
+
+-- ---- they hold no literal of another variable
+stages-absent : (x : ℤ) (h : ℕ) (c : Clause) → natAbs x ≤ h → (List·Memᴰ x c → ⊥) → (List·Memᴰ (negℤ x) c → ⊥) → In-none x (stage-2-from h c) × In-none x (stage-3-from h c)
+stages-absent x h [] b n p = (tt, tt)
+stages-absent x h (m ∷ []) b n p = (
+  tt,
+  ((far x (negsuc h) (omega arith), (λ e. p (here (turn x m e)), tt)), ((far x (pos (suc h)) (omega arith), (λ e. n (here e), tt)), tt)),
+)
+stages-absent x h (m ∷ k ∷ c) b n p =
+    let r = stages-absent x (suc h) (k ∷ c) (omega arith) (λ i. n (there i)) (λ i. p (there i)) in (
+      (
+        (far x (negsuc (suc h)) (omega arith), (far x (pos (suc h)) (omega arith), (λ e. n (here e), tt))),
+        (
+          (far x (pos (suc (suc h))) (omega arith), (far x (negsuc h) (omega arith), tt)),
+          ((far x (pos (suc (suc h))) (omega arith), (λ e. p (here (turn x m e)), tt)), r .0),
+        ),
+      ),
+      ((far x (negsuc h) (omega arith), (λ e. p (here (turn x m e)), tt)), r .1),
+    )
+
+pub counter-from-absent : (x : ℤ) (h : ℕ) (l : ℤ) (c : Clause) → natAbs x ≤ h → (List·Memᴰ x (l ∷ c) → ⊥) → (List·Memᴰ (negℤ x) (l ∷ c) → ⊥) → Absent x (counter-from h l c)
+counter-from-absent x h l c b n p =
+    let r = stages-absent x h c b (λ i. n (there i)) (λ i. p (there i)) in
+    in-none x (counter-from h l c) (
+      (far x (negsuc h) (omega arith), (λ e. n (here e), tt)),
+      (
+        (far x (pos (suc h)) (omega arith), (λ e. p (here (turn x l e)), tt)),
+        each-++ (Each (λ y. x ≢ y)) (stage-2-from h c) (stage-3-from h c) (r .0) (r .1),
+      ),
+    )
+
+-- ---- they hold variables up to the last new one
+stages-fit : (g h : ℕ) (m : ℤ) (c : Clause) → h + length (m ∷ c) ≤ g → Each (Fit g) (m ∷ c) → Every (Fit g) (stage-2-from h (m ∷ c)) × Every (Fit g) (stage-3-from h (m ∷ c))
+stages-fit g h m [] b f =
+    let p = fit-pos g h (omega arith) in
+    let n = fit-negsuc g h (omega arith) in
+    (tt, ((n, (fit-neg g m (f .0), tt)), ((p, (f .0, tt)), tt)))
+stages-fit g h m (k ∷ c) b f =
+    let p = fit-pos g h (omega arith) in
+    let n = fit-negsuc g h (omega arith) in
+    let q = fit-pos g (suc h) (omega arith) in
+    let o = fit-negsuc g (suc h) (omega arith) in
+    let r = stages-fit g (suc h) k c (omega arith) (f .1) in
+    (((o, (p, (f .0, tt))), ((q, (n, tt)), ((q, (fit-neg g m (f .0), tt)), r .0))), ((n, (fit-neg g m (f .0), tt)), r .1))
+
+pub counter-from-fits : (h : ℕ) (l m : ℤ) (c : Clause) → Fit-all h (l ∷ m ∷ c) → Fits (h + length (m ∷ c)) (counter-from h l (m ∷ c))
+counter-from-fits h l m c f =
+    every (Fit g) (counter-from h l (m ∷ c)) (
+      (fit-negsuc g h (omega arith), (up l (here refl), tt)),
+      ((fit-pos g h (omega arith), (fit-neg g l (up l (here refl)), tt)), each-++ (Each (Fit g)) (stage-2-from h (m ∷ c)) (stage-3-from h (m ∷ c)) (s .0) (s .1)),
+    )
+  where
+    g : ℕ
+    g = h + length (m ∷ c)
+
+    up : Fit-all g (l ∷ m ∷ c)
+    up x i = fit-up g h x (omega arith) (f x i)
+
+    s : Every (Fit g) (stage-2-from h (m ∷ c)) × Every (Fit g) (stage-3-from h (m ∷ c))
+    s = stages-fit g h m c (omega arith) (of-each (Fit g) (m ∷ c) (λ x i. up x (there i)))
+
+-- ---- their number
+stage-2-length : (h : ℕ) (m : ℤ) (c : Clause) → length (stage-2-from h (m ∷ c)) ≡ 3 * length c
+stage-2-length h m [] = refl
+stage-2-length h m (k ∷ c) = omega (arith, stage-2-length (suc h) k c)
+
+stage-3-length : (h : ℕ) (m : ℤ) (c : Clause) → length (stage-3-from h (m ∷ c)) ≡ 2 + length c
+stage-3-length h m [] = refl
+stage-3-length h m (k ∷ c) = omega (arith, stage-3-length (suc h) k c)
+
+pub counter-from-length : (h : ℕ) (l m : ℤ) (c : Clause) → length (counter-from h l (m ∷ c)) ≡ 4 * length (m ∷ c)
+counter-from-length h l m c =
+    omega (arith, length-append (stage-2-from h (m ∷ c)) (stage-3-from h (m ∷ c)), stage-2-length h m c, stage-3-length h m c)
+
+-- ---- a choice of two literals or more
+pub counter-new : (k : Choice) → 2 ≤ length (k .literals) → (p : Clause) → Fit-all (k .below) p → (d : Clause) → List·Memᴰ d (counter k) → Same p d → ⊥
+counter-new k b p f = let w = written k b in rw (counter-is w) (counter-from-new (k .below) (w .one) (w .two ∷ w .others) p f)
+
+pub counter-absent : (k : Choice) → 2 ≤ length (k .literals) → (x : ℤ) → Other k x → Absent x (counter k)
+counter-absent k b x o =
+    let w = written k b in
+    rw (counter-is w) (counter-from-absent x (k .below) (w .one) (w .two ∷ w .others) (o .small) (λ i. o .not-in (rw (w .are) i)) (λ i. o .not-negated (rw (w .are) i)))
+
+pub counter-fits : {k : Choice} → Well-formed k → Fits (last-new k) (counter k)
+unfolding last-new
+counter-fits {k} u =
+    let w = written k (u .long) in
+    let e : length (k .literals) - 1 ≡ length (w .two ∷ w .others) = omega (arith, ap length (w .are)) in
+    rw (e, counter-is w) (counter-from-fits (k .below) (w .one) (w .two) (w .others) (λ x i. u .fit x (rw (w .are) i)))
+
+pub counter-length : (k : Choice) → 2 ≤ length (k .literals) → length (counter k) ≡ 4 * (length (k .literals) - 1)
+counter-length k b = let w = written k b in rw (counter-is w) (omega (arith, ap length (w .are), counter-from-length (k .below) (w .one) (w .two) (w .others)))

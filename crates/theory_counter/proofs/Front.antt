@@ -1,0 +1,135 @@
+-- What stands before the counter clauses after stage 4 of a choice.
+use mathlib.Core.Path.{_≡_, refl, ap}
+use mathlib.Core.Logic.{⊎-elim}
+use mathlib.Core.List.{_∷_, _++_, map, map-append, append-assoc, List·Memᴰ, List·Memᴰ·head as here, List·Memᴰ·tail as there, List·Memᴰ·append-cases, Memᴰ·append-left}
+use Prim.Native.Nat.{_+_}
+use native.Mathlib.Omega.{arith}
+use lib.IntN.{ℤ, negℤ}
+use Rattle.definition.specs.Lists.{bit, count}
+use Rattle.definition.specs.Literals.{Clause, Formula, same-set, holds}
+use Rattle.definition.specs.Standing.{addition, deletion, take-out}
+use Rattle.definition.specs.Events.{Choice}
+use Rattle.definition.specs.Clearing.{times}
+use Rattle.definition.specs.Counter.{pairs, missing-pairs, counter, take-choice, choice-lines, copies, stage-2, stage-3, size, lit, new}
+use Rattle.definition.specs.Reencoding.{lines-of}
+use Rattle.theory_base.proofs.Members.{Same, Fits, proper-unopposed, holds-false, Absent}
+use Rattle.theory_base.proofs.Removal.{Removed, takes}
+use Rattle.theory_soundness.proofs.Times.{holds-yes, times-++, times-cons, times-none, none-times, times-removed}
+use Rattle.theory_soundness.proofs.Removals.{Removes, next, times-removes, mem-removes, stay-in}
+use Rattle.theory_counter.proofs.Ready.{Well-formed, Ready, Other, with-clause}
+use Rattle.theory_base.proofs.Fitting.{Fit-all, fit-unneg}
+use Rattle.theory_counter.proofs.Pairs.{Pair, pair-form, pair-literal, pairs-absent, missing-mem, pairs-spread}
+use Rattle.theory_base.proofs.Loops.{count-++}
+use Rattle.theory_counter.proofs.Copies.{count-none, count-removed, drop-all, all-removed, copy-mem}
+use Rattle.theory_counter.proofs.CounterLiterals.{counter-new}
+
+-- the formula after stage 1, and the copies of pairs that stage 4 deletes
+abbrev pub paired : Formula → Choice → Formula
+paired F k = F ++ missing-pairs F (k .literals)
+
+abbrev pub pair-copies : Formula → Choice → Formula
+pair-copies F k = copies (paired F k ++ counter k) (k .literals)
+
+pub taken-lines-are : (F : Formula) (k : Choice) → lines-of (take-choice F k) ≡ map addition (missing-pairs F (k .literals) ++ counter k) ++ map deletion (k .literals ∷ pair-copies F k)
+unfolding lines-of take-choice choice-lines counter
+taken-lines-are F k = simp (map-append, append-assoc)
+
+unfoldable pub front : Formula → Choice → Formula
+front F k = drop-all (take-out (k .literals) (paired F k)) (pairs (k .literals))
+
+pub copies-mem : (F : Formula) (k : Choice) (d : Clause) → List·Memᴰ d (pair-copies F k) → List·Memᴰ d (pairs (k .literals))
+unfolding copies
+copies-mem F k d i = copy-mem (λ p. count (same-set p) (paired F k ++ counter k)) (pairs (k .literals)) d i
+
+module _ (F : Formula) (k : Choice) (f : Fits (k .below) F) (r : Ready F k) where
+  -- the choice's literals are old ones, and each stands in no other clause
+  pub own-fit : Fit-all (k .below) (k .literals)
+  own-fit x i = f (k .clause) (r .standing) x (r .same .0 x i)
+
+  pub well-formed : Well-formed k
+  well-formed = record { proper = r .proper; long = r .long; fit = own-fit }
+
+  pub clause-taken : Removed (k .literals) F (take-out (k .literals) F)
+  clause-taken = takes (k .literals) (k .clause) F (r .standing) (r .same)
+
+  pub absent-else : (x : ℤ) → List·Memᴰ x (k .literals) → Absent x (take-out (k .literals) F)
+  absent-else x i =
+      none-times x (take-out (k .literals) F) (omega (arith, r .alone x i, times-removed x clause-taken, ap bit (holds-yes x (k .literals) i)))
+
+  -- ---- stage 4
+  pair-of : (d : Clause) → List·Memᴰ d (pairs (k .literals)) → Pair (k .literals) d
+  pair-of d i = pair-form (k .literals) (r .proper) d i
+
+  pub pair-fit : (d : Clause) → List·Memᴰ d (pairs (k .literals)) → Fit-all (k .below) d
+  pair-fit d i x j = fit-unneg (k .below) x (own-fit (negℤ x) (pair-literal (pair-of d i) x j))
+
+  not-choice : (d : Clause) → Pair (k .literals) d → Same d (k .literals) → ⊥
+  not-choice d q s = proper-unopposed (k .literals) (r .proper) (q .one) (q .one-in) (pair-literal q (q .one) (s .1 (q .one) (q .one-in)))
+
+  pub front-removes : Removes (paired F k) (k .literals ∷ pair-copies F k) (front F k)
+  unfolding front copies
+  front-removes =
+      next taken
+      (all-removed (λ p. count (same-set p) (paired F k ++ counter k)) (pairs (k .literals)) (take-out (k .literals) (paired F k)) (pairs-spread (k .literals) (r .proper)) (λ p i.
+      omega (
+        arith,
+        count-++ (same-set p) (paired F k) (counter k),
+        count-none p (counter k) (counter-new k (r .long) p (pair-fit p i)),
+        count-removed p (not-choice p (pair-of p i)) taken,
+      )))
+    where
+      taken : Removed (k .literals) (paired F k) (take-out (k .literals) (paired F k))
+      taken = takes (k .literals) (k .clause) (paired F k) (Memᴰ·append-left (missing-pairs F (k .literals)) (r .standing)) (r .same)
+
+  -- ---- how often a literal stands
+  missing-absent : (x : ℤ) → (List·Memᴰ (negℤ x) (k .literals) → ⊥) → Absent x (missing-pairs F (k .literals))
+  missing-absent x n d i = pairs-absent x (k .literals) (r .proper) n d (missing-mem F (k .literals) d i)
+
+  copies-absent : (x : ℤ) → (List·Memᴰ (negℤ x) (k .literals) → ⊥) → Absent x (pair-copies F k)
+  copies-absent x n d i = pairs-absent x (k .literals) (r .proper) n d (copies-mem F k d i)
+
+  front-times : (x : ℤ) → (List·Memᴰ (negℤ x) (k .literals) → ⊥) → times x F ≡ bit (holds x (k .literals)) + times x (front F k)
+  front-times x n =
+      omega (
+        arith,
+        times-removes x front-removes,
+        times-cons x (k .literals) (pair-copies F k),
+        times-++ x F (missing-pairs F (k .literals)),
+        times-none x (missing-pairs F (k .literals)) (missing-absent x n),
+        times-none x (pair-copies F k) (copies-absent x n),
+      )
+
+  pub front-own : (x : ℤ) → List·Memᴰ x (k .literals) → times x (front F k) ≡ 0
+  front-own x i = omega (arith, front-times x (proper-unopposed (k .literals) (r .proper) x i), r .alone x i, ap bit (holds-yes x (k .literals) i))
+
+  pub front-other : (x : ℤ) → Other k x → times x (front F k) ≡ times x F
+  front-other x o = omega (arith, front-times x (o .not-negated), ap bit (holds-false x (k .literals) (o .not-in)))
+
+  -- a clause with a literal of another variable stays
+  pub front-kept : (x : ℤ) → Other k x → (d : Clause) → List·Memᴰ d F → List·Memᴰ x d → List·Memᴰ d (front F k)
+  front-kept x o d i j = stay-in x front-removes (Memᴰ·append-left (missing-pairs F (k .literals)) i) j away
+    where
+      away : Absent x (k .literals ∷ pair-copies F k)
+      away e (here q) y = o .not-in (rw q at y)
+      away e (there q) y = copies-absent x (o .not-negated) e q y
+
+  -- ---- variables
+  pub paired-fits : Fits (k .below) (paired F k)
+  paired-fits d i x j = ⊎-elim (λ q. f d q x j) (λ q. pair-fit d (missing-mem F (k .literals) d q) x j) (List·Memᴰ·append-cases F i)
+
+  pub front-fits : Fits (k .below) (front F k)
+  front-fits d i = paired-fits d (mem-removes front-removes i)
+
+-- ---- which clause a choice was does not matter to what is written and what stands
+module _ (d : Clause) (k : Choice) where
+  pub counter-open : counter (with-clause d k) ≡ counter k
+  unfolding counter stage-2 stage-3 size lit new
+  counter-open = refl
+
+  pub front-open : (F : Formula) → front F (with-clause d k) ≡ front F k
+  unfolding front
+  front-open F = refl
+
+  pub taken-open : (F : Formula) → lines-of (take-choice F (with-clause d k)) ≡ lines-of (take-choice F k)
+  unfolding lines-of take-choice choice-lines counter stage-2 stage-3 size lit new
+  taken-open F = refl

@@ -1,0 +1,40 @@
+-- What is asked of a choice, and literals of other variables.
+use mathlib.Core.Path.{_≡_}
+use mathlib.Core.List.{List·Memᴰ}
+use Prim.Native.Nat.{_≤_, ℕ}
+use lib.IntN.{ℤ, negℤ, natAbs}
+use lib.ListN.{length}
+use Rattle.definition.specs.Literals.{Formula, Clause}
+use Rattle.definition.specs.Events.{Choice}
+use Rattle.definition.specs.Clearing.{times}
+use Rattle.theory_base.proofs.Members.{Same, Proper}
+use Rattle.theory_base.proofs.Fitting.{Fit-all}
+
+-- a choice of two or more literals, all of its variables before the new ones
+pub record Well-formed (k : Choice) : Type 0 where
+  pub proper : Proper (k .literals)
+  pub long : 2 ≤ length (k .literals)
+  pub fit : Fit-all (k .below) (k .literals)
+
+-- a choice that can be taken where F stands: its literals are those of a standing clause, in some order, and each stands in that clause only
+pub record Ready (F : Formula) (k : Choice) : Type 0 where
+  pub proper : Proper (k .literals)
+  pub proper-clause : Proper (k .clause)
+  pub long : 2 ≤ length (k .literals)
+  pub standing : List·Memᴰ (k .clause) F
+  pub same : Same (k .literals) (k .clause)
+  pub alone : (x : ℤ) → List·Memᴰ x (k .literals) → times x F ≡ 1
+
+-- a literal of another variable than those of the choice, old and new
+pub record Other (k : Choice) (x : ℤ) : Type 0 where
+  pub small : natAbs x ≤ k .below
+  pub not-in : List·Memᴰ x (k .literals) → ⊥
+  pub not-negated : List·Memᴰ (negℤ x) (k .literals) → ⊥
+
+-- the choice of some literals above a variable; which clause it was is open
+abbrev pub of-literals : Clause → ℕ → Choice
+of-literals l n = record { clause = l; literals = l; below = n }
+
+-- the same choice, of another clause
+abbrev pub with-clause : Clause → Choice → Choice
+with-clause d k = record { clause = d; literals = k .literals; below = k .below }

@@ -1,0 +1,84 @@
+-- How much one event adds, counted in numbers: the literals of the added clauses, and one more for each clause. Assumes that the lines are proper.
+use mathlib.Core.Path.{_≡_, refl}
+use mathlib.Core.Bool.{Bool, true, false, not}
+use mathlib.Core.List.{List, [], _∷_, _++_, map, List·Memᴰ·head as here}
+use Prim.Native.Nat.{ℕ, zero, suc, _+_, _-_, _*_, _≤_}
+use native.Mathlib.Omega.{arith}
+use lib.IntN.{ℤ, negℤ}
+use lib.ListN.{length}
+use Rattle.definition.specs.Lists.{sum-of, only-if, for-from}
+use Rattle.definition.specs.Literals.{Clause, Formula, with-first, opposed}
+use Rattle.definition.specs.Standing.{addition, deletion, literals, stands}
+use Rattle.definition.specs.Events.{Choice, Event}
+use Rattle.definition.specs.Clearing.{resolvent, clash-lines, pure-lines}
+use Rattle.definition.specs.Counter.{pairs, missing-pairs, size, counter, take-choice}
+use Rattle.definition.specs.Order.{replacement-lines, replaced, deletions-of, literal-deletions}
+use Rattle.definition.specs.Reencoding.{lines-of}
+use Rattle.theory_base.proofs.Sums.{sum-++, sum-≤, sum-those, sum-map, sum-most, sum-least, count-length}
+use Rattle.theory_base.proofs.Fitting.{Proper-to, proper-length}
+use Rattle.theory_base.proofs.Replay.{All-lines}
+use Rattle.theory_room.proofs.Weights.{weight, added, added-deletions}
+use Rattle.theory_room.proofs.Replaced.{Weighs}
+use Rattle.theory_room.proofs.Lines.{Of-choice, taken, replacing, deleting}
+use Rattle.theory_room.proofs.Cleared.{Clearing, clash, pure-clause}
+use Rattle.theory_room.proofs.Rises.{taken-changes, counter-weight}
+
+-- the numbers of a clause, its 0 counted
+abbrev pub numbers : Clause → ℕ
+numbers = weight 1 (λ _. 1)
+
+proper-numbers : (h : ℕ) (c : Clause) → Proper-to h c → numbers c ≤ suc h
+unfolding weight
+proper-numbers h c p = omega (arith, count-length c, proper-length h c p)
+
+-- an optional addition, and then deletions
+one-addition : (h : ℕ) (b : Bool) (c : Clause) (ds : List Clause) → All-lines (Proper-to h) (only-if b (addition c ∷ []) ++ map deletion ds) → added numbers (only-if b (addition c ∷ []) ++ map deletion ds) ≤ suc h
+unfolding only-if sum-of literals
+one-addition h true c ds p = omega (arith, proper-numbers h c (p (addition c) (here refl)), added-deletions numbers ds)
+one-addition h false c ds p = omega (arith, added-deletions numbers ds)
+
+pub clearing-adds : (h : ℕ) (e : Event) → Clearing e → All-lines (Proper-to h) (lines-of e) → added numbers (lines-of e) ≤ suc h
+unfolding lines-of clash-lines pure-lines
+clearing-adds h e (clash c) p = one-addition h (not (opposed (resolvent c))) (resolvent c) (with-first (c .v) (c .one) ∷ with-first (negℤ (c .v)) (c .other) ∷ []) p
+clearing-adds h e (pure-clause l c) p = omega (arith, added-deletions numbers (with-first l c ∷ []))
+
+-- ---- the pairs of 64 literals at most
+triangle : ℕ → ℕ
+triangle zero = 0
+triangle (suc n) = n + triangle n
+
+triangle-≤ : (m n : ℕ) → m ≤ n → triangle m ≤ triangle n
+unfolding triangle
+triangle-≤ zero n h = omega arith
+triangle-≤ (suc m) zero h = absurd (omega arith)
+triangle-≤ (suc m) (suc n) h = omega (arith, triangle-≤ m n (omega arith))
+
+pairs-numbers : (l : Clause) → sum-of numbers (pairs l) ≡ 3 * triangle (length l)
+unfolding pairs sum-of triangle weight
+pairs-numbers [] = refl
+pairs-numbers (a ∷ l) =
+    let pair : ℤ → Clause = λ b. negℤ a ∷ negℤ b ∷ [] in
+    omega (arith, pairs-numbers l, sum-++ numbers (map pair l) (pairs l), sum-map numbers pair l, sum-most 3 (λ _. 3) (λ _. omega arith) l, sum-least 3 (λ _. 3) (λ _. omega arith) l)
+
+missing-numbers : (c : Choice) (f : Formula) → size c ≤ 64 → sum-of numbers (missing-pairs f (c .literals)) ≤ 6_048
+unfolding missing-pairs size triangle
+missing-numbers c f s =
+    let t : triangle 64 ≡ 2_016 = refl in
+    omega (arith, pairs-numbers (c .literals), triangle-≤ (length (c .literals)) 64 s, sum-those numbers (λ p. not (stands p f)) (pairs (c .literals)))
+
+-- ---- the events of a choice
+-- a weight of at least 1 for each literal
+pub numbers-least : (w : ℤ → ℕ) → ((x : ℤ) → 1 ≤ w x) → (c : Clause) → numbers c ≤ weight 1 w c
+unfolding weight
+numbers-least w l c = omega (arith, sum-≤ (λ _. 1) w c (λ x _. l x))
+
+pub taken-adds : (w : ℤ → ℕ) → ((x : ℤ) → 1 ≤ w x) → (c : Choice) → Weighs 1 w c → 2 ≤ size c → size c ≤ 64 → (f : Formula) → added numbers (lines-of (take-choice f c)) ≤ 6_048 + (size c - 1) * 16
+taken-adds w l c q s t f =
+    omega (arith, taken-changes numbers c f .0, missing-numbers c f t, sum-≤ numbers (weight 1 w) (counter c) (λ d _. numbers-least w l d), counter-weight 1 1 w c q s)
+
+pub choice-adds : (h : ℕ) (w : ℤ → ℕ) → ((x : ℤ) → 1 ≤ w x) → (c : Choice) → Weighs 1 w c → 2 ≤ size c → size c ≤ 64 → (f : Formula) (e : Event) → Of-choice c f e → All-lines (Proper-to h) (lines-of e) →
+    added numbers (lines-of e) ≤ suc h + 7_056
+unfolding lines-of replacement-lines literal-deletions
+choice-adds h w l c q s t f e taken p = omega (arith, taken-adds w l c q s t f)
+choice-adds h w l c q s t f e (replacing d m) p = omega (arith, one-addition h (not (opposed (replaced c d))) (replaced c d) (d ∷ []) p)
+choice-adds h w l c q s t f e deleting p = omega (arith, added-deletions numbers (for-from 1 (size c) (deletions-of c)))

@@ -1,0 +1,285 @@
+-- What is known where a choice is taken. Assumes that the formula was accepted.
+use mathlib.Core.Path.{_≡_, refl, sym, _∙_, ap}
+use mathlib.Core.Logic.{⊎-elim}
+use mathlib.Core.Bool.{Bool, true, false, not}
+use mathlib.Core.List.{List, [], _∷_, _++_, append-assoc, append-nil, List·Memᴰ, List·Memᴰ·head as here, Memᴰ·append-left, Memᴰ·append-right, List·Memᴰ·append-cases}
+use Prim.Native.Nat.{ℕ, _+_, _-_, _≤_}
+use native.Mathlib.Omega.{arith}
+use lib.ListN.{length}
+use Rattle.definition.specs.Lists.{sum-of, only-if, for-each}
+use Rattle.definition.specs.Literals.{Clause, Formula, opposes, opposed}
+use Rattle.definition.specs.Standing.{addition, deletion, after}
+use Rattle.definition.specs.Reading.{Input, input-limits}
+use Rattle.definition.specs.Events.{Choice, Event, clause-replaced, literals-deleted}
+use Rattle.definition.specs.Counter.{below-new, last-new, counter, take-choice}
+use Rattle.definition.specs.Order.{replacement-lines, replaced, replace, order-events}
+use Rattle.definition.specs.Reencoding.{lines-of, lines, Form, counter-form, order-form, Settings, choice-events, choices-events, cleared, chosen, input, events, log, result}
+use Rattle.definition.specs.Calls.{workspace-need, numbers-of}
+use Rattle.theory_base.proofs.Members.{Parted, Proper-all, Fits}
+use Rattle.theory_base.proofs.Sums.{sum-++, sum-≤, sum-for-each}
+use Rattle.theory_base.proofs.Fitting.{Fit-all, Proper-to, proper-fit, fit-up}
+use Rattle.theory_base.proofs.Replay.{All-clauses, after-++, lines-++}
+use Rattle.theory_soundness.proofs.Removals.{mem-removes}
+use Rattle.theory_clearing.proofs.Cleared.{cleared-facts}
+use Rattle.theory_counter.proofs.Ready.{Ready}
+use Rattle.theory_counter.proofs.Pairs.{missing-mem}
+use Rattle.theory_counter.proofs.Front.{front, own-fit, front-removes}
+use Rattle.theory_counter.proofs.Counter.{after-choice}
+use Rattle.theory_order.proofs.Order.{order-events-are}
+use Rattle.theory_order.proofs.Pass.{results, added as results-of}
+use Rattle.theory_text.proofs.Accepted.{Accepted}
+use Rattle.theory_room.proofs.Weights.{gained, added, weight}
+use Rattle.theory_room.proofs.Choice.{pairs-to}
+use Rattle.theory_room.proofs.Lines.{Arranges, new-variables, ordered-length, ordered-proper, ordered-new}
+use Rattle.theory_room.proofs.Cleared.{clearing, cleared-after}
+use Rattle.theory_room.proofs.Rises.{risen, taken-changes}
+use Rattle.theory_room.proofs.Additions.{numbers}
+use Rattle.theory_room.proofs.Runs.{Run, order-of, choosing, events-are, chosen-mem, arranges, run-risen, weight-after, few-new-variables, literal-weight, literal-most, literal-least, weight-most, weight-least}
+use Rattle.theory_room.proofs.Compaction.{events-of-first, standing-after-first, next-choice, choices-split, first-to}
+use Rattle.theorems.proofs.Log.{chosen-parted, chosen-ready}
+use Rattle.theorems.proofs.Texts.{accepted-run}
+use Rattle.theorems.proofs.Steps.{steps}
+use Rattle.theorems.proofs.Choices.{before-order}
+use Rattle.theory_run.specs.Choices.{events-up-to, Takeable, At-choice, Choices-taken}
+use Rattle.theory_run.proofs.Splits.{choice-alone, ready-after}
+use Rattle.theory_run.proofs.Variables.{chosen-few}
+
+-- ---- what the events of a choice add, counted in numbers
+
+numbers-sum : (f : Formula) → numbers-of f ≤ sum-of numbers f
+unfolding numbers-of
+numbers-sum f = omega (arith, weight-least 1 1 (λ _. 1) (λ _. omega arith) f)
+
+taken-space : (F : Formula) (k : Choice) → numbers-of (counter k) ≤ added numbers (lines-of (take-choice F k))
+taken-space F k = omega (arith, taken-changes numbers k F .0, numbers-sum (counter k))
+
+choice-space : (form : Form) (F : Formula) (k : Choice) → numbers-of (counter k) ≤ added numbers (lines (choice-events form F k))
+unfolding choice-events lines for-each
+choice-space counter-form F k = omega (arith, taken-space F k, sum-++ (gained numbers) (lines-of (take-choice F k)) [])
+choice-space order-form F k = omega (arith, taken-space F k, sum-++ (gained numbers) (lines-of (take-choice F k)) (lines (order-events k (after F (lines-of (take-choice F k))))))
+
+result-space : (k : Choice) (d : Clause) → sum-of numbers (results k d) ≤ sum-of (λ e. added numbers (lines-of e)) (replace k d)
+unfolding replace only-if sum-of lines-of replacement-lines
+result-space k d = go (opposes (k .literals) d)
+  where
+    r : Clause
+    r = replaced k d
+
+    one : (u : Bool) → sum-of numbers (only-if u (r ∷ [])) ≤ added numbers (only-if u (addition r ∷ []) ++ (deletion d ∷ []))
+    one true = omega arith
+    one false = omega arith
+
+    go : (t : Bool) → sum-of numbers (only-if t (only-if (not (opposed r)) (r ∷ []))) ≤ sum-of (λ e. added numbers (lines-of e)) (only-if t (clause-replaced d r ∷ []))
+    go true = omega (arith, one (not (opposed r)))
+    go false = omega arith
+
+module _ (F : Formula) (k : Choice) (f : Fits (k .below) F) (r : Ready F k) where
+  order-space-of : numbers-of (counter k) + numbers-of (results-of k (front F k)) ≤ added numbers (lines (choice-events order-form F k))
+  unfolding choice-events lines for-each
+  order-space-of =
+      let E = front F k in
+      let es = order-events k (after F (lines-of (take-choice F k))) in
+      let n : Event → ℕ = λ e. added numbers (lines-of e) in
+      omega (
+        arith,
+        taken-space F k,
+        numbers-sum (results-of k E),
+        sum-++ (gained numbers) (lines-of (take-choice F k)) (for-each es lines-of),
+        sum-for-each (gained numbers) es lines-of,
+        ap (sum-of n) (ap (order-events k) (after-choice F k f r) ∙ order-events-are k E),
+        sum-++ n (for-each E (replace k)) (literals-deleted k ∷ []),
+        sum-for-each n E (replace k),
+        sum-for-each numbers E (results k),
+        sum-≤ (λ d. sum-of numbers (results k d)) (λ d. sum-of n (replace k d)) E (λ d _. result-space k d),
+      )
+
+  pub front-proper-of : Proper-all F → Proper-all (front F k)
+  front-proper-of p d m =
+      ⊎-elim (p d) (λ i. pairs-to (k .below) (k .literals) (r .proper, λ x j. own-fit F k f r x j .1) d (missing-mem F (k .literals) d i) .0)
+      (List·Memᴰ·append-cases F (mem-removes (front-removes F k f r) m))
+
+-- the variables are within the tables' reach
+pub few-variables : {i : Input} → Accepted input-limits i → i .variables ≤ 8_000
+unfolding input-limits
+few-variables a = a .variables-few
+
+-- ---- a run
+module _ (i : Input) (a : Accepted input-limits i) (s : Settings) where
+  run : Run s i
+  run = accepted-run s i a
+
+  parted : Parted (chosen s i)
+  parted = chosen-parted s i (a .proper) (a .fits)
+
+  module _ (cs ds : List Clause) (c : Clause) (e : chosen s i ≡ cs ++ (c ∷ ds)) where
+    -- what stands before the choice
+    F : Formula
+    F = standing-after-first s i cs
+
+    -- the choice
+    k : Choice
+    k = next-choice s i cs c
+
+    arranged-first : Arranges (i .variables) (order-of s i) cs
+    arranged-first d m = arranges s i run d (rw e (Memᴰ·append-left (c ∷ ds) m))
+
+    next-in : List·Memᴰ c (chosen s i)
+    next-in = rw e (Memᴰ·append-right cs (here refl))
+
+    F-to : All-clauses (Proper-to (i .variables + new-variables cs)) F
+    unfolding F
+    F-to = first-to s i run parted cs ds c e
+
+    ready-k : Ready F k
+    unfolding F k standing-after-first events-of-first
+    ready-k =
+        ready-after (s .form) (order-of s i) (i .variables) (cleared (i .formula)) cs (c ∷ ds) (cleared-facts (a .proper) (a .fits) .1)
+        (λ d m. chosen-ready s i (a .proper) (a .fits) d (rw e m)) (rw e at parted) c (here refl) (i .variables + new-variables cs)
+
+    fits-k : Fits (k .below) F
+    unfolding k below-new
+    fits-k d m = proper-fit (F-to d m)
+
+    k-length : length (k .literals) ≡ length c
+    unfolding k
+    k-length = ordered-length (i .variables) (order-of s i) (chosen s i) (arranges s i run) c next-in
+
+    old-k : Fit-all (i .variables) (k .literals)
+    unfolding k
+    old-k = proper-fit (ordered-proper (i .variables) (order-of s i) (chosen s i) (arranges s i run) c next-in)
+
+    first-new : new-variables cs ≤ i .variables
+    unfolding new-variables
+    first-new = omega (arith, chosen-few s i run parted .1, ap new-variables e, sum-++ (λ d. length d - 1) cs (c ∷ ds))
+
+    -- ---- the events
+    -- its events, and those that follow
+    es : List Event
+    es = choice-events (s .form) F k
+
+    rest : List Event
+    rest = choices-events (s .form) (order-of s i) (last-new k) (after F (lines es)) ds
+
+    first-split : choosing s i ≡ events-of-first s i cs ++ (es ++ rest)
+    unfolding choosing F k es rest standing-after-first events-of-first choices-events
+    first-split =
+        ap (choices-events (s .form) (order-of s i) (i .variables) (cleared (i .formula))) e
+        ∙ choices-split (s .form) (order-of s i) (i .variables) (cleared (i .formula)) cs (c ∷ ds) arranged-first
+
+    events-split : events s i ≡ events-up-to s i cs ++ (es ++ rest)
+    unfolding events-up-to
+    events-split =
+        events-are s i
+        ∙ ap (λ (xs : List Event). clearing (i .formula) ++ xs) first-split
+        ∙ sym (append-assoc (clearing (i .formula)) (events-of-first s i cs) (es ++ rest))
+
+    first-more : events-of-first s i (cs ++ (c ∷ [])) ≡ events-of-first s i cs ++ es
+    unfolding F k es standing-after-first events-of-first
+    first-more =
+        choices-split (s .form) (order-of s i) (i .variables) (cleared (i .formula)) cs (c ∷ []) arranged-first
+        ∙ ap (λ (xs : List Event). events-of-first s i cs ++ xs) (choice-alone (s .form) (order-of s i) (i .variables + new-variables cs) F c)
+
+    stands-F : after (i .formula) (lines (events-up-to s i cs)) ≡ F
+    unfolding F events-up-to standing-after-first
+    stands-F =
+        let xs = events-of-first s i cs in
+        ap (after (i .formula)) (lines-++ (clearing (i .formula)) xs)
+        ∙ after-++ (i .formula) (lines (clearing (i .formula))) (lines xs)
+        ∙ ap (λ (X : Formula). after X (lines xs)) (sym (cleared-after (i .formula)))
+
+    next-stands-of : standing-after-first s i (cs ++ (c ∷ [])) ≡ after F (lines es)
+    unfolding F standing-after-first
+    next-stands-of =
+        let xs = events-of-first s i cs in
+        ap (λ (ys : List Event). after (cleared (i .formula)) (lines ys)) first-more
+        ∙ ap (after (cleared (i .formula))) (lines-++ xs es)
+        ∙ after-++ (cleared (i .formula)) (lines xs) (lines es)
+
+    next-events-of : events-up-to s i (cs ++ (c ∷ [])) ≡ events-up-to s i cs ++ es
+    unfolding events-up-to
+    next-events-of =
+        ap (λ (xs : List Event). clearing (i .formula) ++ xs) first-more
+        ∙ sym (append-assoc (clearing (i .formula)) (events-of-first s i cs) es)
+
+    next-below-of : last-new k ≡ i .variables + new-variables (cs ++ (c ∷ []))
+    unfolding k new-variables sum-of
+    next-below-of =
+        omega (
+          arith,
+          ordered-new (i .variables) (order-of s i) (chosen s i) (arranges s i run) c next-in (i .variables + new-variables cs),
+          sum-++ (λ d. length d - 1) cs (c ∷ []),
+        )
+
+    -- ---- sizes
+    few-F : length F ≤ 300_000
+    unfolding input-limits
+    few-F =
+        let xs = events-up-to s i cs in
+        let w = literal-weight 0 (chosen s i) in
+        omega (
+          arith,
+          weight-after s i run 1 0 xs (es ++ rest) events-split,
+          weight-most 1 0 w (literal-most 0 (chosen s i)) (i .formula),
+          weight-least 1 0 w (literal-least 0 (chosen s i)) F,
+          ap (sum-of (weight 1 w)) stands-F,
+          run-risen s i run 4,
+          ap (sum-of (risen 4)) events-split,
+          sum-++ (risen 4) xs (es ++ rest),
+          few-new-variables s i run,
+          a .clauses-few,
+          a .literals-few,
+        )
+
+    room-F : numbers-of F + added numbers (lines es) ≤ workspace-need i
+    unfolding F k es
+    room-F = steps i a s .choice cs ds c e
+
+    pub takeable-choice : Takeable s i (standing-after-first s i cs) (next-choice s i cs c)
+    unfolding F k es below-new
+    takeable-choice =
+        let t = chosen-mem s i c next-in in
+        let least : 5 ≤ length c = t .1 in
+        let most : length c ≤ 64 = t .2 in
+        record {
+          proper = λ d m. F-to d m .0;
+          fits = fits-k;
+          ready = ready-k;
+          least = omega (arith, k-length);
+          most = omega (arith, k-length);
+          old = old-k;
+          reach = λ x m. fit-up 8_000 (i .variables) x (few-variables a) (old-k x m);
+          new-few = omega (arith, first-new, (few-variables a));
+          few = few-F;
+          space = omega (arith, room-F, choice-space (s .form) F k);
+          order-space = λ o. omega (arith, room-F, order-space-of F k fits-k ready-k, ap (λ (form : Form). added numbers (lines (choice-events form F k))) o);
+          before = before-order F k fits-k ready-k;
+          front-proper = front-proper-of F k fits-k ready-k (λ d m. F-to d m .0);
+        }
+
+    pub at-choice : At-choice s i cs c (standing-after-first s i cs) (next-choice s i cs c)
+    unfolding F k es below-new
+    at-choice = record {
+      takeable = takeable-choice;
+      below = refl;
+      next-below = next-below-of;
+      stands = stands-F;
+      next-stands = next-stands-of;
+      next-events = next-events-of;
+      rest = rest;
+      split = events-split;
+    }
+
+  pub choices-taken : Choices-taken s i
+  unfolding events-up-to events-of-first standing-after-first choices-events choosing clearing new-variables sum-of lines for-each after result log input
+  choices-taken =
+      let f = i .formula in
+      record {
+        at = at-choice;
+        start-below = omega arith;
+        start-stands = refl;
+        start-events = append-nil (clearing f);
+        end-stands =
+            ap (λ (X : Formula). after X (lines (choosing s i))) (cleared-after f)
+            ∙ sym (ap (after f) (ap lines (events-are s i) ∙ lines-++ (clearing f) (choosing s i)) ∙ after-++ f (lines (clearing f)) (lines (choosing s i)));
+        end-events = sym (events-are s i);
+      }

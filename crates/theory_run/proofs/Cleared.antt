@@ -1,0 +1,66 @@
+-- What stands when the clashes are cleared, and when the pure clauses are deleted too. Assumes that the formula was accepted.
+use mathlib.Core.Path.{_≡_, ap}
+use mathlib.Core.List.{List, _++_, List·Memᴰ, Memᴰ·append-left}
+use Prim.Native.Nat.{_≤_}
+use native.Mathlib.Omega.{arith}
+use lib.ListN.{length}
+use Rattle.definition.specs.Literals.{Formula}
+use Rattle.definition.specs.Standing.{after}
+use Rattle.definition.specs.Reading.{Input, input-limits}
+use Rattle.definition.specs.Events.{Event}
+use Rattle.definition.specs.Clearing.{clear-clashes, clear-pure}
+use Rattle.definition.specs.Reencoding.{lines, counter-form, Settings, chosen, events, unclashed, cleared}
+use Rattle.definition.specs.Alignment.{no-wish}
+use Rattle.theory_clearing.proofs.Clashes.{lowest-none, unclashed-proper, no-clash-left}
+use Rattle.theory_clearing.proofs.Cleared.{cleared-facts}
+use Rattle.theory_text.proofs.Accepted.{Accepted}
+use Rattle.theory_room.proofs.Rises.{clearing-risen}
+use Rattle.theory_room.proofs.Cleared.{Clearing, clearing, clearing-event, cleared-after}
+use Rattle.theory_room.proofs.Runs.{choosing, events-are, weight-after, literal-weight, literal-most, literal-least, weight-most, weight-least}
+use Rattle.theorems.proofs.Texts.{accepted-run}
+use Rattle.theorems.proofs.Steps.{events-from-clashes}
+use Rattle.theory_run.specs.Sizes.{Standing-cleared}
+
+module _ (i : Input) (a : Accepted input-limits i) where
+  -- clearing only shortens, in any settings
+  any-settings : Settings
+  any-settings = record { form = counter-form; wish = no-wish }
+
+  shorter : (xs ys : List Event) → events any-settings i ≡ xs ++ ys → ((e : Event) → List·Memᴰ e xs → Clearing e) → length (after (i .formula) (lines xs)) ≤ length (i .formula)
+  shorter xs ys e h =
+      let s = any-settings in
+      let w = literal-weight 0 (chosen s i) in
+      omega (
+        arith,
+        weight-after s i (accepted-run s i a) 1 0 xs ys e,
+        weight-most 1 0 w (literal-most 0 (chosen s i)) (i .formula),
+        weight-least 1 0 w (literal-least 0 (chosen s i)) (after (i .formula) (lines xs)),
+        clearing-risen 4 xs h,
+      )
+
+  pub unclashed-shorter : length (unclashed (i .formula)) ≤ length (i .formula)
+  unfolding unclashed clearing
+  unclashed-shorter =
+      let f = i .formula in
+      shorter (clear-clashes f) (clear-pure (unclashed f) ++ choosing any-settings i) (events-from-clashes any-settings i) (λ e m. clearing-event f e (Memᴰ·append-left (clear-pure (unclashed f)) m))
+
+  pub cleared-shorter : length (cleared (i .formula)) ≤ length (i .formula)
+  cleared-shorter =
+      omega (arith, shorter (clearing (i .formula)) (choosing any-settings i) (events-are any-settings i) (clearing-event (i .formula)), ap (λ (X : Formula). length X) (cleared-after (i .formula)))
+
+  pub unclashed-standing : Standing-cleared i (unclashed (i .formula))
+  unfolding input-limits
+  unclashed-standing =
+      let r = unclashed-proper (a .proper) (a .fits) in
+      record {
+        proper = r .0;
+        fits = r .1;
+        free = lowest-none (unclashed (i .formula)) (r .0) (no-clash-left (i .formula) (a .proper));
+        few = omega (arith, unclashed-shorter, a .clauses-few);
+      }
+
+  pub cleared-standing : Standing-cleared i (cleared (i .formula))
+  unfolding input-limits
+  cleared-standing =
+      let r = cleared-facts (a .proper) (a .fits) in
+      record { proper = r .0; fits = r .1; free = r .2; few = omega (arith, cleared-shorter, a .clauses-few) }

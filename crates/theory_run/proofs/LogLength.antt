@@ -1,0 +1,220 @@
+-- The log is short: how much its lines add and delete, counted in numbers, and how long their text is.
+use mathlib.Core.Path.{_≡_, refl, sym, _∙_, ap}
+use mathlib.Core.List.{List, [], _∷_, _++_, append-assoc, List·Memᴰ, List·Memᴰ·head as here, List·Memᴰ·tail as there}
+use mathlib.Core.Option.{Option, some, none}
+use Prim.Native.Nat.{ℕ, zero, suc, _+_, _*_, _≤_}
+use native.Mathlib.Omega.{arith}
+use lib.IntN.{ℤ, pos, negsuc, natAbs}
+use lib.ListN.{length, length-append}
+use Rattle.definition.specs.Lists.{sum-of, for-each}
+use Rattle.definition.specs.Literals.{Clause, Formula}
+use Rattle.definition.specs.Text.{Bytes, bytes, digits, literal-text}
+use Rattle.definition.specs.Standing.{Line, addition, deletion, literals, after}
+use Rattle.definition.specs.Reading.{Input, input-limits}
+use Rattle.definition.specs.Events.{Clash, Event}
+use Rattle.definition.specs.Clearing.{clash-lines, lowest-clash, pure-literal, clear-next, clear-up-to, clear-clashes, pure-next, clear-pure-from, clear-pure}
+use Rattle.definition.specs.Counter.{below-new, last-new}
+use Rattle.definition.specs.Log.{clause-text, log-line-text, log-text}
+use Rattle.definition.specs.Reencoding.{lines-of, lines, Settings, choice-events, choices-events, unclashed, cleared, chosen, input, events, log}
+use Rattle.definition.specs.Calls.{workspace-need}
+use Rattle.theory_base.proofs.Digits.{digits-within}
+use Rattle.theory_base.proofs.Loops.{for-each-++, mem-for-each}
+use Rattle.theory_base.proofs.Sums.{sum-++, sum-≤, sum-most, sum-for-each, count-length}
+use Rattle.theory_base.proofs.Fitting.{Up-to}
+use Rattle.theory_base.proofs.Replay.{All-lines, lines-++}
+use Rattle.theory_room.proofs.Weights.{weight, weight-of-set, gained, added, deleted, balance}
+use Rattle.theory_room.proofs.Lines.{new-variables}
+use Rattle.theory_room.proofs.Cleared.{clearing, clearing-event, clearing-lines-to}
+use Rattle.theory_room.proofs.Additions.{numbers, clearing-adds}
+use Rattle.theory_text.proofs.Accepted.{Accepted}
+use Rattle.theory_room.proofs.Runs.{Run, order-of, choosing, events-are, weight-most, log-to, log-proper}
+use Rattle.theory_room.proofs.Compaction.{events-of-first, standing-after-first, next-choice}
+use Rattle.theorems.proofs.Log.{chosen-parted}
+use Rattle.theorems.proofs.Texts.{accepted-run}
+use Rattle.theorems.proofs.Steps.{steps}
+use Rattle.theory_run.specs.Sizes.{Short}
+use Rattle.theory_run.proofs.Variables.{chosen-few}
+use Rattle.theory_run.proofs.Choices.{at-choice}
+use Rattle.theory_run.proofs.Cleared.{unclashed-shorter}
+
+-- ---- the text of lines whose variables have five digits at most
+
+digits-short : (n : ℕ) → n ≤ 70_000 → length (digits n) ≤ 5
+digits-short n h = digits-within 4 n (omega arith)
+
+literal-short : (x : ℤ) → natAbs x ≤ 70_000 → length (literal-text x) ≤ 6
+unfolding literal-text
+literal-short (pos n) h = omega (arith, digits-short n h)
+literal-short (negsuc n) h = omega (arith, digits-short (suc n) h)
+
+literals-short : (c : Clause) → Up-to 70_000 c → length (for-each c (λ l. literal-text l ++ bytes " ")) ≤ 7 * length c
+unfolding for-each bytes
+literals-short [] h = omega arith
+literals-short (x ∷ c) h =
+    omega (
+      arith,
+      length-append (literal-text x ++ bytes " ") (for-each c (λ l. literal-text l ++ bytes " ")),
+      length-append (literal-text x) (bytes " "),
+      literal-short x (h x (here refl)),
+      literals-short c (λ y m. h y (there m)),
+    )
+
+pub clause-short : (c : Clause) → Up-to 70_000 c → length (clause-text c) ≤ 7 * length c + 2
+unfolding clause-text bytes
+clause-short c h = omega (arith, length-append (for-each c (λ l. literal-text l ++ bytes " ")) (bytes "0\n"), literals-short c h)
+
+-- the numbers of a line, its 0 counted
+abbrev line-numbers : Line → ℕ
+line-numbers x = numbers (literals x)
+
+numbers-length : (c : Clause) → numbers c ≡ length c + 1
+unfolding weight
+numbers-length c = omega (arith, count-length c)
+
+line-short : (x : Line) → Up-to 70_000 (literals x) → length (log-line-text x) ≤ 7 * line-numbers x
+unfolding log-line-text literals bytes
+line-short (addition c) h = omega (arith, clause-short c h, numbers-length c)
+line-short (deletion c) h = omega (arith, length-append (bytes "d ") (clause-text c), clause-short c h, numbers-length c)
+
+lines-short : (xs : List Line) → All-lines (Up-to 70_000) xs → length (log-text xs) ≤ 7 * sum-of line-numbers xs
+unfolding log-text for-each sum-of
+lines-short [] h = omega arith
+lines-short (x ∷ xs) h = omega (arith, length-append (log-line-text x) (log-text xs), line-short x (h x (here refl)), lines-short xs (λ y m. h y (there m)))
+
+lines-counted : (xs : List Line) → length xs ≤ sum-of line-numbers xs
+unfolding sum-of
+lines-counted [] = omega arith
+lines-counted (x ∷ xs) = omega (arith, numbers-length (literals x), lines-counted xs)
+
+-- a line adds or deletes
+lines-change : (xs : List Line) → sum-of line-numbers xs ≡ added numbers xs + deleted numbers xs
+unfolding sum-of literals
+lines-change [] = refl
+lines-change (addition c ∷ xs) = omega (arith, lines-change xs)
+lines-change (deletion c ∷ xs) = omega (arith, lines-change xs)
+
+-- ---- what clearing adds
+
+clashes-few : (n : ℕ) (f : Formula) → length (clear-up-to n f) ≤ n
+unfolding clear-up-to clear-next
+clashes-few zero f = omega arith
+clashes-few (suc n) f = go (lowest-clash f) (clashes-few n)
+  where
+    go : (o : Option Clash) → ((g : Formula) → length (clear-up-to n g) ≤ n) → length (clear-next (clear-up-to n) f o) ≤ suc n
+    go none ih = omega arith
+    go (some c) ih = omega (arith, ih (after f (clash-lines c)))
+
+pure-few : (left rest : Formula) → length (clear-pure-from left rest) ≤ length rest
+unfolding clear-pure-from pure-next
+pure-few left [] = omega arith
+pure-few left (c ∷ rest) = go (pure-literal (left ++ (c ∷ rest)) c) (pure-few (left ++ (c ∷ [])) rest) (pure-few left rest)
+  where
+    go : (o : Option ℤ) → length (clear-pure-from (left ++ (c ∷ [])) rest) ≤ length rest → length (clear-pure-from left rest) ≤ length rest →
+        length (pure-next c (clear-pure-from (left ++ (c ∷ [])) rest) (clear-pure-from left rest) o) ≤ suc (length rest)
+    go none p q = omega arith
+    go (some l) p q = omega arith
+
+clearing-few : (f : Formula) → length (clearing f) ≤ length f + length (unclashed f)
+unfolding clearing clear-clashes clear-pure
+clearing-few f = omega (arith, length-append (clear-clashes f) (clear-pure (unclashed f)), clashes-few (length f) f, pure-few [] (unclashed f))
+
+-- events that each add at most b
+events-add-most : (b : ℕ) (es : List Event) → ((e : Event) → List·Memᴰ e es → added numbers (lines-of e) ≤ b) → added numbers (lines es) ≤ length es * b
+unfolding lines
+events-add-most b es h =
+    omega (arith, sum-for-each (gained numbers) es lines-of, sum-≤ (λ e. added numbers (lines-of e)) (λ _. b) es h, sum-most b (λ _. b) (λ _. omega arith) es)
+
+-- ---- a run
+module _ (i : Input) (a : Accepted input-limits i) (s : Settings) where
+  run : Run s i
+  run = accepted-run s i a
+
+  clearing-added : added numbers (lines (clearing (i .formula))) ≤ 40_000 * 8_001
+  unfolding input-limits lines
+  clearing-added =
+      let f = i .formula in
+      let to = clearing-lines-to (i .variables) f (a .proper) (a .fits) in
+      let each : (e : Event) → List·Memᴰ e (clearing f) → added numbers (lines-of e) ≤ 8_001 =
+      λ e m. omega (arith, clearing-adds (i .variables) e (clearing-event f e m) (λ x j. to x (mem-for-each (clearing f) lines-of e x m j)), a .variables-few) in
+      omega (arith, events-add-most 8_001 (clearing f) each, clearing-few f, unclashed-shorter i a, a .clauses-few)
+
+  -- the workspace holds what one choice adds
+  need-most : workspace-need i ≤ 1_300_000
+  unfolding workspace-need input-limits
+  need-most = omega (arith, a .variables-few, a .clauses-few, a .literals-few)
+
+  -- the events of the choices ds, taken after cs
+  events-of-others : List Clause → List Clause → List Event
+  events-of-others cs ds = choices-events (s .form) (order-of s i) (i .variables + new-variables cs) (standing-after-first s i cs) ds
+
+  choices-added : (cs ds : List Clause) → chosen s i ≡ cs ++ ds → added numbers (lines (events-of-others cs ds)) ≤ length ds * 1_300_000
+  unfolding events-of-others choices-events below-new
+  choices-added cs [] e = omega (arith, sum-++ (gained numbers) (lines []) (lines []), ap (added numbers) (lines-++ [] []))
+  choices-added cs (c ∷ ds) e =
+      let F = standing-after-first s i cs in
+      let k = next-choice s i cs c in
+      let es = choice-events (s .form) F k in
+      let rest = choices-events (s .form) (order-of s i) (last-new k) (after F (lines es)) ds in
+      let t = at-choice i a s cs ds c e in
+      let same : rest ≡ events-of-others (cs ++ (c ∷ [])) ds =
+      ap (λ (n : ℕ). choices-events (s .form) (order-of s i) n (after F (lines es)) ds) (t .next-below)
+      ∙ ap (λ (X : Formula). choices-events (s .form) (order-of s i) (i .variables + new-variables (cs ++ (c ∷ []))) X ds) (sym (t .next-stands)) in
+      omega (
+        arith,
+        ap (added numbers) (lines-++ es rest),
+        sum-++ (gained numbers) (lines es) (lines rest),
+        steps i a s .choice cs ds c e,
+        need-most,
+        ap (λ (zs : List Event). added numbers (lines zs)) same,
+        choices-added (cs ++ (c ∷ [])) ds (e ∙ sym (append-assoc cs (c ∷ []) ds)),
+      )
+
+  choosing-added : added numbers (lines (choosing s i)) ≤ length (chosen s i) * 1_300_000
+  unfolding choosing events-of-others standing-after-first events-of-first choices-events new-variables sum-of lines for-each after
+  choosing-added =
+      let n : i .variables + 0 ≡ i .variables = omega arith in
+      omega (
+        arith,
+        choices-added [] (chosen s i) refl,
+        ap (λ (m : ℕ). added numbers (lines (choices-events (s .form) (order-of s i) m (cleared (i .formula)) (chosen s i)))) n,
+      )
+
+  log-numbers : sum-of line-numbers (log s i) ≤ 4_900_000_000
+  unfolding log input input-limits
+  log-numbers =
+      let f = i .formula in
+      let few = chosen-few s i run (chosen-parted s i (a .proper) (a .fits)) .2 in
+      omega (
+        arith,
+        lines-change (log s i),
+        balance numbers (weight-of-set 1 (λ _. 1)) (run .leads) (a .proper) (log-proper s i run),
+        weight-most 1 1 (λ _. 1) (λ _. omega arith) f,
+        ap (added numbers) (ap lines (events-are s i) ∙ lines-++ (clearing f) (choosing s i)),
+        sum-++ (gained numbers) (lines (clearing f)) (lines (choosing s i)),
+        clearing-added,
+        choosing-added,
+        a .variables-few,
+        a .clauses-few,
+        a .literals-few,
+      )
+
+  pub log-lines : All-lines (Up-to 70_000) (log s i)
+  unfolding input-limits
+  log-lines x m y j = omega (arith, log-to s i run x m .1 y j, chosen-few s i run (chosen-parted s i (a .proper) (a .fits)) .1, a .variables-few)
+
+  pub log-text-length : length (log-text (log s i)) ≤ 34_300_000_000
+  log-text-length = omega (arith, lines-short (log s i) log-lines, log-numbers)
+
+  pub log-length : length (log s i) ≤ 4_900_000_000
+  log-length = omega (arith, lines-counted (log s i), log-numbers)
+
+  -- any part of the log behind another
+  pub parts-short : (xs es ys : List Event) → events s i ≡ xs ++ (es ++ ys) → Short (lines xs) (lines es)
+  unfolding log log-text
+  parts-short xs es ys e =
+      let k : log s i ≡ lines xs ++ (lines es ++ lines ys) = ap lines e ∙ lines-++ xs (es ++ ys) ∙ ap (λ (zs : List Line). lines xs ++ zs) (lines-++ es ys) in
+      let t = ap log-text k ∙ for-each-++ (lines xs) (lines es ++ lines ys) log-line-text ∙ ap (λ (u : Bytes). log-text (lines xs) ++ u) (for-each-++ (lines es) (lines ys) log-line-text) in
+      record {
+        text = omega (arith, ap length t, log-text-length, length-append (log-text (lines xs)) (log-text (lines es) ++ log-text (lines ys)), length-append (log-text (lines es)) (log-text (lines ys)));
+        count = omega (arith, ap length k, log-length, length-append (lines xs) (lines es ++ lines ys), length-append (lines es) (lines ys));
+      }

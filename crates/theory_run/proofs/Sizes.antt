@@ -1,0 +1,99 @@
+-- The sizes of a run. Assumes that the formula was accepted.
+use mathlib.Core.Path.{_≡_, refl, ap}
+use mathlib.Core.Bool.{Bool, false, not}
+use mathlib.Core.List.{[], _∷_, _++_, List·Memᴰ, List·Memᴰ·head as here, List·Memᴰ·tail as there}
+use Prim.Native.Nat.{ℕ, _+_, _*_, _≤_}
+use native.Mathlib.Omega.{arith}
+use lib.IntN.{negℤ}
+use lib.ListN.{length, length-append}
+use Rattle.definition.specs.Lists.{sum-of, only-if, for-each}
+use Rattle.definition.specs.Literals.{Clause, Formula, literals-of, with-first, opposed}
+use Rattle.definition.specs.Text.{bytes, digits}
+use Rattle.definition.specs.Standing.{addition, deletion}
+use Rattle.definition.specs.Reading.{Input, input-limits}
+use Rattle.definition.specs.Events.{Clash}
+use Rattle.definition.specs.Clearing.{resolvent, clash-lines, clear-clashes, clear-pure}
+use Rattle.definition.specs.Log.{clause-text, formula-text}
+use Rattle.definition.specs.Reencoding.{lines, Settings, choice-events, unclashed, result, highest-used}
+use Rattle.definition.specs.Calls.{numbers-of}
+use Rattle.theory_base.proofs.Digits.{digits-within}
+use Rattle.theory_base.proofs.Sums.{sum-++, count-length}
+use Rattle.theory_base.proofs.Fitting.{Up-to, proper-fit}
+use Rattle.theory_text.proofs.Accepted.{Accepted}
+use Rattle.theory_room.proofs.Weights.{weight, gained, added}
+use Rattle.theory_room.proofs.Additions.{numbers}
+use Rattle.theory_room.proofs.Runs.{choosing}
+use Rattle.theory_room.proofs.Limits.{result-fits, clauses-limit, literals-limit}
+use Rattle.theorems.proofs.Log.{chosen-parted}
+use Rattle.theorems.proofs.Texts.{accepted-run}
+use Rattle.theorems.proofs.Steps.{steps, events-from-clashes}
+use Rattle.theory_room.proofs.Compaction.{standing-after-first, next-choice}
+use Rattle.theory_run.specs.Choices.{events-up-to}
+use Rattle.theory_run.specs.Sizes.{Sizes}
+use Rattle.theory_run.proofs.Choices.{at-choice}
+use Rattle.theory_run.proofs.Variables.{highest-is, chosen-proper, chosen-few}
+use Rattle.theory_run.proofs.LogLength.{clause-short, log-text-length, log-length, parts-short}
+
+-- a resolvent that is added
+resolvent-added : (c : Clash) → opposed (resolvent c) ≡ false → length (resolvent c) + 1 ≤ added numbers (clash-lines c)
+unfolding clash-lines only-if sum-of weight
+resolvent-added c e =
+    let ds = deletion (with-first (c .v) (c .one)) ∷ deletion (with-first (negℤ (c .v)) (c .other)) ∷ [] in
+    omega (arith, sum-++ (gained numbers) (only-if (not (opposed (resolvent c))) (addition (resolvent c) ∷ [])) ds, ap one e, count-length (resolvent c))
+  where
+    one : Bool → ℕ
+    one b = added numbers (only-if (not b) (addition (resolvent c) ∷ []))
+
+-- the text of clauses
+clauses-short : (f : Formula) → ((d : Clause) → List·Memᴰ d f → Up-to 70_000 d) → length (for-each f clause-text) ≤ 7 * literals-of f + 2 * length f
+unfolding for-each literals-of sum-of
+clauses-short [] h = omega arith
+clauses-short (c ∷ f) h =
+    omega (arith, length-append (clause-text c) (for-each f clause-text), clause-short c (h c (here refl)), clauses-short f (λ d m. h d (there m)))
+
+formula-short : (n : ℕ) (f : Formula) → n ≤ 70_000 → length f ≤ 300_000 → ((d : Clause) → List·Memᴰ d f → Up-to 70_000 d) → length (formula-text n f) ≤ 7 * literals-of f + 2 * length f + 20
+unfolding formula-text bytes
+formula-short n f p q h =
+    let t = bytes "p cnf " ++ digits n ++ bytes " " ++ digits (length f) ++ bytes "\n" in
+    omega (
+      arith,
+      length-append t (for-each f clause-text),
+      length-append (bytes "p cnf " ++ digits n ++ bytes " " ++ digits (length f)) (bytes "\n"),
+      length-append (bytes "p cnf " ++ digits n ++ bytes " ") (digits (length f)),
+      length-append (bytes "p cnf " ++ digits n) (bytes " "),
+      length-append (bytes "p cnf ") (digits n),
+      digits-within 4 n (omega arith),
+      digits-within 5 (length f) (omega arith),
+      clauses-short f h,
+    )
+
+module _ (i : Input) (a : Accepted input-limits i) (s : Settings) where
+  pub sizes : Sizes s i
+  unfolding input-limits numbers-of lines for-each
+  sizes =
+      let f = i .formula in
+      let r = accepted-run s i a in
+      let parted = chosen-parted s i (a .proper) (a .fits) in
+      let few = chosen-few s i r parted in
+      let v : i .variables ≤ 8_000 = a .variables-few in
+      let m = clauses-limit s i r v (a .clauses-few) (a .literals-few) in
+      let l = literals-limit s i r v (a .clauses-few) (a .literals-few) in
+      let h : highest-used s i ≤ 16_000 = omega (arith, highest-is s i r, few .1) in
+      record {
+        log-text-short = omega (arith, log-text-length i a s);
+        log-short = omega (arith, log-length i a s);
+        parts-short = parts-short i a s;
+        clashes-short = parts-short i a s [] (clear-clashes f) (clear-pure (unclashed f) ++ choosing s i) (events-from-clashes s i);
+        pure-short = parts-short i a s (clear-clashes f) (clear-pure (unclashed f)) (choosing s i) (events-from-clashes s i);
+        choice-short = λ cs ds c e. let t = at-choice i a s cs ds c e in parts-short i a s (events-up-to s i cs) (choice-events (s .form) (standing-after-first s i cs) (next-choice s i cs c)) (t .rest) (t .split);
+        highest-is = highest-is s i r;
+        highest-few = h;
+        chosen-proper = chosen-proper s i r parted .0;
+        chosen-reach = proper-fit (chosen-proper s i r parted);
+        chosen-numbers = omega (arith, few .0, few .2);
+        chosen-count = omega (arith, few .2);
+        clash-space = λ xs ys c e o. omega (arith, steps i a s .clash xs ys c e, resolvent-added c o);
+        result-few = m;
+        result-numbers = omega arith;
+        formula-text-short = omega (arith, formula-short (highest-used s i) (result s i) (omega arith) m (λ d j x k. omega (arith, result-fits s i r d j x k .1)));
+      }

@@ -1,0 +1,128 @@
+-- H is V and the new variables of all choices; the choices' literals are a proper clause, so that there are few. Assumes what a run keeps (`Run`), and that no two choices have a variable in common.
+use mathlib.Core.Path.{_≡_, refl, _∙_, ap}
+use mathlib.Core.Logic.{⊎-elim}
+use mathlib.Core.List.{List, [], _∷_, _++_, map, List·Memᴰ, List·Memᴰ·head as here, List·Memᴰ·tail as there, Memᴰ·append-right, List·Memᴰ·append-cases, List·Memᴰ·not-nil}
+use Prim.Native.Nat.{ℕ, _+_, _*_, _≤_, max}
+use native.Mathlib.Omega.{arith}
+use lib.IntN.{ℤ, natAbs}
+use lib.ListN.{length, length-append}
+use Rattle.definition.specs.Lists.{sum-of, for-each}
+use Rattle.definition.specs.Literals.{Clause, Formula, literals-of}
+use Rattle.definition.specs.Standing.{Line, addition, deletion, literals, highest-in, after}
+use Rattle.definition.specs.Reading.{Input}
+use Rattle.definition.specs.Events.{Choice}
+use Rattle.definition.specs.Counter.{below-new, last-new, missing-pairs, counter, take-choice}
+use Rattle.definition.specs.Order.{order-events}
+use Rattle.definition.specs.Alignment.{choice-literals}
+use Rattle.definition.specs.Reencoding.{lines-of, lines, Form, counter-form, order-form, Settings, choice-events, choices-events, cleared, chosen, log, highest-used}
+use Rattle.theory_base.proofs.Members.{Disjoint, Parted, proper-first}
+use Rattle.theory_base.proofs.Loops.{for-each-mem}
+use Rattle.theory_base.proofs.Fitting.{Proper-to, literal-between, cons-to, proper-length, highest-at, highest-le, highest-in-le}
+use Rattle.theory_base.proofs.Replay.{lines-++}
+use Rattle.theory_counter.proofs.Ready.{Well-formed}
+use Rattle.theory_counter.proofs.Front.{taken-lines-are, pair-copies}
+use Rattle.theory_order.proofs.Found.{counter-stands}
+use Rattle.theory_room.proofs.Cleared.{clearing}
+use Rattle.theory_room.proofs.Lines.{Arranges, new-variables, as-choice, ordered-formed, ordered-new, others}
+use Rattle.theory_room.proofs.Runs.{Run, order-of, top, choosing, events-are, arranges, chosen-mem, log-to}
+
+-- ---- the literals of all choices
+
+proper-++ : (h : ℕ) (c d : Clause) → Proper-to h c → Proper-to h d → Disjoint c d → Proper-to h (c ++ d)
+proper-++ h [] d p q a = q
+proper-++ h (x ∷ c) d p q a =
+    cons-to h x (c ++ d) (literal-between p x (here refl))
+    (λ y m. ⊎-elim (proper-first x c (p .0) y) (λ k. a x (here refl) y k) (List·Memᴰ·append-cases c m))
+    (proper-++ h c d (p .0 .3, λ y m. p .1 y (there m)) q (λ y m. a y (there m)))
+
+parted-proper : (h : ℕ) (cs : List Clause) → ((c : Clause) → List·Memᴰ c cs → Proper-to h c) → Parted cs → Proper-to h (choice-literals cs)
+unfolding choice-literals for-each
+parted-proper h [] a p = (tt, λ x m. absurd (List·Memᴰ·not-nil m))
+parted-proper h (c ∷ cs) a p =
+    proper-++ h c (choice-literals cs) (a c (here refl)) (parted-proper h cs (λ d m. a d (there m)) (p .1))
+    (λ x i y j. let r = for-each-mem cs (λ d. d) y j in p .0 (r .0) (r .1) x i y (r .2))
+
+literals-length : (cs : List Clause) → length (choice-literals cs) ≡ literals-of cs
+unfolding choice-literals for-each literals-of sum-of
+literals-length [] = refl
+literals-length (c ∷ cs) = omega (arith, length-append c (choice-literals cs), literals-length cs)
+
+-- clauses of five literals at least
+five-each : (cs : List Clause) → ((c : Clause) → List·Memᴰ c cs → 5 ≤ length c) → (new-variables cs + length cs ≡ literals-of cs) × (5 * length cs ≤ literals-of cs)
+unfolding new-variables literals-of sum-of
+five-each [] h = (refl, omega arith)
+five-each (c ∷ cs) h =
+    let l = h c (here refl) in
+    let r = five-each cs (λ d m. h d (there m)) in
+    (omega (arith, r .0), omega (arith, r .1))
+
+-- ---- the highest new variable stands in a line
+
+highest-in-++ : (xs ys : List Line) → highest-in (xs ++ ys) ≡ max (highest-in xs) (highest-in ys)
+unfolding highest-in
+highest-in-++ [] ys = omega arith
+highest-in-++ (x ∷ xs) ys = omega (arith, highest-in-++ xs ys)
+
+added-highest : (d : Clause) (x : ℤ) (cs : List Clause) → List·Memᴰ d cs → List·Memᴰ x d → natAbs x ≤ highest-in (map addition cs)
+unfolding highest-in literals
+added-highest d x (c ∷ cs) (here e) m = omega (arith, highest-at c x (rw e at m))
+added-highest d x (c ∷ cs) (there i) m = omega (arith, added-highest d x cs i m)
+
+taken-highest : (k : Choice) → Well-formed k → (f : Formula) → last-new k ≤ highest-in (lines-of (take-choice f k))
+unfolding last-new
+taken-highest k u f =
+    let l = u .long in
+    let r = counter-stands k u (last-new k) (omega arith) (omega arith) in
+    let missing = missing-pairs f (k .literals) in
+    omega (
+      arith,
+      ap highest-in (taken-lines-are f k),
+      highest-in-++ (map addition (missing ++ counter k)) (map deletion (k .literals ∷ pair-copies f k)),
+      added-highest (r .0) (r .2) (missing ++ counter k) (Memᴰ·append-right missing (r .1)) (r .3),
+      r .4,
+    )
+
+choice-highest : (form : Form) (k : Choice) → Well-formed k → (f : Formula) → last-new k ≤ highest-in (lines (choice-events form f k))
+unfolding choice-events lines for-each
+choice-highest counter-form k u f = omega (arith, taken-highest k u f, highest-in-++ (lines-of (take-choice f k)) [])
+choice-highest order-form k u f = omega (arith, taken-highest k u f, highest-in-++ (lines-of (take-choice f k)) (lines (order-events k (after f (lines-of (take-choice f k))))))
+
+choices-highest : (form : Form) (order : Clause → Clause) (n : ℕ) (f : Formula) (cs : List Clause) → Arranges n order cs → n + new-variables cs ≤ max n (highest-in (lines (choices-events form order n f cs)))
+unfolding choices-events below-new new-variables sum-of
+choices-highest form order n f [] h = omega arith
+choices-highest form order n f (c ∷ cs) h =
+    let k = as-choice n order c in
+    let es = choice-events form f k in
+    let rest = choices-events form order (last-new k) (after f (lines es)) cs in
+    omega (
+      arith,
+      ordered-new n order (c ∷ cs) h c (here refl) n,
+      choice-highest form k (ordered-formed n order (c ∷ cs) h c (here refl) n (omega arith)) f,
+      choices-highest form order (last-new k) (after f (lines es)) cs (others n order c cs h),
+      ap highest-in (lines-++ es rest),
+      highest-in-++ (lines es) (lines rest),
+    )
+
+-- ---- of a run
+module _ (s : Settings) (i : Input) (h : Run s i) where
+  pub highest-is : highest-used s i ≡ i .variables + new-variables (chosen s i)
+  unfolding highest-used log choosing
+  highest-is =
+      let f = i .formula in
+      omega (
+        arith,
+        highest-in-le (top s i) (log s i) (λ x m. highest-le (top s i) (literals x) (log-to s i h x m .1)),
+        choices-highest (s .form) (order-of s i) (i .variables) (cleared f) (chosen s i) (arranges s i h),
+        ap highest-in (ap lines (events-are s i) ∙ lines-++ (clearing f) (choosing s i)),
+        highest-in-++ (lines (clearing f)) (lines (choosing s i)),
+      )
+
+  module _ (parted : Parted (chosen s i)) where
+    pub chosen-proper : Proper-to (i .variables) (choice-literals (chosen s i))
+    chosen-proper = parted-proper (i .variables) (chosen s i) (λ c m. arranges s i h c m .0) parted
+
+    pub chosen-few : (literals-of (chosen s i) ≤ i .variables) × (new-variables (chosen s i) ≤ i .variables) × (5 * length (chosen s i) ≤ i .variables)
+    chosen-few =
+        let l = proper-length (i .variables) (choice-literals (chosen s i)) chosen-proper in
+        let r = five-each (chosen s i) (λ c m. chosen-mem s i c m .1) in
+        (omega (arith, literals-length (chosen s i)), omega (arith, literals-length (chosen s i), r .0), omega (arith, literals-length (chosen s i), r .1))

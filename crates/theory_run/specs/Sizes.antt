@@ -1,0 +1,59 @@
+-- How long the log gets, how high its variables, and how much stands; proved as `sizes` in proofs/Sizes, for a formula that was accepted and any settings.
+use mathlib.Core.Path.{_≡_}
+use mathlib.Core.Bool.{false}
+use mathlib.Core.List.{List, [], _∷_, _++_}
+use Prim.Native.Nat.{_+_, _≤_, _<_, _^_}
+use lib.ListN.{length}
+use Rattle.definition.specs.Literals.{Clause, Formula, opposed}
+use Rattle.definition.specs.Reading.{Input}
+use Rattle.definition.specs.Standing.{Line, after}
+use Rattle.definition.specs.Events.{Clash, Event, clash-cleared}
+use Rattle.definition.specs.Clearing.{resolvent, clear-clashes, clear-pure}
+use Rattle.definition.specs.Alignment.{choice-literals}
+use Rattle.definition.specs.Log.{log-text, formula-text}
+use Rattle.definition.specs.Reencoding.{lines, Settings, choice-events, unclashed, chosen, events, log, result, highest-used}
+use Rattle.definition.specs.Calls.{workspace-need, numbers-of}
+use Rattle.theory_base.proofs.Members.{Proper, Proper-all, Fits}
+use Rattle.theory_base.proofs.Fitting.{Fit-all}
+use Rattle.theory_clearing.proofs.Clashes.{Clash-free}
+use Rattle.theory_room.proofs.Lines.{new-variables}
+use Rattle.theory_room.proofs.Compaction.{standing-after-first, next-choice}
+use Rattle.theory_run.specs.Choices.{events-up-to}
+
+-- lines ls written after lines ks: places in the log and line numbers stay small
+pub record Short (ks ls : List Line) : Type 0 where
+  pub text : length (log-text ks) + length (log-text ls) < 2 ^ 62
+  pub count : length ks + length ls < 2 ^ 62
+
+-- what stands when no clash is left, or when the pure clauses are deleted too; proved as `unclashed-standing` and `cleared-standing` in proofs/Cleared
+pub record Standing-cleared (i : Input) (F : Formula) : Type 0 where
+  pub proper : Proper-all F
+  pub fits : Fits (i .variables) F
+  pub free : Clash-free F
+  pub few : length F ≤ 20_000
+
+-- the whole run
+pub record Sizes (s : Settings) (i : Input) : Type 0 where
+  -- the log, and any part of it behind another
+  pub log-text-short : length (log-text (log s i)) < 2 ^ 62
+  pub log-short : length (log s i) < 2 ^ 62
+  pub parts-short : (xs es ys : List Event) → events s i ≡ xs ++ (es ++ ys) → Short (lines xs) (lines es)
+  pub clashes-short : Short [] (lines (clear-clashes (i .formula)))
+  pub pure-short : Short (lines (clear-clashes (i .formula))) (lines (clear-pure (unclashed (i .formula))))
+  pub choice-short : (cs ds : List Clause) (c : Clause) → chosen s i ≡ cs ++ (c ∷ ds) →
+      Short (lines (events-up-to s i cs)) (lines (choice-events (s .form) (standing-after-first s i cs) (next-choice s i cs c)))
+  -- H
+  pub highest-is : highest-used s i ≡ i .variables + new-variables (chosen s i)
+  pub highest-few : highest-used s i ≤ 16_000
+  -- the choices: no literal stands in two, so that there are few
+  pub chosen-proper : Proper (choice-literals (chosen s i))
+  pub chosen-reach : Fit-all (i .variables) (choice-literals (chosen s i))
+  pub chosen-numbers : numbers-of (chosen s i) ≤ 9_600
+  pub chosen-count : length (chosen s i) ≤ 1_600
+  -- a resolvent fits beside what stands
+  pub clash-space : (xs ys : List Event) (c : Clash) → clear-clashes (i .formula) ≡ xs ++ (clash-cleared c ∷ ys) → opposed (resolvent c) ≡ false →
+      numbers-of (after (i .formula) (lines xs)) + (length (resolvent c) + 1) ≤ workspace-need i
+  -- M, and the new formula's text
+  pub result-few : length (result s i) ≤ 300_000
+  pub result-numbers : numbers-of (result s i) ≤ 1_300_000
+  pub formula-text-short : length (formula-text (highest-used s i) (result s i)) < 2 ^ 62

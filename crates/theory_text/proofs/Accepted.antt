@@ -1,0 +1,147 @@
+-- A formula that is read keeps the limits; its clauses are proper and have no variable above V.
+use mathlib.Core.Path.{_≡_, refl, sym, ap, subst}
+use mathlib.Core.Logic.{_≢_}
+use mathlib.Core.Bool.{Bool, true, false, _||_, cond}
+use mathlib.Core.List.{List, [], _∷_, List·Memᴰ, List·Memᴰ·head as here, List·Memᴰ·not-nil}
+use Prim.Native.Nat.{ℕ, suc, _+_, _≤_, _<_}
+use native.Mathlib.Omega.{arith}
+use lib.Dec.{leb, ltb, eqb}
+use lib.IntN.{ℤ, pos, negℤ, natAbs}
+use lib.ListN.{length, getD, drop, length-append}
+use borrow.Author.Tests.{ltb-false, leb-false, eqb-false}
+use Rattle.definition.specs.Lists.{sum-of}
+use Rattle.definition.specs.Checked.{value, or-fault, through}
+use Rattle.definition.specs.Literals.{Formula, holds, literals-of}
+use Rattle.definition.specs.Text.{Bytes, TextLine, number, natural, fields, line-text, past-comments, text-lines}
+use Rattle.definition.specs.Reading.{Limits, Input, Header, Reader, read-header-fields, read-header-line, read-header, read-literal, end-clause, read-word, end-text, read-clauses, read-formula}
+use Rattle.theory_base.proofs.Tests.{differ, or-false-both}
+use Rattle.theory_base.proofs.Members.{mem-holds, Proper, Proper-all, Fit, Fits}
+use Rattle.theory_base.proofs.Clauses.{literals-snoc, members-snoc, proper-snoc}
+use Rattle.theory_base.proofs.Outcomes.{fault-value, value-same, refuse-value, bind-value, through-keeps}
+
+-- ---- between two words
+record Reads (most : Limits) (v c : ℕ) (r : Reader) : Type 0 where
+  clauses-few : length (r .done) ≤ c
+  literals-few : literals-of (r .done) + length (r .here) ≤ most .literals
+  fits : Fits v (r .done)
+  proper : Proper-all (r .done)
+  here-fits : (x : ℤ) → List·Memᴰ x (r .here) → Fit v x
+  here-proper : Proper (r .here)
+
+module _ (most : Limits) (v c : ℕ) where
+  reads-literal : (r : Reader) (l : ℤ) (s : Reader) → l ≢ pos 0 → Reads most v c r → read-literal most v r l ≡ value s → Reads most v c s
+  unfolding read-literal
+  reads-literal r l s z p e =
+      let e4 = refuse-value (ltb v (natAbs l)) 4 _ s e in
+      let e5 = refuse-value (holds l (r .here)) 5 _ s (e4 .1) in
+      let e6 = refuse-value (holds (negℤ l) (r .here)) 6 _ s (e5 .1) in
+      let e9 = refuse-value (leb (most .literals) (literals-of (r .done) + length (r .here))) 9 _ s (e6 .1) in
+      subst (Reads most v c) (value-same _ s (e9 .1)) (record {
+        clauses-few = p .clauses-few;
+        literals-few = rw (length-append (r .here) (l ∷ [])) (omega (arith, leb-false (most .literals) (literals-of (r .done) + length (r .here)) (e9 .0)));
+        fits = p .fits;
+        proper = p .proper;
+        here-fits = members-snoc (Fit v) (r .here) l (p .here-fits) (z, ltb-false v (natAbs l) (e4 .0));
+        here-proper = proper-snoc (r .here) l (p .here-proper) z (λ i. differ (mem-holds l (r .here) i) (e5 .0)) (λ i. differ (mem-holds (negℤ l) (r .here) i) (e6 .0));
+      })
+
+  reads-end : (r : Reader) → length (r .done) < c → Reads most v c r → Reads most v c (end-clause r)
+  unfolding end-clause
+  reads-end r h p = record {
+    clauses-few = rw (length-append (r .done) (r .here ∷ [])) (omega arith);
+    literals-few = rw (literals-snoc (r .done) (r .here)) (omega (arith, p .literals-few));
+    fits = members-snoc (λ d. (x : ℤ) → List·Memᴰ x d → Fit v x) (r .done) (r .here) (p .fits) (p .here-fits);
+    proper = members-snoc Proper (r .done) (r .here) (p .proper) (p .here-proper);
+    here-fits = λ x i. absurd (List·Memᴰ·not-nil i);
+    here-proper = tt;
+  }
+
+  reads-word : (r : Reader) (w : Bytes) (s : Reader) → Reads most v c r → read-word most v c r w ≡ value s → Reads most v c s
+  unfolding read-word
+  reads-word r w s p e =
+      let room = refuse-value (leb c (length (r .done))) 8 _ s e in
+      let read = bind-value (or-fault (number w) 3) (λ n. cond (eqb 0 (natAbs n)) (value (end-clause r)) (read-literal most v r n)) s (room .1) in
+      go (read .0) (leb-false c (length (r .done)) (room .0)) (eqb 0 (natAbs (read .0))) refl (read .2)
+    where
+      go : (n : ℤ) → length (r .done) < c → (b : Bool) → eqb 0 (natAbs n) ≡ b → cond b (value (end-clause r)) (read-literal most v r n) ≡ value s → Reads most v c s
+      go n h true q f = rw (value-same (end-clause r) s f) at (reads-end r h p)
+      go n h false q f = reads-literal r n s (λ z. eqb-false 0 (natAbs n) q (ap natAbs (sym z))) p f
+
+  reads-start : Reads most v c (record { done = []; here = [] })
+  unfolding literals-of sum-of
+  reads-start = record {
+    clauses-few = omega arith;
+    literals-few = omega arith;
+    fits = λ d i. absurd (List·Memᴰ·not-nil i);
+    proper = λ d i. absurd (List·Memᴰ·not-nil i);
+    here-fits = λ x i. absurd (List·Memᴰ·not-nil i);
+    here-proper = tt;
+  }
+
+-- ---- the whole text
+pub record Accepted (most : Limits) (i : Input) : Type 0 where
+  pub variables-few : i .variables ≤ most .variables
+  pub clauses-few : length (i .formula) ≤ most .clauses
+  pub literals-few : literals-of (i .formula) ≤ most .literals
+  pub fits : Fits (i .variables) (i .formula)
+  pub proper : Proper-all (i .formula)
+
+-- V and C within the limits
+abbrev pub Header-few : Limits → Header → Type 0
+Header-few most h = (h .variables ≤ most .variables) × (h .clauses ≤ most .clauses)
+
+fields-few : (most : Limits) (f : List Bytes) (after : Bytes) (h : Header) → read-header-fields most f after ≡ value h → Header-few most h
+unfolding read-header-fields
+fields-few most f after h e =
+    let e1 = refuse-value _ 1 _ h e in
+    let ev = bind-value (or-fault (natural (getD f 2 [])) 1) _ h (e1 .1) in
+    let ec = bind-value (or-fault (natural (getD f 3 [])) 1) _ h (ev .2) in
+    let e2 = refuse-value (ltb (most .variables) (ev .0) || ltb (most .clauses) (ec .0)) 2 _ h (ec .2) in
+    subst (Header-few most) (value-same _ h (e2 .1)) (few (ev .0) (ec .0) (e2 .0))
+  where
+    few : (v c : ℕ) → (ltb (most .variables) v || ltb (most .clauses) c) ≡ false → (v ≤ most .variables) × (c ≤ most .clauses)
+    few v c q =
+        let n = or-false-both (ltb (most .variables) v) (ltb (most .clauses) c) q in
+        (ltb-false (most .variables) v (n .0), ltb-false (most .clauses) c (n .1))
+
+line-few : (most : Limits) (ls : List TextLine) (t : Bytes) (h : Header) → read-header-line most ls t ≡ value h → Header-few most h
+unfolding read-header-line
+line-few most [] t h e = fault-value 1 h e
+line-few most (l ∷ ls) t h e = fields-few most (fields (line-text l)) (drop (suc (length (l .text))) t) h e
+
+pub header-few : (most : Limits) (t : Bytes) (h : Header) → read-header most t ≡ value h → Header-few most h
+unfolding read-header
+header-few most t h e = let u = past-comments false t in line-few most (text-lines u) u h e
+
+end-text-done : (c : ℕ) (r : Reader) (f : Formula) → end-text c r ≡ value f → r .done ≡ f
+unfolding end-text
+end-text-done c r f e =
+    let e7 = refuse-value (ltb 0 (length (r .here))) 7 _ f e in
+    let e8 = refuse-value (ltb (length (r .done)) c) 8 _ f (e7 .1) in
+    value-same (r .done) f (e8 .1)
+
+clauses-accepted : (most : Limits) (h : Header) (i : Input) → Header-few most h → read-clauses most h ≡ value i → Accepted most i
+unfolding read-clauses
+clauses-accepted most h i few e =
+    let v = h .variables in
+    let c = h .clauses in
+    let start : Reader = record { done = []; here = [] } in
+    let er = bind-value (through (read-word most v c) start (h .after)) _ i e in
+    let ef = bind-value (end-text c (er .0)) _ i (er .2) in
+    let p = through-keeps (read-word most v c) (Reads most v c) (reads-word most v c) start (h .after) (er .0) (reads-start most v c) (er .1) in
+    rw (value-same _ i (ef .2)) at (of v c (er .0) (ef .0) few p (end-text-done c (er .0) (ef .0) (ef .1)))
+  where
+    of : (v c : ℕ) (r : Reader) (f : Formula) → (v ≤ most .variables) × (c ≤ most .clauses) → Reads most v c r → r .done ≡ f → Accepted most (record { variables = v; formula = f })
+    of v c r f few p q = subst (λ (g : Formula). Accepted most (record { variables = v; formula = g })) q (record {
+      variables-few = few .0;
+      clauses-few = omega (arith, p .clauses-few, few .1);
+      literals-few = omega (arith, p .literals-few);
+      fits = p .fits;
+      proper = p .proper;
+    })
+
+pub accepted : (most : Limits) (t : Bytes) (i : Input) → read-formula most t ≡ value i → Accepted most i
+unfolding read-formula
+accepted most t i e =
+    let eh = bind-value (read-header most t) (read-clauses most) i e in
+    clauses-accepted most (eh .0) i (header-few most t (eh .0) (eh .1)) (eh .2)

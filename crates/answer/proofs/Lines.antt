@@ -13,7 +13,8 @@ use borrow.Author.Tests.{eq-eqb, ne-eqb}
 use Rattle.definition.specs.Text.{Bytes, is, text-lines, without-last-cr, line-text, same-bytes}
 use Rattle.definition.specs.Answer.{begins-with}
 use Rattle.theory_base.proofs.Tests.{to-true, to-false}
-use Rattle.theory_text.proofs.Words.{Free, free-++, first-line, last-cr, last-line, same-length, same-turned}
+use Rattle.theory_text.proofs.Words.{free-++, first-line, last-cr, last-line, same-length, same-turned}
+use Rattle.theory_text.specs.Words.{Free}
 use Rattle.answer.specs.Lines.{part, Line-end, Trimmed, First-line}
 
 part-empty : (at : ℕ) (t : Bytes) → part at at t ≡ []

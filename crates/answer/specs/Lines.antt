@@ -8,7 +8,7 @@ use native.Mathlib.Omega.{arith}
 use lib.ListN.{length, getD, take, drop}
 use Rattle.definition.specs.Text.{Bytes, bytes, is, TextLine, text-lines, without-last-cr, line-text}
 use Rattle.definition.specs.Text as Text
-use Rattle.theory_text.proofs.Words.{Free}
+use Rattle.theory_text.specs.Words.{Free}
 use Rattle.answer.specs.declared.Line.{Line}
 use Rattle.answer.specs.declared.Line.the-variants.{Text, End}
 

@@ -15,7 +15,8 @@ use Rattle.definition.specs.Reading.{Limits, Input, input-limits, read-formula}
 use Rattle.definition.specs.Log.{log-text, formula-text}
 use Rattle.definition.specs.Reencoding.{Settings, input, log, result, highest-used}
 use Rattle.definition.specs.Calls.{Reencoded, reencoded, workspace-need, numbers-of, reencode, buffer-after}
-use Rattle.theory_text.proofs.Accepted.{Accepted, accepted}
+use Rattle.theory_text.proofs.Accepted.{accepted}
+use Rattle.theory_text.specs.Accepted.{Accepted}
 use Rattle.text.specs.Output.{Put}
 use Rattle.text.proofs.Output.{put-length}
 use Rattle.store.specs.Store.{Formed, stored, Compacted}

@@ -19,11 +19,11 @@ use Rattle.definition.specs.Alignment.{arranged, no-wish}
 use Rattle.definition.specs.Reencoding.{Form, Settings, lines, choice-events, choices-events, unclashed, cleared, input, chosen, events, log, highest-used}
 use Rattle.definition.specs.Calls.{workspace-need, numbers-of}
 use Rattle.theory_base.proofs.Replay.{lines-++}
-use Rattle.theory_text.proofs.Accepted.{Accepted}
-use Rattle.theory_counter.proofs.Front.{front, counter-open, front-open}
-use Rattle.theory_room.proofs.Lines.{new-variables, as-choice}
-use Rattle.theory_room.proofs.Runs.{order-of, choosing, chosen-mem}
-use Rattle.theory_room.proofs.Compaction.{standing-after-first, next-choice}
+use Rattle.theory_text.specs.Accepted.{Accepted}
+use Rattle.theory_counter.proofs.Front.{counter-open, front-open}
+use Rattle.theory_counter.specs.Front.{front}
+use Rattle.theory_room.specs.Choices.{new-variables, as-choice, order-of, standing-after-first, next-choice}
+use Rattle.theory_room.proofs.Runs.{choosing, chosen-mem}
 use Rattle.theory_base.proofs.Fitting.{fit-up}
 use Rattle.progress.specs.declared.Progress.{Progress}
 use Rattle.progress.specs.Progress.{Log-room, Ran}
@@ -31,7 +31,7 @@ use Rattle.progress.proofs.Laws.{room-first, room-rest, ran-holds, ran-written,
 use Rattle.pass_pure.specs.Pass.{Pure-ready}
 use Rattle.pass_choose.specs.Collecting.{Collectable, Collected}
 use Rattle.theorems.proofs.Log.{chosen-parted}
-use Rattle.theory_base.proofs.Members.{Fits}
+use Rattle.theory_base.specs.Clauses.{Fits}
 use Rattle.pass_clashes.specs.Clashes.{Clash-ready}
 use Rattle.theory_run.specs.Choices as Bounds
 use Rattle.theory_run.specs.Sizes.{Sizes, Standing-cleared}
@@ -41,7 +41,7 @@ use Rattle.theory_run.proofs.OpenClause.{last-open, results-open, events-open}
 use Rattle.theory_run.proofs.Choices.{choices-taken, few-variables}
 use Rattle.store.specs.Store.{stored}
 use Rattle.pass_align.specs.Aligned.{Alignable-store, Aligned}
-use Rattle.theory_counter.proofs.Ready.{of-literals}
+use Rattle.theory_counter.specs.Ready.{of-literals}
 use Rattle.theorems.proofs.Steps.{events-from-clashes}
 use Rattle.call_reencode.specs.Choosing.{Takeable, All-takeable, finished, at-choice, taken-events, All-ready}
 use Rattle.call_reencode.specs.Run.{wish-of, input-in, start-at, Run-ready, Arranged}

@@ -15,18 +15,19 @@ use Rattle.definition.specs.Events.{Choice}
 use Rattle.definition.specs.Counter.{size, counter, take-choice}
 use Rattle.definition.specs.Order.{order-events}
 use Rattle.definition.specs.Reencoding.{Form, counter-form, order-form, lines, lines-of, choice-events}
-use Rattle.theory_base.proofs.Members.{Proper-all}
+use Rattle.theory_base.specs.Clauses.{Proper-all}
 use Rattle.theory_base.proofs.Fitting.{highest-le}
-use Rattle.theory_counter.proofs.Front.{front, counter-open, front-open, taken-open}
+use Rattle.theory_counter.proofs.Front.{counter-open, front-open, taken-open}
+use Rattle.theory_counter.specs.Front.{front}
 use Rattle.theory_counter.proofs.Counter.{after-choice}
-use Rattle.theory_order.proofs.Order.{Before}
+use Rattle.theory_order.specs.Pass.{Before}
 use Rattle.store.specs.Store.{stored, Compacted}
 use Rattle.progress.specs.declared.Progress.{Progress}
 use Rattle.progress.specs.Progress.{Written, Log-room, Ran}
 use Rattle.progress.proofs.Laws.{lines-one, room-first, room-rest, ran-join, ran-written}
 use Rattle.pass_counter.specs.Choice.{Choice-ready, Taken}
 use Rattle.pass_order.specs.Order.{Order-ready}
-use Rattle.theory_counter.proofs.Ready.{of-literals}
+use Rattle.theory_counter.specs.Ready.{of-literals}
 use Rattle.theorems.proofs.Choices.{before-order as before-choice}
 use Rattle.theory_run.proofs.OpenClause.{before-open}
 use Rattle.theory_run.proofs.Choices.{front-proper-of}

@@ -19,7 +19,7 @@ use Rattle.store.proofs.Laws.{place-start, place-next, stored-end, rest-deleted
 use Rattle.progress.specs.declared.Progress.{Progress}
 use Rattle.progress.specs.Progress.{Log-room, Ran}
 use Rattle.progress.proofs.Laws.{lines-none, room-first, room-rest, ran-nothing, ran-join, ran-as, ran-holds, ran-written}
-use Rattle.theory_counter.proofs.Ready.{of-literals}
+use Rattle.theory_counter.specs.Ready.{of-literals}
 use Rattle.call_reencode.specs.Choosing.{Takeable, All-takeable, at-choice, taken-events, events-at, new-at, One-ready, At-ready, All-ready}
 
 -- the choices before `at` are taken: their events es, and what is known of those to come

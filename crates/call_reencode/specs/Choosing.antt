@@ -11,11 +11,10 @@ use Rattle.definition.specs.Events.{Event}
 use Rattle.definition.specs.Counter.{counter, last-new}
 use Rattle.definition.specs.Reencoding.{Form, counter-form, order-form, lines, choice-events, choices-events}
 use Rattle.definition.specs.Calls.{numbers-of}
-use Rattle.theory_base.proofs.Members.{Proper-all, Fits}
-use Rattle.theory_base.proofs.Fitting.{Fit-all}
-use Rattle.theory_counter.proofs.Ready.{Ready, of-literals}
-use Rattle.theory_counter.proofs.Front.{front}
-use Rattle.theory_order.proofs.Pass.{added}
+use Rattle.theory_base.specs.Clauses.{Proper-all, Fits, Fit-all}
+use Rattle.theory_counter.specs.Ready.{Ready, of-literals}
+use Rattle.theory_counter.specs.Front.{front}
+use Rattle.theory_order.specs.Pass.{added}
 use Rattle.store.specs.Store.{Formed, stored, size-at, deleted-at, clause-at}
 use Rattle.store.specs.Tally.{most}
 use Rattle.progress.specs.declared.Progress.{Progress}

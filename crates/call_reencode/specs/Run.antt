@@ -11,7 +11,7 @@ use Rattle.definition.specs.Reading.{Input, input-limits}
 use Rattle.definition.specs.Alignment.{Wish, no-wish, alignment, arranged}
 use Rattle.definition.specs.Reencoding.{Settings, chosen, events, highest-used}
 use Rattle.definition.specs.Calls.{workspace-need}
-use Rattle.theory_text.proofs.Accepted.{Accepted}
+use Rattle.theory_text.specs.Accepted.{Accepted}
 use Rattle.store.specs.Store.{Formed, stored}
 use Rattle.progress.specs.declared.Progress.{Progress}
 use Rattle.progress.specs.Progress.{Ran}

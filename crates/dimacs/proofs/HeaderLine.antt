@@ -16,7 +16,8 @@ use Rattle.definition.specs.Text.{Bytes, bytes, is, past-comments, TextLine, te
 use Rattle.definition.specs.Reading.{Limits, Header, read-header-fields, read-header-line, read-header}
 use Rattle.definition.specs.Answer.{begins-with}
 use Rattle.theory_base.proofs.Tests.{differ, to-true, of-true, to-false, and-l, and-r, by-test}
-use Rattle.theory_text.proofs.Words.{Free, first-field, only-field}
+use Rattle.theory_text.proofs.Words.{first-field, only-field}
+use Rattle.theory_text.specs.Words.{Free}
 use Rattle.text.specs.Numbers.{natural-class}
 use Rattle.text.specs.declared.Natural.{Natural}
 use Rattle.text.specs.declared.Natural.the-variants as Natural

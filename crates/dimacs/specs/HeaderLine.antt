@@ -8,8 +8,7 @@ use lib.ListN.{length, take, drop}
 use Rattle.definition.specs.Checked.{Checked, fault, value}
 use Rattle.definition.specs.Text.{Bytes, bytes, line-text, words}
 use Rattle.definition.specs.Text as Text
-use Rattle.definition.specs.Reading.{Header}
-use Rattle.definition.specs.Reading.{Limits as Definition-limits}
+use Rattle.definition.specs.Reading.{Header, Limits as Definition-limits}
 use Rattle.text.specs.declared.Natural.{Natural}
 use Rattle.text.specs.declared.Natural.the-variants as Natural
 use Rattle.dimacs.specs.declared.Limits.{Limits}

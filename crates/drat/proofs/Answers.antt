@@ -18,7 +18,7 @@ use Rattle.definition.specs.Standing.{Line, addition, deletion, literals, highe
 use Rattle.definition.specs.LogReading.{with-literal, read-line-clause, allowed-clause, read-line-fields, read-line, read-log, numbers-in}
 use Rattle.theory_base.proofs.Tests.{by-test}
 use Rattle.theory_base.proofs.Loops.{none-some, some-same}
-use Rattle.theory_base.proofs.Members.{Proper}
+use Rattle.theory_base.specs.Clauses.{Proper}
 use Rattle.theory_base.proofs.Clauses.{members-snoc, tests-proper}
 use Rattle.theory_base.proofs.Fitting.{Line-fits}
 use Rattle.theory_base.proofs.Outcomes.{fault-value, value-same, refuse-value, bind-value, through-keeps}

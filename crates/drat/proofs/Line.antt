@@ -19,7 +19,8 @@ use Rattle.definition.specs.LogReading.{with-literal, read-line-clause, line-cl
 use Rattle.theory_base.proofs.Tests.{by-test, of-true, and-l, and-r, differ}
 use Rattle.theory_base.proofs.Loops.{none-some, some-same}
 use Rattle.theory_base.proofs.Outcomes.{fault-value, value-same, refuse-value, bind-value}
-use Rattle.theory_text.proofs.Words.{Free, first-field, first-line}
+use Rattle.theory_text.proofs.Words.{first-field, first-line}
+use Rattle.theory_text.specs.Words.{Free}
 use Rattle.drat.specs.declared.LineRead.the-variants as Read
 use Rattle.drat.specs.Reading.{first-ended, sized, ended-rest, line-rest, clause-answer, rest-answer, deletes, fields-answer, ended-answer, line-answer, begins-deletion}
 use Rattle.drat.proofs.Rest.{before, ended-free, ended-cons}

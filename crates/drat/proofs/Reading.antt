@@ -16,7 +16,8 @@ use Rattle.definition.specs.Text.{Bytes}
 use Rattle.definition.specs.LogReading.{line-clause-allowed, allowed-clause}
 use Rattle.theory_base.proofs.Outcomes.{refuse-value}
 use Rattle.theory_base.proofs.Tests.{to-true, of-true, not-true as no-more, and-l, and-r, by-test, differ}
-use Rattle.theory_base.proofs.Members.{Proper, holds-mem, mem-holds}
+use Rattle.theory_base.proofs.Members.{holds-mem, mem-holds}
+use Rattle.theory_base.specs.Clauses.{Proper}
 use Rattle.theory_base.proofs.Clauses.{proper-snoc, proper-unrepeated, proper-not-opposed, repeated-after, opposed-after}
 use Rattle.drat.specs.declared.LineRead.the-variants as Read
 use Rattle.tables.specs.Stamps.{At-most, Marks, Fresh, Mark-post}

@@ -15,7 +15,8 @@ use Rattle.definition.specs.Text.{Bytes, TextLine, bytes, is, longer, text-line
 use Rattle.definition.specs.LogReading.{with-literal, read-line-clause}
 use Rattle.theory_base.proofs.Tests.{by-test, or-false-both}
 use Rattle.theory_base.proofs.Loops.{none-some}
-use Rattle.theory_text.proofs.Words.{Free, first-field, only-field, first-line}
+use Rattle.theory_text.proofs.Words.{first-field, only-field, first-line}
+use Rattle.theory_text.specs.Words.{Free}
 use Rattle.text.specs.Numbers.{number-class}
 use Rattle.text.specs.Words.{in-run, leading, run-end}
 use Rattle.drat.specs.declared.LineWord.{LineWord}

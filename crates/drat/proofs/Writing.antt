@@ -16,7 +16,7 @@ use Rattle.definition.specs.Text.{Bytes, bytes, digits, literal-text}
 use Rattle.definition.specs.Log.{clause-text, log-line-text}
 use Rattle.theory_base.proofs.Loops.{for-each-++}
 use Rattle.literals.proofs.Laws.{at-arg}
-use Rattle.theory_text.proofs.ClauseText.{literals-text}
+use Rattle.theory_text.specs.ClauseText.{literals-text}
 use Rattle.text.specs.Output.{Put}
 use Rattle.text.proofs.Output.{put-none, put-then, put-same, put-length, put-part, literal-length}
 use Rattle.theory_base.proofs.Slices.{sets-past}

@@ -13,7 +13,7 @@ ghost use Rattle.definition.specs.Log.{clause-text, log-line-text, formula-text
 ghost use Rattle.text.specs.Numbers.{number-class};
 ghost use Rattle.text.specs.Words.{run-end};
 ghost use Rattle.text.specs.Output.{Put};
-ghost use Rattle.theory_text.proofs.ClauseText.{literals-text};
+ghost use Rattle.theory_text.specs.ClauseText.{literals-text};
 ghost use Rattle.store.specs.Store.{Formed, stored, past};
 ghost use Rattle.tables.specs.Stamps.{Fresh, At-most};
 ghost use Rattle.drat.specs.Lines.{line-of, header-text, entry-text};

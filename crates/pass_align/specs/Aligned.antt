@@ -6,10 +6,10 @@ use lib.IntN.{ℤ, natAbs}
 use lib.ListN.{length, getD}
 use Rattle.definition.specs.Literals.{Clause, Formula}
 use Rattle.definition.specs.Alignment.{alignment, Chain, sorted, arranged}
-use Rattle.theory_base.proofs.Members.{Proper-all, Fits, Parted}
+use Rattle.theory_base.specs.Clauses.{Proper-all, Fits, Parted}
 use Rattle.store.specs.Store.{Formed, stored}
 use Rattle.pass_pure.specs.Pass.{reach}
-use Rattle.theory_alignment.proofs.Groups.{apart}
+use Rattle.theory_alignment.specs.Groups.{apart}
 use Rattle.pass_align.specs.Tables.{entry-of, linked-by}
 
 -- ---- the choice of each literal

@@ -8,7 +8,7 @@ use lib.ListN.{length, take}
 use Rattle.definition.specs.Literals.{Clause}
 use Rattle.definition.specs.Calls.{numbers-of}
 use Rattle.definition.specs.Counter.{choice-size, choices}
-use Rattle.theory_base.proofs.Members.{Proper-all, Fits}
+use Rattle.theory_base.specs.Clauses.{Proper-all, Fits}
 use Rattle.store.specs.Store.{Formed, stored, deleted-at, clause-at}
 use Rattle.store.specs.Tally.{most}
 use Rattle.pass_pure.specs.Table.{Counts, unique-by}

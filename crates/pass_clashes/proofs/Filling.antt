@@ -13,7 +13,8 @@ use Rattle.definition.specs.Lists.{bit, any, first}
 use Rattle.definition.specs.Literals.{Clause, Formula, same, holds}
 use Rattle.definition.specs.Clearing.{times, unique}
 use Rattle.theory_base.proofs.Tests.{of-true, and-l, by-test}
-use Rattle.theory_base.proofs.Members.{Fits, holds-mem}
+use Rattle.theory_base.proofs.Members.{holds-mem}
+use Rattle.theory_base.specs.Clauses.{Fits}
 use Rattle.theory_base.proofs.Loops.{first-some}
 use Rattle.literals.specs.Literal.{index-of}
 use Rattle.literals.proofs.Laws.{index-within}

@@ -11,7 +11,8 @@ use lib.ListN.{getD, replicate}
 use Rattle.definition.specs.Lists.{bit, any}
 use Rattle.definition.specs.Literals.{Clause, same, holds, without, opposed}
 use Rattle.theory_base.proofs.Tests.{of-true, to-true, not-true, of-false, and-l, and-r, and-i, each-way}
-use Rattle.theory_base.proofs.Members.{any-mem, mem-any, unlike, unlike-false, holds-mem, mem-holds, opposes-mem, mem-opposes, Proper, proper-unopposed, natAbs-neg}
+use Rattle.theory_base.proofs.Members.{any-mem, mem-any, unlike, unlike-false, holds-mem, mem-holds, opposes-mem, mem-opposes, proper-unopposed, natAbs-neg}
+use Rattle.theory_base.specs.Clauses.{Proper}
 use Rattle.literals.specs.Literal.{index-of}
 use Rattle.literals.proofs.Laws.{negation-small}
 use Rattle.theory_soundness.proofs.Times.{times-nil, times-cons}

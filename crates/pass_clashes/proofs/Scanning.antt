@@ -19,7 +19,8 @@ use Rattle.theory_base.proofs.Fitting.{fits-up, highest-of-le}
 use Rattle.theory_base.proofs.Replay.{after-++, lines-++}
 use Rattle.theory_clearing.proofs.Clash.{after-proper, after-fits, after-shorter}
 use Rattle.theory_clearing.proofs.Clashes.{clash-at-some}
-use Rattle.theory_clearing.proofs.Scan.{scan-next, scan-from, scan-clashes}
+use Rattle.theory_clearing.proofs.Scan.{scan-clashes}
+use Rattle.theory_clearing.specs.Scan.{scan-next, scan-from}
 use Rattle.store.specs.Store.{stored, Compacted}
 use Rattle.progress.specs.declared.Progress.{Progress}
 use Rattle.progress.specs.Progress.{Ran}

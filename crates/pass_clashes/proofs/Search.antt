@@ -14,7 +14,8 @@ use Rattle.definition.specs.Literals.{Clause, Formula, holds}
 use Rattle.definition.specs.Clearing.{unique, ulc-with, clash-of, clash-at}
 use Rattle.theory_base.proofs.Tests.{of-true, differ, to-false, and-l, and-r}
 use Rattle.theory_base.proofs.Loops.{first-some, by-order}
-use Rattle.theory_base.proofs.Members.{Proper-all, holds-mem, proper-unopposed, natAbs-neg}
+use Rattle.theory_base.proofs.Members.{holds-mem, proper-unopposed, natAbs-neg}
+use Rattle.theory_base.specs.Clauses.{Proper-all}
 use Rattle.literals.specs.Literal.{index-of, signed-of}
 use Rattle.literals.proofs.Laws.{signed-small, index-within}
 use Rattle.store.specs.Store.{stored}

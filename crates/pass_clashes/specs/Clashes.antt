@@ -13,7 +13,7 @@ use Rattle.definition.specs.Events.{Clash, Event, clash-cleared}
 use Rattle.definition.specs.Clearing.{clash-at, resolvent, clear-clashes}
 use Rattle.definition.specs.Reencoding.{lines}
 use Rattle.definition.specs.Calls.{numbers-of}
-use Rattle.theory_base.proofs.Members.{Proper-all, Fits}
+use Rattle.theory_base.specs.Clauses.{Proper-all, Fits}
 use Rattle.literals.specs.Literal.{index-of, signed-of}
 use Rattle.store.specs.Store.{Formed, stored}
 use Rattle.store.specs.Tally.{most}

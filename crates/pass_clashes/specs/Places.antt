@@ -9,7 +9,7 @@ use lib.ListN.{length, getD, set}
 use Rattle.definition.specs.Lists.{first}
 use Rattle.definition.specs.Literals.{Clause, Formula, holds}
 use Rattle.definition.specs.Clearing.{unique}
-use Rattle.theory_base.proofs.Members.{Fits}
+use Rattle.theory_base.specs.Clauses.{Fits}
 use Rattle.literals.specs.Literal.{index-of}
 use Rattle.store.specs.Store.{Formed, stored, deleted-at, clause-at, Place}
 use Rattle.pass_pure.specs.Table.{Counts, unique-by}

@@ -11,7 +11,7 @@ use Rattle.definition.specs.Text.{Bytes}
 use Rattle.definition.specs.Standing.{Line, addition, deletion, after}
 use Rattle.definition.specs.Events.{Clash}
 use Rattle.definition.specs.Clearing.{times, resolvent, clash-lines}
-use Rattle.theory_base.proofs.Members.{Proper-all, Fits}
+use Rattle.theory_base.specs.Clauses.{Proper-all, Fits}
 use Rattle.literals.specs.Literal.{signed-of}
 use Rattle.store.specs.Store.{Formed, stored, deleted-at, clause-at, Place}
 use Rattle.progress.specs.declared.Progress.{Progress}

@@ -12,8 +12,8 @@ use Rattle.definition.specs.Events.{Clash, Event, clash-cleared}
 use Rattle.definition.specs.Clearing.{resolvent}
 use Rattle.definition.specs.Reencoding.{lines}
 use Rattle.definition.specs.Calls.{numbers-of}
-use Rattle.theory_base.proofs.Members.{Proper-all, Fits}
-use Rattle.theory_clearing.proofs.Scan.{scan-from}
+use Rattle.theory_base.specs.Clauses.{Proper-all, Fits}
+use Rattle.theory_clearing.specs.Scan.{scan-from}
 use Rattle.store.specs.Store.{Formed, stored}
 use Rattle.store.specs.Tally.{most}
 use Rattle.progress.specs.declared.Progress.{Progress}

@@ -15,14 +15,16 @@ use Rattle.definition.specs.Events.{Choice}
 use Rattle.definition.specs.Counter.{pairs, missing-pairs, counter, copies}
 use Rattle.theory_base.proofs.Tests.{by-test, of-true, to-true, to-false, differ}
 use Rattle.theory_base.proofs.Loops.{for-from-mem, count-++, count-same, for-from-same, for-from-lower, mem-for-from, for-each-from}
-use Rattle.theory_base.proofs.Members.{Proper, Proper-all, Fits, Same, any-mem, mem-any, those-mem, proper-unopposed, same-set-same, same-same-set, same-clause, same-turned, those-++, those-same, those-none, those-those}
+use Rattle.theory_base.proofs.Members.{any-mem, mem-any, those-mem, proper-unopposed, same-set-same, same-same-set, same-clause, same-turned, those-++, those-same, those-none, those-those}
+use Rattle.theory_base.specs.Clauses.{Proper, Proper-all, Fits, Same}
 use Rattle.theory_base.proofs.Removal.{removed-take-out, removed-++, mem-take-out}
 use Rattle.theory_soundness.proofs.Removals.{Spread}
-use Rattle.theory_counter.proofs.Ready.{Ready}
+use Rattle.theory_counter.specs.Ready.{Ready}
 use Rattle.theory_counter.proofs.Pairs.{pair-form, pair-literal, pairs-spread, missing-mem}
-use Rattle.theory_counter.proofs.Copies.{drop-copies, drop-all, count-none, count-removed}
+use Rattle.theory_counter.proofs.Copies.{count-none, count-removed}
+use Rattle.theory_counter.specs.Front.{drop-copies, drop-all, paired, pair-copies, front}
 use Rattle.theory_counter.proofs.CounterLiterals.{counter-new}
-use Rattle.theory_counter.proofs.Front.{paired, pair-copies, front, clause-taken, pair-fit}
+use Rattle.theory_counter.proofs.Front.{clause-taken, pair-fit}
 use Rattle.drat.specs.Lines.{line-of}
 use Rattle.pass_counter.specs.Pairs.{literal-at, Placed, slot-of, Pairs-taken, times-of, cell-lines, row-lines, pair-lines}
 use Rattle.pass_counter.proofs.Places.{pair-of, negation-at, Slotted, slotted, slot-tells}

@@ -16,7 +16,7 @@ use Rattle.definition.specs.Counter.{size, lit, new, stage-2, stage-3, counter}
 use Rattle.literals.specs.Literal.{negation, signed-of}
 use Rattle.literals.proofs.Laws.{signed-small}
 use Rattle.progress.specs.declared.Progress.{Progress}
-use Rattle.theory_counter.proofs.Ready.{of-literals}
+use Rattle.theory_counter.specs.Ready.{of-literals}
 use Rattle.pass_counter.specs.Pairs.{literal-at}
 use Rattle.pass_counter.specs.Growth.{Grow-room, Grown, link-2, link-3, Small}
 use Rattle.pass_counter.proofs.Places.{negation-at}

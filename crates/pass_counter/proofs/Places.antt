@@ -13,7 +13,8 @@ use borrow.Author.Tests.{ltb-true, ltb-false, leb-true, leb-false, eqb-true, eqb
 use Rattle.definition.specs.Literals.{Clause, highest, same-set}
 use Rattle.theory_base.proofs.Tests.{by-test, of-true, to-true, each-way}
 use Rattle.theory_base.proofs.Loops.{by-order, getD-mem}
-use Rattle.theory_base.proofs.Members.{Proper, Same, proper-first, natAbs-neg, same-set-same, same-same-set, same-clause, same-joined, pair-turned}
+use Rattle.theory_base.proofs.Members.{proper-first, natAbs-neg, same-set-same, same-same-set, same-clause, same-joined, pair-turned}
+use Rattle.theory_base.specs.Clauses.{Proper, Same}
 use Rattle.theory_base.proofs.Clauses.{same-length}
 use Rattle.theory_base.proofs.Fitting.{Up-to, highest-at, literal-between, negated-between, two-to}
 use Rattle.literals.specs.Literal.{index-of, negation}

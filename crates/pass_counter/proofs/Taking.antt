@@ -15,14 +15,15 @@ use Rattle.definition.specs.Events.{Choice}
 use Rattle.definition.specs.Counter.{missing-pairs, size, new, counter, take-choice}
 use Rattle.definition.specs.Reencoding.{lines-of}
 use Rattle.theory_base.proofs.Slices.{sets-before, taken-sets, getD-zeros}
-use Rattle.theory_counter.proofs.Front.{taken-lines-are, pair-copies, front, counter-open, front-open, taken-open}
+use Rattle.theory_counter.proofs.Front.{taken-lines-are, counter-open, front-open, taken-open}
+use Rattle.theory_counter.specs.Front.{pair-copies, front}
 use Rattle.theory_counter.proofs.Counter.{after-choice}
 use Rattle.store.specs.Store.{stored}
 use Rattle.store.proofs.Laws.{formed-++, stored-++}
 use Rattle.progress.specs.declared.Progress.{Progress}
 use Rattle.progress.specs.Progress.{Written, Log-room}
 use Rattle.progress.proofs.Laws.{written-then, room-first, room-rest, ran-event}
-use Rattle.theory_counter.proofs.Ready.{of-literals}
+use Rattle.theory_counter.specs.Ready.{of-literals}
 use Rattle.pass_counter.specs.Choice.{Choice-ready, Taken}
 use Rattle.pass_counter.specs.Pairs.{Placed, Placeable, Countable, Pairs-taken, pair-lines, Lines-ready}
 use Rattle.pass_counter.specs.Growth.{entries, Small, Grown, Grow-ready}

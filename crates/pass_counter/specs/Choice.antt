@@ -9,10 +9,10 @@ use Rattle.definition.specs.Text.{Bytes}
 use Rattle.definition.specs.Counter.{counter, take-choice}
 use Rattle.definition.specs.Reencoding.{lines-of}
 use Rattle.definition.specs.Calls.{numbers-of}
-use Rattle.theory_base.proofs.Members.{Proper-all, Fits}
-use Rattle.theory_counter.proofs.Ready.{Ready}
-pub use Rattle.theory_counter.proofs.Ready.{of-literals}
-use Rattle.theory_counter.proofs.Front.{front}
+use Rattle.theory_base.specs.Clauses.{Proper-all, Fits}
+use Rattle.theory_counter.specs.Ready.{Ready}
+pub use Rattle.theory_counter.specs.Ready.{of-literals}
+use Rattle.theory_counter.specs.Front.{front}
 use Rattle.store.specs.Store.{Formed, stored}
 use Rattle.store.specs.Tally.{most}
 use Rattle.progress.specs.declared.Progress.{Progress}

@@ -9,7 +9,7 @@ use lib.ListN.{length, getD, set, replicate}
 use Rattle.definition.specs.Lists.{count, those, for-from}
 use Rattle.definition.specs.Literals.{Clause, Formula, highest}
 use Rattle.definition.specs.Standing.{Line}
-use Rattle.theory_base.proofs.Members.{Proper}
+use Rattle.theory_base.specs.Clauses.{Proper}
 use Rattle.literals.specs.Literal.{index-of, negation}
 use Rattle.store.specs.Store.{Formed, stored, deleted-at, clause-at, marked}
 use Rattle.store.specs.Tally.{most}

@@ -16,16 +16,17 @@ use Rattle.definition.specs.Literals.{Clause, Formula}
 use Rattle.definition.specs.Text.{Bytes}
 use Rattle.definition.specs.Standing.{deletion}
 use Rattle.theory_base.proofs.Loops.{for-from-snoc, getD-mem, for-from-around}
-use Rattle.theory_base.proofs.Fitting.{Fit-all}
+use Rattle.theory_base.specs.Clauses.{Fit-all}
 use Rattle.definition.specs.Counter.{size, lit, new}
 use Rattle.definition.specs.Order.{previous, negated-new, deletions-of}
 use Rattle.literals.specs.Literal.{signed-of, negation}
 use Rattle.literals.proofs.Laws.{at-arg2, signed-small, negation-small}
-use Rattle.theory_soundness.proofs.Removals.{take-all, take-all-++}
+use Rattle.theory_soundness.proofs.Removals.{take-all-++}
+use Rattle.theory_soundness.specs.Removals.{take-all}
 use Rattle.store.specs.Store.{Formed, stored}
 use Rattle.progress.specs.declared.Progress.{Progress}
 use Rattle.progress.proofs.Laws.{written-none, written-then, written-length, room-first, room-rest}
-use Rattle.theory_counter.proofs.Ready.{of-literals}
+use Rattle.theory_counter.specs.Ready.{of-literals}
 use Rattle.pass_order.specs.Order.{first-deletion, Deletable, Deletes}
 use Rattle.pass_order.proofs.Writing.{wanted, new-arg, array-clause}
 

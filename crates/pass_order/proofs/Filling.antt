@@ -14,8 +14,8 @@ use borrow.Author.Tests.{leb-true, leb-false}
 use Rattle.definition.specs.Literals.{Clause, same}
 use Rattle.definition.specs.Order.{place-from}
 use Rattle.theory_base.proofs.Tests.{of-true, by-test}
-use Rattle.theory_base.proofs.Members.{Proper, same-eq, unlike-false, natAbs-neg}
-use Rattle.theory_base.proofs.Fitting.{Fit-all}
+use Rattle.theory_base.proofs.Members.{same-eq, unlike-false, natAbs-neg}
+use Rattle.theory_base.specs.Clauses.{Proper, Fit-all}
 use Rattle.theory_base.proofs.Slices.{drop-step, drop-end}
 use Rattle.literals.specs.Literal.{index-of, negation, negative, with-sign, largest}
 use Rattle.literals.proofs.Laws.{index-injective, index-within, negation-small}

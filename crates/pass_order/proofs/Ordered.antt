@@ -16,19 +16,21 @@ use Rattle.definition.specs.Counter.{counter}
 use Rattle.definition.specs.Order.{replace, order-events}
 use Rattle.definition.specs.Reencoding.{lines}
 use Rattle.theory_base.proofs.Tests.{to-false}
-use Rattle.theory_base.proofs.Members.{Fits, any-mem, same-set-same}
+use Rattle.theory_base.proofs.Members.{any-mem, same-set-same}
+use Rattle.theory_base.specs.Clauses.{Fits}
 use Rattle.theory_base.proofs.Removal.{take-out-past}
-use Rattle.theory_soundness.proofs.Removals.{take-all}
-use Rattle.theory_soundness.proofs.CounterClauses.{Written as Literals-written, written}
+use Rattle.theory_soundness.specs.Removals.{take-all}
+use Rattle.theory_counter.proofs.CounterClauses.{Written as Literals-written, written}
 use Rattle.theory_order.proofs.Recursive.{link-deletions, deletions-from, deletions, deletions-is}
-use Rattle.theory_order.proofs.Pass.{kept, added, kept-mem}
-use Rattle.theory_order.proofs.Order.{ordered, Before, after-order, order-lines}
+use Rattle.theory_order.proofs.Pass.{kept-mem}
+use Rattle.theory_order.specs.Pass.{kept, added, Before}
+use Rattle.theory_order.proofs.Order.{ordered, after-order, order-lines}
 use Rattle.store.specs.Store.{Formed, stored}
 use Rattle.store.proofs.Laws.{formed-++, stored-++}
 use Rattle.progress.specs.declared.Progress.{Progress}
 use Rattle.progress.specs.Progress.{Written, Log-room, Ran}
 use Rattle.progress.proofs.Laws.{written-then, room-first, room-rest, ran-lines}
-use Rattle.theory_counter.proofs.Ready.{of-literals}
+use Rattle.theory_counter.specs.Ready.{of-literals}
 use Rattle.pass_order.specs.Table.{Places, Small}
 use Rattle.pass_order.proofs.Replaced.{place-within}
 use Rattle.pass_order.specs.Order.{front, with-counter, Order-ready, Passed, Deletable, Deletes}

@@ -17,16 +17,16 @@ use Rattle.definition.specs.Order.{replacement-lines, replaced, replace}
 use Rattle.definition.specs.Calls.{numbers-of}
 use Rattle.definition.specs.Reencoding.{lines, lines-of}
 use Rattle.theory_base.proofs.Tests.{by-test}
-use Rattle.theory_base.proofs.Members.{Proper, Proper-all, those-++}
-use Rattle.theory_base.proofs.Fitting.{Fit-all, proper-length}
+use Rattle.theory_base.proofs.Members.{those-++}
+use Rattle.theory_base.specs.Clauses.{Proper, Proper-all, Fit-all}
+use Rattle.theory_base.proofs.Fitting.{proper-length}
 use Rattle.theory_base.proofs.Clauses.{numbers-none, numbers-first, numbers-++, tests-proper}
 use Rattle.theory_base.proofs.Loops.{for-each-++}
 use Rattle.theory_base.proofs.Replay.{lines-++}
-use Rattle.theory_counter.proofs.Ready.{Well-formed, of-literals}
+use Rattle.theory_counter.specs.Ready.{Well-formed, of-literals}
 use Rattle.theory_order.proofs.Replace.{replaced-fit}
 use Rattle.theory_order.proofs.Results.{replaced-distinct}
-use Rattle.theory_order.proofs.Pass.{kept, added, results as results-of}
-use Rattle.theory_order.proofs.Order.{Before}
+use Rattle.theory_order.specs.Pass.{kept, added, results as results-of, Before}
 use Rattle.literals.specs.Literal.{largest, negative, header-literals, flip}
 use Rattle.store.specs.Store.{Formed, stored, entry, header-at, deleted-at, clause-at, past, marked, Place}
 use Rattle.store.proofs.Laws.{formed-++, stored-++, stored-none, place-start, place-next, place-formed, formed-next, prefix-deleted, prefix-stands, prefix-clause, rest-deleted, rest-stands, marked-place, marked-past, marked-behind, marked-prefix, entry-formed, entry-stored, stored-end}

@@ -16,10 +16,11 @@ use Rattle.definition.specs.Events.{Choice}
 use Rattle.definition.specs.Counter.{size, lit, new}
 use Rattle.definition.specs.Order.{place-from, previous, negated-new, instead-of, replaced}
 use Rattle.theory_base.proofs.Tests.{of-true, to-true, each-way, by-test, and-l, and-r, and-i}
-use Rattle.theory_base.proofs.Members.{Proper, unlike, any-mem, mem-any, opposes-mem, mem-opposes}
+use Rattle.theory_base.proofs.Members.{unlike, any-mem, mem-any, opposes-mem, mem-opposes}
+use Rattle.theory_base.specs.Clauses.{Proper}
 use Rattle.theory_base.proofs.Fitting.{Up-to}
 use Rattle.theory_base.proofs.Loops.{getD-mem}
-use Rattle.theory_counter.proofs.Ready.{Well-formed, of-literals}
+use Rattle.theory_counter.specs.Ready.{Well-formed, of-literals}
 use Rattle.theory_order.proofs.Results.{placed, Neighbours, opposed-exactly, place-at}
 use Rattle.pass_order.specs.Table.{place-in, number-of, Places, negated-in, with-place-marks, next-in, opposed-by, instead-by, replaced-by}
 

@@ -14,15 +14,13 @@ use Rattle.definition.specs.Counter.{counter}
 use Rattle.definition.specs.Order.{replace, order-events}
 use Rattle.definition.specs.Calls.{numbers-of}
 use Rattle.definition.specs.Reencoding.{lines}
-use Rattle.theory_base.proofs.Members.{Proper-all}
-use Rattle.theory_base.proofs.Fitting.{Fit-all}
-use Rattle.theory_soundness.proofs.Removals.{take-all}
-use Rattle.theory_order.proofs.Pass.{kept, added}
-use Rattle.theory_order.proofs.Order.{Before}
+use Rattle.theory_base.specs.Clauses.{Proper-all, Fit-all}
+use Rattle.theory_soundness.specs.Removals.{take-all}
+use Rattle.theory_order.specs.Pass.{kept, added, Before}
 use Rattle.store.specs.Store.{Formed, stored}
 use Rattle.progress.specs.declared.Progress.{Progress}
 use Rattle.progress.specs.Progress.{Written, Log-room}
-pub use Rattle.theory_counter.proofs.Ready.{of-literals}
+pub use Rattle.theory_counter.specs.Ready.{of-literals}
 
 -- what stands before the counter clauses, which begin at `start`
 abbrev pub front : List ℤ → ℕ → Formula

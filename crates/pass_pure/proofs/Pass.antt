@@ -15,12 +15,12 @@ use Rattle.definition.specs.Log.{log-text}
 use Rattle.definition.specs.Events.{Event, pure-deleted}
 use Rattle.definition.specs.Clearing.{times, pure-literal, pure-lines, pure-next, clear-pure}
 use Rattle.definition.specs.Reencoding.{lines, lines-of}
-use Rattle.theory_base.proofs.Members.{Fits}
+use Rattle.theory_base.specs.Clauses.{Fits}
 use Rattle.theory_base.proofs.Tests.{by-test}
 use Rattle.theory_base.proofs.Removal.{Removed, removed-take-out, mem-removed}
 use Rattle.theory_base.proofs.Replay.{after-++, lines-++}
 use Rattle.theory_soundness.proofs.Times.{times-removed, times-at, unique-at, unique-some, at-unique}
-use Rattle.theory_clearing.proofs.Clashes.{Clash-free}
+use Rattle.theory_clearing.specs.Clashes.{Clash-free}
 use Rattle.theory_clearing.proofs.Pure.{Is-pure, pure-some, pure-removed}
 use Rattle.theory_clearing.proofs.Pass.{pure-at-start}
 use Rattle.store.specs.Store.{Formed, stored, deleted-at, clause-at, past, marked, Place}

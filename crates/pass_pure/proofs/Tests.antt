@@ -11,7 +11,8 @@ use lib.ListN.{length, getD, drop, replicate}
 use Rattle.definition.specs.Lists.{all, first}
 use Rattle.definition.specs.Literals.{Clause, Formula}
 use Rattle.definition.specs.Clearing.{times, unique, pure, deletable, pure-literal}
-use Rattle.theory_base.proofs.Members.{Proper-all, natAbs-neg, all-same, first-agree}
+use Rattle.theory_base.proofs.Members.{natAbs-neg, all-same, first-agree}
+use Rattle.theory_base.specs.Clauses.{Proper-all}
 use Rattle.literals.specs.Literal.{index-of, negation}
 use Rattle.literals.proofs.Laws.{negation-small, index-within}
 use Rattle.store.specs.Tally.{most, tallied-all}

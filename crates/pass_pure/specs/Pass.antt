@@ -12,8 +12,8 @@ use Rattle.definition.specs.Standing.{deletion, after}
 use Rattle.definition.specs.Log.{log-text}
 use Rattle.definition.specs.Clearing.{clear-pure}
 use Rattle.definition.specs.Reencoding.{lines}
-use Rattle.theory_base.proofs.Members.{Proper-all, Fits}
-use Rattle.theory_clearing.proofs.Clashes.{Clash-free}
+use Rattle.theory_base.specs.Clauses.{Proper-all, Fits}
+use Rattle.theory_clearing.specs.Clashes.{Clash-free}
 use Rattle.store.specs.Store.{Formed, stored, deleted-at, clause-at, marked}
 use Rattle.store.specs.Tally.{most}
 use Rattle.progress.specs.declared.Progress.{Progress}

@@ -17,7 +17,7 @@ use Rattle.definition.specs.Standing.{deletion}
 use Rattle.definition.specs.Log.{clause-text, log-line-text}
 use Rattle.theory_base.proofs.Loops.{for-each-++}
 use Rattle.literals.proofs.Laws.{at-arg, at-arg2}
-use Rattle.theory_text.proofs.ClauseText.{literals-text}
+use Rattle.theory_text.specs.ClauseText.{literals-text}
 use Rattle.text.specs.Output.{Put}
 use Rattle.text.proofs.Output.{put-none, put-then, put-same, put-length}
 

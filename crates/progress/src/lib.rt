@@ -7,7 +7,7 @@ ghost use lib.ListN.{length};
 ghost use Rattle.definition.specs.Text.{bytes, literal-text};
 ghost use Rattle.definition.specs.Literals.{without, with-first};
 ghost use Rattle.definition.specs.Standing.{deletion};
-ghost use Rattle.theory_text.proofs.ClauseText.{literals-text};
+ghost use Rattle.theory_text.specs.ClauseText.{literals-text};
 ghost use Rattle.text.specs.Output.{Put};
 ghost use Rattle.drat.specs.Lines.{line-of};
 ghost use Rattle.progress.specs.Progress.{Written};

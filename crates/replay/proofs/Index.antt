@@ -12,7 +12,8 @@ use borrow.Author.Tests.{eqb-true, eqb-false}
 use Rattle.definition.specs.Literals.{Clause, same-set}
 use Rattle.theory_base.proofs.Tests.{of-true, by-test}
 use Rattle.theory_base.proofs.Loops.{by-order}
-use Rattle.theory_base.proofs.Members.{Within, same-set-same}
+use Rattle.theory_base.proofs.Members.{same-set-same}
+use Rattle.theory_base.specs.Clauses.{Within}
 use Rattle.theory_base.proofs.Slices.{drop-step, drop-end}
 use Rattle.literals.specs.Literal.{index-of, header-literals}
 use Rattle.store.specs.Store.{Formed-from, Formed, header-at, size-at, deleted-at, clause-at, past, Place, begins-with, place-from, place-of}

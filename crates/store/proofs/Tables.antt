@@ -12,7 +12,8 @@ use Rattle.definition.specs.Lists.{bit, any, count, sum-of}
 use Rattle.definition.specs.Literals.{Clause, Formula, same, holds, repeated}
 use Rattle.definition.specs.Clearing.{times}
 use Rattle.theory_base.proofs.Tests.{of-true, differ, by-test, to-false}
-use Rattle.theory_base.proofs.Members.{same-eq, any-mem, Proper-all}
+use Rattle.theory_base.proofs.Members.{same-eq, any-mem}
+use Rattle.theory_base.specs.Clauses.{Proper-all}
 use Rattle.literals.specs.Literal.{index-of}
 use Rattle.store.specs.Store.{stored, deleted-at, past}
 use Rattle.store.specs.Tally.{most, bumped, tallied, tallied-all, tallied-at}

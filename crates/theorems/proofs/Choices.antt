@@ -15,18 +15,21 @@ use Rattle.definition.specs.Counter.{below-new, last-new, counter, take-choice}
 use Rattle.definition.specs.Order.{order-events}
 use Rattle.definition.specs.Reencoding.{lines-of, lines, Form, counter-form, order-form, choice-events, choices-events}
 use Rattle.theory_base.proofs.Tests.{to-false}
-use Rattle.theory_base.proofs.Members.{Disjoint, Parted, Same, Fits, natAbs-neg, opposes-mem}
+use Rattle.theory_base.proofs.Members.{natAbs-neg, opposes-mem}
+use Rattle.theory_base.specs.Clauses.{Disjoint, Parted, Same, Fits}
 use Rattle.theory_base.proofs.Replay.{after-++, lines-++}
 use Rattle.theory_soundness.proofs.Sound.{into-none, Sound, nothing}
 use Rattle.theory_soundness.proofs.Times.{times-++, times-none, times-at}
 use Rattle.theory_soundness.proofs.Without.{Known}
-use Rattle.theory_counter.proofs.Ready.{Ready, Other}
+use Rattle.theory_counter.specs.Ready.{Ready, Other}
 use Rattle.theory_base.proofs.Fitting.{fits-up, fits-++}
 use Rattle.theory_counter.proofs.CounterLiterals.{counter-absent, counter-fits}
-use Rattle.theory_counter.proofs.Front.{front, well-formed, front-own, front-other, front-kept, front-fits}
+use Rattle.theory_counter.proofs.Front.{well-formed, front-own, front-other, front-kept, front-fits}
+use Rattle.theory_counter.specs.Front.{front}
 use Rattle.theory_counter.proofs.Counter.{counter-sound, after-choice, counter-known}
-use Rattle.theory_room.proofs.Lines.{as-choice}
-use Rattle.theory_order.proofs.Order.{Before, ordered, order-sound, after-order, ordered-times, ordered-fits, ordered-mem}
+use Rattle.theory_room.specs.Choices.{as-choice}
+use Rattle.theory_order.proofs.Order.{ordered, order-sound, after-order, ordered-times, ordered-fits, ordered-mem}
+use Rattle.theory_order.specs.Pass.{Before}
 
 none-written : (F : Formula) → Sound F [] (lines []) (after F (lines [])) []
 unfolding lines for-each after

@@ -15,16 +15,19 @@ use Rattle.definition.specs.Clearing.{times, unique, clear-clashes, clear-pure}
 use Rattle.definition.specs.Counter.{choice-size, choices, size}
 use Rattle.definition.specs.Reencoding.{Settings, lines, unclashed, cleared, input, chosen, events, log, result}
 use Rattle.theory_base.proofs.Tests.{of-true, and-r}
-use Rattle.theory_base.proofs.Members.{Disjoint, Parted, those-mem, same-variable, Proper-all, Fits}
+use Rattle.theory_base.proofs.Members.{those-mem, same-variable}
+use Rattle.theory_base.specs.Clauses.{Disjoint, Parted, Proper-all, Fits}
 use Rattle.theory_base.proofs.Replay.{leads-after, lines-++}
 use Rattle.theory_soundness.proofs.Sound.{Sound, sound-leads}
 use Rattle.theory_soundness.proofs.Times.{unique-at, two-clauses, times-cons}
-use Rattle.theory_clearing.proofs.Clashes.{Clash-free, clashes-sound, unclashed-proper}
+use Rattle.theory_clearing.proofs.Clashes.{clashes-sound, unclashed-proper}
+use Rattle.theory_clearing.specs.Clashes.{Clash-free}
 use Rattle.theory_clearing.proofs.Pure.{pure-sound}
 use Rattle.theory_clearing.proofs.Cleared.{cleared-facts}
-use Rattle.theory_room.proofs.Lines.{as-choice, ordered-size}
-use Rattle.theory_room.proofs.Runs.{order-of, choosing, chosen-mem, chosen-arranges}
-use Rattle.theory_counter.proofs.Ready.{Ready}
+use Rattle.theory_room.proofs.Lines.{ordered-size}
+use Rattle.theory_room.specs.Choices.{as-choice, order-of}
+use Rattle.theory_room.proofs.Runs.{choosing, chosen-mem, chosen-arranges}
+use Rattle.theory_counter.specs.Ready.{Ready}
 use Rattle.theorems.proofs.Choices.{choices-sound}
 
 -- ---- the choices have no variable in common

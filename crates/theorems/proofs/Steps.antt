@@ -12,12 +12,13 @@ use Rattle.definition.specs.Clearing.{clash-lines, pure-lines, clear-clashes, c
 use Rattle.definition.specs.Reencoding.{Settings, lines-of, lines, choice-events, unclashed, input, chosen, events}
 use Rattle.definition.specs.Calls.{workspace-need, numbers-of}
 use Rattle.theory_clearing.proofs.Pure.{Eliminates, no-more, next, pure-eliminates}
-use Rattle.theory_text.proofs.Accepted.{Accepted}
+use Rattle.theory_text.specs.Accepted.{Accepted}
 use Rattle.theory_room.proofs.Weights.{added}
 use Rattle.theory_room.proofs.Additions.{numbers}
 use Rattle.theory_room.proofs.Runs.{choosing}
 use Rattle.theory_room.proofs.Room.{event-room, standing-room}
-use Rattle.theory_room.proofs.Compaction.{standing-after-first, next-choice, choice-room}
+use Rattle.theory_room.proofs.Compaction.{choice-room}
+use Rattle.theory_room.specs.Choices.{standing-after-first, next-choice}
 use Rattle.theorems.proofs.Log.{chosen-parted}
 use Rattle.theorems.proofs.Texts.{accepted-run}
 

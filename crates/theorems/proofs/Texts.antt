@@ -5,7 +5,8 @@ use Rattle.definition.specs.Literals.{literals-of}
 use Rattle.definition.specs.Reading.{Input, input-limits, read-back-limits}
 use Rattle.definition.specs.Reencoding.{Settings, input, log, result, highest-used}
 use Rattle.theory_soundness.proofs.Sound.{sound-leads}
-use Rattle.theory_text.proofs.Accepted.{Accepted, accepted}
+use Rattle.theory_text.proofs.Accepted.{accepted}
+use Rattle.theory_text.specs.Accepted.{Accepted}
 use Rattle.theory_text.proofs.FormulaText.{formula-read-back}
 use Rattle.theory_text.proofs.LogText as LogText
 use Rattle.theory_room.proofs.Runs.{Run, log-proper}

@@ -12,7 +12,8 @@ use Rattle.definition.specs.Standing
 use Rattle.definition.specs.Literals.{Clause, Formula, holds, repeated}
 use Rattle.definition.specs.Alignment.{computing, Wish, no-wish, alignment, choice-literals, Alignable, group, alignable, group-number, sorted, aligned, arranged}
 use Rattle.theory_base.proofs.Tests.{to-true, to-false, or-cases, or-l, or-r}
-use Rattle.theory_base.proofs.Members.{all-at, all-of, holds-mem, mem-holds, Same, Proper}
+use Rattle.theory_base.proofs.Members.{all-at, all-of, holds-mem, mem-holds}
+use Rattle.theory_base.specs.Clauses.{Same, Proper}
 use Rattle.theory_base.proofs.Loops.{mem-for-each}
 use Rattle.theory_alignment.proofs.Groups.{chain-group, group-chain}
 use Rattle.theory_alignment.proofs.Sorting.{Distinct, Rising, permuted-same, permuted-length, permuted-proper, sorted-permutes, sorted-rising}

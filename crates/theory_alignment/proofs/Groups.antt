@@ -1,10 +1,10 @@
 -- Two literals are in one group exactly when a chain joins them. Assumes nothing.
 use mathlib.Core.Path.{_≡_, refl, _∙_, fun-ext}
-use mathlib.Core.Bool.{Bool, true, false, cond, not, _&&_, and-comm}
+use mathlib.Core.Bool.{Bool, true, false, cond, _&&_, and-comm}
 use mathlib.Core.List.{List, [], _∷_, List·Memᴰ, List·Memᴰ·head as here, List·Memᴰ·tail as there, List·Memᴰ·eq-of-singleton}
 use lib.Dec.{T}
 use lib.IntN.{ℤ, negℤ}
-use Rattle.definition.specs.Lists.{any, for-each, only-if}
+use Rattle.definition.specs.Lists.{for-each, only-if}
 use Rattle.definition.specs.Literals.{Clause, Formula, same, holds, same-set}
 use Rattle.definition.specs.Standing.{stands}
 use Rattle.definition.specs.Alignment.{choice-literals, linked, Chain, nothing, link, links, join, grouped, group}
@@ -12,6 +12,7 @@ use Rattle.theory_base.proofs.Tests.{to-true, of-true, and-l, and-r, and-i}
 use Rattle.theory_base.proofs.Members.{any-mem, same-eq, same-refl, holds-mem, same-set-same, same-joined, pair-turned}
 use Rattle.theory_base.proofs.Removal.{stands-same}
 use Rattle.theory_base.proofs.Loops.{for-each-mem, mem-for-each, only-if-mem, mem-only-if}
+use Rattle.theory_alignment.specs.Groups.{apart}
 
 -- ---- links and chains, turned
 stands-pair-turned : (x y : ℤ) (f : Formula) → T (stands (x ∷ y ∷ []) f) → T (stands (y ∷ x ∷ []) f)
@@ -19,10 +20,6 @@ unfolding stands
 stands-pair-turned x y f t =
     let r = any-mem (same-set (x ∷ y ∷ [])) f t in
     stands-same (y ∷ x ∷ []) (r .0) f (r .1) (same-joined (pair-turned y x) (same-set-same (x ∷ y ∷ []) (r .0) (r .2)))
-
--- two literals of different choices
-abbrev pub apart : List Clause → ℤ → ℤ → Bool
-apart cs a b = holds a (choice-literals cs) && holds b (choice-literals cs) && not (any (λ c. holds a c && holds b c) cs)
 
 pub apart-turned : (cs : List Clause) (a b : ℤ) → apart cs a b ≡ apart cs b a
 apart-turned cs a b =

@@ -14,7 +14,8 @@ use Rattle.definition.specs.Lists.{sum-of}
 use Rattle.definition.specs.Literals.{Clause, Formula, holds, literals-of, repeated, opposed}
 use Rattle.theory_base.proofs.Tests.{to-false, differ, or-false-both, to-true, of-true, or-l, or-r}
 use Rattle.theory_base.proofs.Sums.{sum-++, count-length, Distinct, sum-within}
-use Rattle.theory_base.proofs.Members.{turn, holds-false, mem-holds, opposes-mem, mem-opposes, Same, Proper, proper-unopposed, proper-literal}
+use Rattle.theory_base.proofs.Members.{turn, holds-false, mem-holds, opposes-mem, mem-opposes, proper-unopposed, proper-literal}
+use Rattle.theory_base.specs.Clauses.{Same, Proper}
 
 -- a literal of a proper clause, and those before it
 pub proper-apart : (a : Clause) (l : ℤ) (c : Clause) → Proper (a ++ l ∷ c) → (List·Memᴰ l a → ⊥) × (List·Memᴰ (negℤ l) a → ⊥)

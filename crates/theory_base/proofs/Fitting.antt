@@ -10,11 +10,8 @@ use Rattle.definition.specs.Literals.{Clause, Formula, highest, highest-of}
 use Rattle.definition.specs.Standing.{Line, literals, highest-in}
 use Rattle.theory_base.proofs.Loops.{by-order}
 use Rattle.theory_base.proofs.Sums.{Distinct, sum-within, count-length}
-use Rattle.theory_base.proofs.Members.{Fit, Fits, Proper, Proper-all, Absent, natAbs-neg, proper-literal, proper-first}
-
--- every literal of a clause is one of 1 to h
-abbrev pub Fit-all : ℕ → Clause → Type 0
-Fit-all h c = (x : ℤ) → List·Memᴰ x c → Fit h x
+use Rattle.theory_base.proofs.Members.{natAbs-neg, proper-literal, proper-first}
+use Rattle.theory_base.specs.Clauses.{Fit, Fits, Proper, Proper-all, Absent, Fit-all}
 
 pub fit-neg : (h : ℕ) (x : ℤ) → Fit h x → Fit h (negℤ x)
 fit-neg h x f = (λ e. f .0 (sym (negℤ-negℤ x) ∙ ap negℤ e), rw natAbs-neg (f .1))

@@ -3,13 +3,14 @@ use mathlib.Core.Path.{_≡_, refl, sym, _∙_, ap}
 use mathlib.Core.Logic.{_≢_, _⊎_, inl, inr, ⊎-elim}
 use mathlib.Core.Bool.{Bool, true, false, cond, or-false, or-assoc, _||_, not}
 use mathlib.Core.List.{List, [], _∷_, List·Memᴰ, List·Memᴰ·head as here, List·Memᴰ·tail as there, Memᴰ·cast, _++_, Memᴰ·append-right}
-use Prim.Native.Nat.{ℕ, zero, suc, _≤_, _<_}
+use Prim.Native.Nat.{ℕ, zero, suc, _<_}
 use native.Mathlib.Omega.{arith}
 use lib.Dec.{T, eqb→eq, eqb-refl}
 use lib.IntN.{ℤ, pos, negsuc, negℤ, negℤ-negℤ, natAbs}
 use Rattle.definition.specs.Lists.{any, all, those, first}
-use Rattle.definition.specs.Literals.{Clause, Formula, same, holds, same-set, opposes}
+use Rattle.definition.specs.Literals.{Clause, same, holds, same-set, opposes}
 use Rattle.theory_base.proofs.Tests.{of-true, differ, to-false, each-way, and-l, and-r, and-i, or-cases, or-l, or-r}
+use Rattle.theory_base.specs.Clauses.{Within, Same, Proper, Disjoint, Parted}
 
 -- ---- lists
 module _ {A : Type 0} where
@@ -125,14 +126,6 @@ mem-holds l c i = mem-any (same l) c l i (same-refl l)
 pub holds-false : (l : ℤ) (c : Clause) → (List·Memᴰ l c → ⊥) → holds l c ≡ false
 holds-false l c n = to-false (λ t. n (holds-mem l c t))
 
--- every literal of c is in d
-abbrev pub Within : Clause → Clause → Type 0
-Within c d = (l : ℤ) → List·Memᴰ l c → List·Memᴰ l d
-
--- two clauses with the same set of literals
-abbrev pub Same : Clause → Clause → Type 0
-Same c d = Within c d × Within d c
-
 pub same-set-same : (c d : Clause) → T (same-set c d) → Same c d
 unfolding same-set
 same-set-same c d t = (
@@ -179,11 +172,6 @@ opposes-same c d e s = each-way (within d e (s .0)) (within e d (s .1))
     within : (d e : Clause) → Within d e → T (opposes c d) → T (opposes c e)
     within d e h t = let r = opposes-mem c d t in mem-opposes c e (r .0) (r .1) (h (negℤ (r .0)) (r .2))
 
--- ---- a proper clause: no literal is 0, repeated or opposed
-abbrev pub Proper : Clause → Type 0
-Proper [] = Unit {0}
-Proper (l ∷ c) = (l ≢ pos 0) × (List·Memᴰ l c → ⊥) × (List·Memᴰ (negℤ l) c → ⊥) × Proper c
-
 pub proper-literal : (c : Clause) → Proper c → (l : ℤ) → List·Memᴰ l c → l ≢ pos 0
 proper-literal (m ∷ c) a l (here e) = λ z. a .0 (sym e ∙ z)
 proper-literal (m ∷ c) a l (there d) = proper-literal c (a .3) l d
@@ -197,29 +185,6 @@ proper-unopposed (l ∷ c) a x (there i) (there j) = proper-unopposed c (a .3) x
 -- two literals of a proper clause, the first and one behind it, are of different variables
 pub proper-first : (x : ℤ) (c : Clause) → Proper (x ∷ c) → (y : ℤ) → List·Memᴰ y c → natAbs x ≢ natAbs y
 proper-first x c p y m e = ⊎-elim (λ q. p .1 (Memᴰ·cast q m)) (λ q. p .2 (Memᴰ·cast (turn x y q) m)) (same-variable x y e)
-
--- no variable in common
-abbrev pub Disjoint : Clause → Clause → Type 0
-Disjoint c d = (x : ℤ) → List·Memᴰ x c → (y : ℤ) → List·Memᴰ y d → natAbs x ≢ natAbs y
-
-abbrev pub Parted : List Clause → Type 0
-Parted [] = Unit {0}
-Parted (c ∷ cs) = ((d : Clause) → List·Memᴰ d cs → Disjoint c d) × Parted cs
-
--- every clause of the formula is proper
-abbrev pub Proper-all : Formula → Type 0
-Proper-all f = (d : Clause) → List·Memᴰ d f → Proper d
-
--- a literal of 1 to h; a formula of such literals
-abbrev pub Fit : ℕ → ℤ → Type 0
-Fit h x = (x ≢ pos 0) × (natAbs x ≤ h)
-
-abbrev pub Fits : ℕ → Formula → Type 0
-Fits h f = (d : Clause) → List·Memᴰ d f → (x : ℤ) → List·Memᴰ x d → Fit h x
-
--- no clause holds the literal
-abbrev pub Absent : ℤ → Formula → Type 0
-Absent l F = (d : Clause) → List·Memᴰ d F → List·Memᴰ l d → ⊥
 
 -- a literal more at the end of a clause
 pub holds-snoc : (k : ℤ) (c : Clause) (l : ℤ) → holds k (c ++ (l ∷ [])) ≡ holds k c || same k l

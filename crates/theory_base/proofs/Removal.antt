@@ -12,7 +12,8 @@ use Rattle.definition.specs.Literals.{Clause, Formula, same-set}
 use Rattle.definition.specs.Standing.{stands, take-out}
 use Rattle.definition.specs.Assignments.{Assignment, trues}
 use Rattle.theory_base.proofs.Tests.{of-true, to-true, or-l, or-r, differ}
-use Rattle.theory_base.proofs.Members.{Same, same-set-same, same-same-set}
+use Rattle.theory_base.proofs.Members.{same-set-same, same-same-set}
+use Rattle.theory_base.specs.Clauses.{Same}
 use Rattle.theory_base.proofs.Trues.{hit-in, Sat}
 
 -- the first clause with the literals of c is taken out of F, which leaves G

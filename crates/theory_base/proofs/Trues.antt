@@ -13,7 +13,8 @@ use Rattle.definition.specs.Literals.{Clause, Formula}
 use Rattle.definition.specs.Assignments.{Assignment, true-in, has-true, satisfies, trues, sign, make-true}
 use Rattle.theory_base.proofs.Tests.{and-l, and-r, and-i, bit≤1, bit-not}
 use Rattle.theory_base.proofs.Loops.{count-++}
-use Rattle.theory_base.proofs.Members.{any-same, all-same, Fit, Fits}
+use Rattle.theory_base.proofs.Members.{any-same, all-same}
+use Rattle.theory_base.specs.Clauses.{Fit, Fits}
 
 pub trues-cons : (σ : Assignment) (l : ℤ) (c : Clause) → trues σ (l ∷ c) ≡ bit (true-in σ l) + trues σ c
 unfolding trues count

@@ -15,7 +15,8 @@ use Rattle.definition.specs.Assignments.{Assignment, trues, make-true}
 use Rattle.definition.specs.Events.{Clash, Event}
 use Rattle.definition.specs.Clearing.{times, unique, resolvent, clash-lines}
 use Rattle.theory_base.proofs.Tests.{of-true, differ}
-use Rattle.theory_base.proofs.Members.{Same, Proper, Proper-all, proper-literal, proper-unopposed, Fits, natAbs-neg, holds-false, opposes-mem, mem-opposes, Absent}
+use Rattle.theory_base.proofs.Members.{proper-literal, proper-unopposed, natAbs-neg, holds-false, opposes-mem, mem-opposes}
+use Rattle.theory_base.specs.Clauses.{Same, Proper, Proper-all, Fits, Absent}
 use Rattle.theory_base.proofs.Trues.{negated, trues-cons, trues-at, trues-++, Sat, sat-right}
 use Rattle.theory_base.proofs.Removal.{Removed, takes, removed-++, removed-length, mem-removed, sat-less, sat-more, sat-of}
 use Rattle.theory_base.proofs.Replay.{Leads, ends, adds, dels, leads-after}

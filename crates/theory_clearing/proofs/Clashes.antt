@@ -17,7 +17,8 @@ use Rattle.definition.specs.Events.{Clash, Event, clash-cleared}
 use Rattle.definition.specs.Clearing.{unique, ulc-with, clash-of, clash-at, lowest-clash, resolvent, clash-lines, clear-next, clear-up-to, clear-clashes}
 use Rattle.definition.specs.Reencoding.{lines-of, lines, unclashed, Goes-into, as-one, as-other, later}
 use Rattle.theory_base.proofs.Tests.{of-true, and-l, and-r, and-i}
-use Rattle.theory_base.proofs.Members.{Proper-all, proper-literal, proper-unopposed, Fits, holds-mem, mem-holds}
+use Rattle.theory_base.proofs.Members.{proper-literal, proper-unopposed, holds-mem, mem-holds}
+use Rattle.theory_base.specs.Clauses.{Proper-all, Fits}
 use Rattle.theory_base.proofs.Trues.{Sat}
 use Rattle.theory_base.proofs.Replay.{after-++}
 use Rattle.theory_soundness.proofs.Sound.{Into, Ones, Sound, weaken}
@@ -25,6 +26,7 @@ use Rattle.theory_soundness.proofs.Without.{Stands, Known}
 use Rattle.theory_base.proofs.Loops.{none-some, first-some, first-none, first-from-none, first-from-some}
 use Rattle.theory_base.proofs.Fitting.{highest-of-at, Line-fits}
 use Rattle.theory_clearing.proofs.Clash.{Is-clash, literals-before, after-proper, after-fits, after-shorter, clash-sound, parents-one, clash-lines-fit}
+use Rattle.theory_clearing.specs.Clashes.{Clash-free}
 
 -- ---- the ULC in which a literal stands
 ulc-some : (F : Formula) (x : ℤ) (d : Clause) → ulc-with F x ≡ some d → List·Memᴰ d F × List·Memᴰ x d × T (unique F d)
@@ -88,10 +90,6 @@ lowest-some F c e =
     let r = first-from-some (clash-at F) 1 (highest-of F) c e in
     let s = clash-at-some F (r .0) c (r .3) in
     record { is-clash = s .1; variable = r .0; positive = r .1; literal = s .0; lowest = r .4 }
-
--- no two unique literal clauses hold a literal and its negation
-abbrev pub Clash-free : Formula → Type 0
-Clash-free G = (c k : Clause) → List·Memᴰ c G → List·Memᴰ k G → T (unique G c) → T (unique G k) → (x : ℤ) → List·Memᴰ x c → List·Memᴰ (negℤ x) k → ⊥
 
 pub lowest-none : (G : Formula) → Proper-all G → lowest-clash G ≡ none → Clash-free G
 unfolding lowest-clash

@@ -6,9 +6,10 @@ use Rattle.definition.specs.Literals.{Formula}
 use Rattle.definition.specs.Standing.{Line}
 use Rattle.definition.specs.Clearing.{clear-clashes, clear-pure}
 use Rattle.definition.specs.Reencoding.{lines, unclashed, cleared}
-use Rattle.theory_base.proofs.Members.{Proper-all, Fits}
+use Rattle.theory_base.specs.Clauses.{Proper-all, Fits}
 use Rattle.theory_base.proofs.Fitting.{Line-fits}
-use Rattle.theory_clearing.proofs.Clashes.{Clash-free, lowest-none, clears-lines-fit, clashes-clear, unclashed-proper, no-clash-left}
+use Rattle.theory_clearing.proofs.Clashes.{lowest-none, clears-lines-fit, clashes-clear, unclashed-proper, no-clash-left}
+use Rattle.theory_clearing.specs.Clashes.{Clash-free}
 use Rattle.theory_clearing.proofs.Pure.{Eliminates, eliminates-mem, eliminates-lines-fit, pure-eliminates}
 use Rattle.theory_clearing.proofs.Pass.{eliminates-free}
 

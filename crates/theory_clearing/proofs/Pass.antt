@@ -15,7 +15,7 @@ use Rattle.theory_base.proofs.Members.{all-same, first-agree, holds-false}
 use Rattle.theory_base.proofs.Removal.{mem-removed}
 use Rattle.theory_soundness.proofs.Times.{times-removed, unique-at, unique-some, at-unique}
 use Rattle.theory_soundness.proofs.Without.{first-same}
-use Rattle.theory_clearing.proofs.Clashes.{Clash-free}
+use Rattle.theory_clearing.specs.Clashes.{Clash-free}
 use Rattle.theory_clearing.proofs.Pure.{Eliminates, no-more, next, eliminates-mem, eliminates-times, eliminates-unique, pure-some, pure-removed}
 
 -- a clause's pure literal depends only on how often its literals and their negations stand

@@ -15,7 +15,8 @@ use Rattle.definition.specs.Events.{Event, pure-deleted}
 use Rattle.definition.specs.Clearing.{times, unique, pure, deletable, pure-literal, pure-lines, pure-next, clear-pure-from, clear-pure}
 use Rattle.definition.specs.Reencoding.{lines-of, lines, Goes-into, later}
 use Rattle.theory_base.proofs.Tests.{of-true}
-use Rattle.theory_base.proofs.Members.{Proper-all, Fits, holds-false, Absent}
+use Rattle.theory_base.proofs.Members.{holds-false}
+use Rattle.theory_base.specs.Clauses.{Proper-all, Fits, Absent}
 use Rattle.theory_base.proofs.Removal.{Removed, removed-take-out, mem-removed}
 use Rattle.theory_soundness.proofs.Sound.{Into, Sound, weaken}
 use Rattle.theory_soundness.proofs.Rules.{del-blocked}

@@ -1,7 +1,7 @@
 -- Going once through the variables, upwards, finds the same clashes as looking for the lowest each time.
 use mathlib.Core.Path.{_≡_, refl, sym, _∙_, ap}
 use mathlib.Core.Logic.{_⊎_, inl, inr}
-use mathlib.Core.List.{List, [], _∷_, Memᴰ·cast}
+use mathlib.Core.List.{_∷_, Memᴰ·cast}
 use mathlib.Core.Option.{Option, some, none}
 use Prim.Native.Nat.{ℕ, zero, suc, _+_, _≤_, _<_}
 use native.Mathlib.Omega.{arith}
@@ -9,23 +9,14 @@ use lib.IntN.{pos, negℤ}
 use lib.ListN.{length}
 use Rattle.definition.specs.Literals.{Formula, highest-of}
 use Rattle.definition.specs.Standing.{after}
-use Rattle.definition.specs.Events.{Clash, Event, clash-cleared}
+use Rattle.definition.specs.Events.{Clash, clash-cleared}
 use Rattle.definition.specs.Clearing.{clash-at, lowest-clash, clash-lines, clear-next, clear-up-to, clear-clashes}
-use Rattle.theory_base.proofs.Members.{Proper-all}
+use Rattle.theory_base.specs.Clauses.{Proper-all}
 use Rattle.theory_base.proofs.Loops.{one-more, none-first-from, some-first-from}
 use Rattle.theory_base.proofs.Fitting.{highest-of-at, highest-of-le}
 use Rattle.theory_clearing.proofs.Clash.{Is-clash, literals-before, after-proper, after-shorter, v-gone, ulc-before}
 use Rattle.theory_clearing.proofs.Clashes.{clash-at-some, clash-at-none}
-
--- at each variable its clash, if there is one, then what `more` does
-unfoldable pub scan-next : (Formula → List Event) → Formula → Option Clash → List Event
-scan-next more F none = more F
-scan-next more F (some c) = clash-cleared c ∷ more (after F (clash-lines c))
-
--- the variables i, i + 1, .. : n of them
-unfoldable pub scan-from : ℕ → ℕ → Formula → List Event
-scan-from i zero F = []
-scan-from i (suc n) F = scan-next (scan-from (suc i) n) F (clash-at F i)
+use Rattle.theory_clearing.specs.Scan.{scan-from, scan-next}
 
 -- ---- after a clash at a variable, neither it nor a lower one clashes any more
 module _ (F : Formula) (c : Clash) (p : Proper-all F) (q : Is-clash F c) where

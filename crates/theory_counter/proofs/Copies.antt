@@ -11,10 +11,12 @@ use lib.ListN.{replicate}
 use Rattle.definition.specs.Lists.{bit, count, those, for-each}
 use Rattle.definition.specs.Literals.{Clause, Formula, same-set}
 use Rattle.theory_base.proofs.Tests.{of-true, to-false}
-use Rattle.theory_base.proofs.Members.{Same, same-set-same, same-turned, same-joined}
+use Rattle.theory_base.proofs.Members.{same-set-same, same-turned, same-joined}
+use Rattle.theory_base.specs.Clauses.{Same}
 use Rattle.theory_base.proofs.Loops.{replicate-mem}
 use Rattle.theory_base.proofs.Removal.{Removed, found, later}
 use Rattle.theory_soundness.proofs.Removals.{Removes, none-left, next, removes-join, Spread}
+use Rattle.theory_counter.specs.Front.{drop-copies, drop-all}
 
 -- ---- how many copies of a clause stand
 -- no clause is a copy
@@ -35,10 +37,6 @@ pub count-removed : (p : Clause) {c : Clause} {F G : Formula} → (Same p c → 
 unfolding count
 count-removed p {c} n (found {d = d} e) = rw (not-both p c d n e) (omega arith)
 count-removed p n (later e r) = omega (arith, count-removed p n r)
-
--- ---- without the copies of a clause
-abbrev pub drop-copies : Clause → Formula → Formula
-drop-copies p F = those (λ d. not (same-set p d)) F
 
 count-dropped : (p q : Clause) (F : Formula) → (Same p q → ⊥) → count (same-set p) (drop-copies q F) ≡ count (same-set p) F
 unfolding count those
@@ -64,11 +62,6 @@ copies-removed p (d ∷ F) = go (same-set p d) refl (copies-removed p F)
         Removes (d ∷ F) (replicate (bit b + count (same-set p) F) p) (cond (not b) (d ∷ drop-copies p F) (drop-copies p F))
     go true e r = rw one-add (next (found e) r)
     go false e r = rw zero-add (passed-over p d (count (same-set p) F) e r)
-
--- ---- without the copies of several clauses
-abbrev pub drop-all : Formula → Formula → Formula
-drop-all F [] = F
-drop-all F (p ∷ ps) = drop-all (drop-copies p F) ps
 
 -- each as often as it stands
 pub all-removed : (n : Clause → ℕ) (ps F : Formula) → Spread ps → ((p : Clause) → List·Memᴰ p ps → n p ≡ count (same-set p) F) →

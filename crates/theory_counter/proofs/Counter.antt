@@ -15,19 +15,21 @@ use Rattle.definition.specs.Events.{Choice, Event, choice-taken}
 use Rattle.definition.specs.Counter.{pairs, missing-pairs, counter, last-new, take-choice}
 use Rattle.definition.specs.Reencoding.{lines-of, Goes-into, taken, later}
 use Rattle.theory_base.proofs.Tests.{by-test, of-true, differ}
-use Rattle.theory_base.proofs.Members.{Fits, holds-mem, mem-holds, natAbs-neg}
+use Rattle.theory_base.proofs.Members.{holds-mem, mem-holds, natAbs-neg}
+use Rattle.theory_base.specs.Clauses.{Fits}
 use Rattle.theory_base.proofs.Trues.{Sat, sat-at, sat-all, sat-left, sat-right}
 use Rattle.theory_base.proofs.Removal.{sat-of}
 use Rattle.theory_base.proofs.Replay.{leads-after}
 use Rattle.theory_soundness.proofs.Sound.{Into, Ones, Sound, nothing, sound-leads, weaken}
 use Rattle.theory_soundness.proofs.Without.{trues-order, Stands, Known}
 use Rattle.theory_soundness.proofs.Removals.{removes-++, mem-removes, del-all}
-use Rattle.theory_soundness.proofs.CounterClauses.{Written, written, counter-is}
-use Rattle.theory_counter.proofs.Ready.{Well-formed, Ready, Other}
+use Rattle.theory_counter.proofs.CounterClauses.{Written, written, counter-is}
+use Rattle.theory_counter.specs.Ready.{Well-formed, Ready, Other}
 use Rattle.theory_counter.proofs.Pairs.{pair-form, pair-literal, pairs-hold, pairs-most, missing-mem, missing-all}
 use Rattle.theory_counter.proofs.Stages.{counter-one, pairs-added, counter-added}
 use Rattle.theory_counter.proofs.CounterLiterals.{counter-absent}
-use Rattle.theory_counter.proofs.Front.{taken-lines-are, paired, pair-copies, front, copies-mem, well-formed, clause-taken, absent-else, front-removes, paired-fits}
+use Rattle.theory_counter.proofs.Front.{taken-lines-are, copies-mem, well-formed, clause-taken, absent-else, front-removes, paired-fits}
+use Rattle.theory_counter.specs.Front.{paired, pair-copies, front}
 
 -- the clauses that go into a choice from the taking of a choice on
 goes-taken : {j k : Choice} {missing copies : List Clause} {es : List Event} {c : Clause} → Goes-into j (choice-taken k missing copies ∷ es) c → (c ≡ k .clause) ⊎ Into es c

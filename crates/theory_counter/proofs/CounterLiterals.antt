@@ -9,11 +9,12 @@ use lib.ListN.{length, length-append}
 use Rattle.definition.specs.Literals.{Clause, Formula}
 use Rattle.definition.specs.Events.{Choice}
 use Rattle.definition.specs.Counter.{counter, last-new}
-use Rattle.theory_base.proofs.Members.{Same, Fit, Fits, far, turn, Absent}
+use Rattle.theory_base.proofs.Members.{far, turn}
+use Rattle.theory_base.specs.Clauses.{Same, Fit, Fits, Absent, Fit-all}
 use Rattle.theory_soundness.proofs.Written.{Each, Every, every, each-++, of-each, In-none, in-none}
-use Rattle.theory_soundness.proofs.CounterClauses.{stage-2-from, stage-3-from, counter-from, written, counter-is}
-use Rattle.theory_counter.proofs.Ready.{Well-formed, Other}
-use Rattle.theory_base.proofs.Fitting.{Fit-all, fit-neg, fit-pos, fit-negsuc, fit-up}
+use Rattle.theory_counter.proofs.CounterClauses.{stage-2-from, stage-3-from, counter-from, written, counter-is}
+use Rattle.theory_counter.specs.Ready.{Well-formed, Other}
+use Rattle.theory_base.proofs.Fitting.{fit-neg, fit-pos, fit-negsuc, fit-up}
 
 -- ---- the first literal of each is a new one, so none is a clause of old literals
 abbrev First-above : ℕ → Formula → Type 0

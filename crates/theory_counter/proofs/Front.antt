@@ -12,30 +12,22 @@ use Rattle.definition.specs.Events.{Choice}
 use Rattle.definition.specs.Clearing.{times}
 use Rattle.definition.specs.Counter.{pairs, missing-pairs, counter, take-choice, choice-lines, copies, stage-2, stage-3, size, lit, new}
 use Rattle.definition.specs.Reencoding.{lines-of}
-use Rattle.theory_base.proofs.Members.{Same, Fits, proper-unopposed, holds-false, Absent}
+use Rattle.theory_base.proofs.Members.{proper-unopposed, holds-false}
+use Rattle.theory_base.specs.Clauses.{Same, Fits, Absent, Fit-all}
 use Rattle.theory_base.proofs.Removal.{Removed, takes}
 use Rattle.theory_soundness.proofs.Times.{holds-yes, times-++, times-cons, times-none, none-times, times-removed}
 use Rattle.theory_soundness.proofs.Removals.{Removes, next, times-removes, mem-removes, stay-in}
-use Rattle.theory_counter.proofs.Ready.{Well-formed, Ready, Other, with-clause}
-use Rattle.theory_base.proofs.Fitting.{Fit-all, fit-unneg}
+use Rattle.theory_counter.specs.Ready.{Well-formed, Ready, Other, with-clause}
+use Rattle.theory_base.proofs.Fitting.{fit-unneg}
 use Rattle.theory_counter.proofs.Pairs.{Pair, pair-form, pair-literal, pairs-absent, missing-mem, pairs-spread}
 use Rattle.theory_base.proofs.Loops.{count-++}
-use Rattle.theory_counter.proofs.Copies.{count-none, count-removed, drop-all, all-removed, copy-mem}
+use Rattle.theory_counter.proofs.Copies.{count-none, count-removed, all-removed, copy-mem}
 use Rattle.theory_counter.proofs.CounterLiterals.{counter-new}
-
--- the formula after stage 1, and the copies of pairs that stage 4 deletes
-abbrev pub paired : Formula → Choice → Formula
-paired F k = F ++ missing-pairs F (k .literals)
-
-abbrev pub pair-copies : Formula → Choice → Formula
-pair-copies F k = copies (paired F k ++ counter k) (k .literals)
+use Rattle.theory_counter.specs.Front.{paired, pair-copies, front}
 
 pub taken-lines-are : (F : Formula) (k : Choice) → lines-of (take-choice F k) ≡ map addition (missing-pairs F (k .literals) ++ counter k) ++ map deletion (k .literals ∷ pair-copies F k)
 unfolding lines-of take-choice choice-lines counter
 taken-lines-are F k = simp (map-append, append-assoc)
-
-unfoldable pub front : Formula → Choice → Formula
-front F k = drop-all (take-out (k .literals) (paired F k)) (pairs (k .literals))
 
 pub copies-mem : (F : Formula) (k : Choice) (d : Clause) → List·Memᴰ d (pair-copies F k) → List·Memᴰ d (pairs (k .literals))
 unfolding copies

@@ -12,7 +12,8 @@ use Rattle.definition.specs.Standing.{stands}
 use Rattle.definition.specs.Assignments.{Assignment, true-in, trues}
 use Rattle.definition.specs.Counter.{pairs, missing-pairs}
 use Rattle.theory_base.proofs.Tests.{of-true, of-false, by-test}
-use Rattle.theory_base.proofs.Members.{Same, Proper, those-mem, mem-those, turn, Absent}
+use Rattle.theory_base.proofs.Members.{those-mem, mem-those, turn}
+use Rattle.theory_base.specs.Clauses.{Same, Proper, Absent}
 use Rattle.theory_base.proofs.Trues.{negated, Sat, sat-at, sat-all, sat-++, sat-left, sat-right}
 use Rattle.theory_base.proofs.Removal.{stands-removed, sat-of}
 use Rattle.theory_soundness.proofs.Removals.{Spread, spread-++}

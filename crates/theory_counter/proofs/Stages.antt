@@ -11,15 +11,16 @@ use Rattle.definition.specs.Standing.{Line, addition}
 use Rattle.definition.specs.Assignments.{Assignment, true-in, trues, make-true}
 use Rattle.definition.specs.Events.{Event}
 use Rattle.theory_base.proofs.Tests.{bit≤1, bit-not}
-use Rattle.theory_base.proofs.Members.{Proper, proper-literal, proper-unopposed, Fit, Fits, natAbs-neg, Absent}
+use Rattle.theory_base.proofs.Members.{proper-literal, proper-unopposed, natAbs-neg}
+use Rattle.theory_base.specs.Clauses.{Proper, Fit, Fits, Absent, Fit-all}
 use Rattle.theory_base.proofs.Trues.{negated, keeps, unmoved, trues-at, Sat, sat-left, sat-right}
 use Rattle.theory_base.proofs.Clauses.{members-snoc}
 use Rattle.theory_base.proofs.Removal.{Removed, split}
 use Rattle.theory_soundness.proofs.Sound.{Sound}
 use Rattle.theory_soundness.proofs.Rules.{negation-only, absent-stays, add-first, add-all}
 use Rattle.theory_soundness.proofs.Written.{every}
-use Rattle.theory_soundness.proofs.CounterClauses.{stage-2-from, stage-3-from, counter-from}
-use Rattle.theory_base.proofs.Fitting.{Fit-all, fit-neg, fit-pos, fit-negsuc, fit-up, fits-up, fits-++, above}
+use Rattle.theory_counter.proofs.CounterClauses.{stage-2-from, stage-3-from, counter-from}
+use Rattle.theory_base.proofs.Fitting.{fit-neg, fit-pos, fit-negsuc, fit-up, fits-up, fits-++, above}
 use Rattle.theory_counter.proofs.Pairs.{Pair, pair-literal}
 
 -- ---- the counter clauses say: exactly one

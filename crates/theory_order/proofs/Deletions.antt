@@ -11,15 +11,16 @@ use Rattle.definition.specs.Standing.{Line, deletion}
 use Rattle.definition.specs.Assignments.{Assignment, true-in, trues, make-true}
 use Rattle.definition.specs.Events.{Choice, Event}
 use Rattle.theory_base.proofs.Tests.{bit-not}
-use Rattle.theory_base.proofs.Members.{Proper, own, far, turn, natAbs-neg, Absent}
+use Rattle.theory_base.proofs.Members.{own, far, turn, natAbs-neg}
+use Rattle.theory_base.specs.Clauses.{Proper, Absent}
 use Rattle.theory_base.proofs.Trues.{unmoved, trues-cons, trues-same, hit-in, Sat}
 use Rattle.theory_base.proofs.Fitting.{Up-to}
 use Rattle.theory_soundness.proofs.Sound.{Sound}
 use Rattle.theory_soundness.proofs.Rules.{Clear, negation-only, del-first, del-blocked}
 use Rattle.theory_soundness.proofs.Removals.{Removes, none-left, next, removes-split, each-of, absent-before}
 use Rattle.theory_soundness.proofs.Written.{Every, every, In-none, in-none}
-use Rattle.theory_soundness.proofs.CounterClauses.{Written, written}
-use Rattle.theory_counter.proofs.Ready.{Well-formed}
+use Rattle.theory_counter.proofs.CounterClauses.{Written, written}
+use Rattle.theory_counter.specs.Ready.{Well-formed}
 use Rattle.theory_order.proofs.Recursive.{link-deletions, deletions-from, deletions, deletions-is}
 
 -- ---- one literal: the clause with it, then those with its negation

@@ -12,14 +12,16 @@ use Rattle.definition.specs.Literals.{Clause, Formula}
 use Rattle.definition.specs.Clearing.{times}
 use Rattle.definition.specs.Events.{Choice}
 use Rattle.definition.specs.Counter.{last-new, counter}
-use Rattle.theory_base.proofs.Members.{Same, Proper, pair-turned, own, far, natAbs-neg, holds-false}
+use Rattle.theory_base.proofs.Members.{pair-turned, own, far, natAbs-neg, holds-false}
+use Rattle.theory_base.specs.Clauses.{Same, Proper}
 use Rattle.theory_base.proofs.Fitting.{Up-to}
 use Rattle.theory_soundness.proofs.Times.{times-++, holds-same}
-use Rattle.theory_soundness.proofs.Removals.{Removes, Spread, Found-all, found-mono, take-all, removes-exist}
+use Rattle.theory_soundness.proofs.Removals.{Removes, Spread, Found-all, found-mono, removes-exist}
+use Rattle.theory_soundness.specs.Removals.{take-all}
 use Rattle.theory_soundness.proofs.Without.{Stands}
 use Rattle.theory_soundness.proofs.Written.{In-none, not-in, in-none}
-use Rattle.theory_soundness.proofs.CounterClauses.{stage-2-from, stage-3-from, counter-from, Written, written, counter-is}
-use Rattle.theory_counter.proofs.Ready.{Well-formed}
+use Rattle.theory_counter.proofs.CounterClauses.{stage-2-from, stage-3-from, counter-from, Written, written, counter-is}
+use Rattle.theory_counter.specs.Ready.{Well-formed}
 use Rattle.theory_order.proofs.Recursive.{link-deletions, deletions-from, deletions, deletions-is}
 use Rattle.theory_order.proofs.Deletions.{strange}
 

@@ -18,13 +18,15 @@ use Rattle.definition.specs.Counter.{last-new, counter}
 use Rattle.definition.specs.Order.{replace, order-events, literal-deletions}
 use Rattle.definition.specs.Reencoding.{Goes-into, later, lines-of, lines}
 use Rattle.theory_base.proofs.Tests.{differ}
-use Rattle.theory_base.proofs.Members.{Fits, natAbs-neg, mem-opposes, Absent}
+use Rattle.theory_base.proofs.Members.{natAbs-neg, mem-opposes}
+use Rattle.theory_base.specs.Clauses.{Fits, Absent}
 use Rattle.theory_base.proofs.Replay.{leads-after}
 use Rattle.theory_soundness.proofs.Sound.{Into, into-none, Sound, nothing, sound-leads, weaken}
 use Rattle.theory_soundness.proofs.Times.{times-++, times-none, none-times}
 use Rattle.theory_soundness.proofs.Without.{Stands, Known, clear-absent}
-use Rattle.theory_soundness.proofs.Removals.{Removes, take-all, times-removes, mem-removes, stay-in}
-use Rattle.theory_counter.proofs.Ready.{Well-formed}
+use Rattle.theory_soundness.proofs.Removals.{Removes, times-removes, mem-removes, stay-in}
+use Rattle.theory_soundness.specs.Removals.{take-all}
+use Rattle.theory_counter.specs.Ready.{Well-formed}
 use Rattle.theory_order.proofs.Recursive.{deletions}
 use Rattle.theory_base.proofs.Loops.{for-each-++}
 use Rattle.theory_base.proofs.Fitting.{fits-up, fits-++}
@@ -32,7 +34,8 @@ use Rattle.theory_counter.proofs.CounterLiterals.{counter-fits}
 use Rattle.theory_order.proofs.Replace.{replaced-literal, replaced-fit}
 use Rattle.theory_order.proofs.Deletions.{Gone, literals-deleted-sound, deletions-absent}
 use Rattle.theory_order.proofs.Found.{removes-deletions, counter-times, counter-stands}
-use Rattle.theory_order.proofs.Pass.{kept, added, pass-sound, pass-times, pass-known, kept-mem, mem-kept, added-mem}
+use Rattle.theory_order.proofs.Pass.{pass-sound, pass-times, pass-known, kept-mem, mem-kept, added-mem}
+use Rattle.theory_order.specs.Pass.{kept, added, Before}
 
 -- what stands after the order form, where E and then the counter clauses stood
 unfoldable pub ordered : Formula → Choice → Formula
@@ -51,12 +54,6 @@ unfolding order-events
 order-events-are k E =
     let l : length E ≡ length (E ++ counter k) - length (counter k) = omega (arith, length-append E (counter k)) in
     rw (take-at E (counter k) (length (E ++ counter k) - length (counter k)) l)
-
--- what stands before the counter clauses: no new variable, no literal of the choice
-pub record Before (E : Formula) (k : Choice) : Type 0 where
-  pub well-formed : Well-formed k
-  pub fits : Fits (k .below) E
-  pub absent : (x : ℤ) → List·Memᴰ x (k .literals) → times x E ≡ 0
 
 module _ (k : Choice) (E : Formula) (b : Before E k) where
   u : Well-formed k

@@ -25,8 +25,9 @@ use Rattle.theory_soundness.proofs.Rules.{add-implied, del-implied}
 use Rattle.theory_soundness.proofs.Times.{holds-bit, times-nil, times-cons}
 use Rattle.theory_soundness.proofs.Without.{Stands, Known}
 use Rattle.theory_base.proofs.Loops.{for-each-mem, only-if-mem}
-use Rattle.theory_counter.proofs.Ready.{Well-formed}
+use Rattle.theory_counter.specs.Ready.{Well-formed}
 use Rattle.theory_order.proofs.Replace.{opposed-trues, replaced-trues, replaced-old}
+use Rattle.theory_order.specs.Pass.{kept, results, added}
 
 -- ---- one clause replaced by another that has as many true literals
 module _ {F G : Formula} {K : List Event} {d r : Clause} (e : Removed d F G) (q : (σ : Assignment) → Sat σ G → trues σ r ≡ trues σ d) where
@@ -55,19 +56,10 @@ unlike-set c d k t f =
 
 -- ---- what the pass leaves of the clauses gone through, and what it adds
 module _ (k : Choice) where
-  abbrev pub kept : Formula → Formula
-  kept F = those (λ d. not (opposes (k .literals) d)) F
-
-  abbrev pub results : Clause → Formula
-  results d = only-if (opposes (k .literals) d) (only-if (not (opposed (replaced k d))) (replaced k d ∷ []))
-
-  abbrev pub added : Formula → Formula
-  added F = for-each F results
-
   module _ (u : Well-formed k) (H : Formula) (K L : List Event) (ys : List Line) where
     abbrev Pass-sound : Formula → Formula → Formula → Type 0
     Pass-sound X F R =
-        Sound ((X ++ kept F) ++ (counter k ++ (R ++ added F))) K ys H L →
+        Sound ((X ++ kept k F) ++ (counter k ++ (R ++ added k F))) K ys H L →
         Sound ((X ++ F) ++ (counter k ++ R)) (for-each F (replace k) ++ K) (lines (for-each F (replace k)) ++ ys) H L
 
     -- X was gone through and left, F is still to come, R was added
@@ -90,7 +82,7 @@ module _ (k : Choice) where
         as-many σ t = replaced-trues k u σ (sat-left σ (counter k) R (sat-right σ (X ++ F) (counter k ++ R) t)) d
 
         go : (t : Bool) → opposes (k .literals) d ≡ t → ((Y S : Formula) → ((e : Clause) → List·Memᴰ e Y → opposes (k .literals) e ≡ false) → Pass-sound Y F S) →
-            Sound ((X ++ cond (not t) (d ∷ kept F) (kept F)) ++ (counter k ++ (R ++ (only-if t N ++ added F)))) K ys H L →
+            Sound ((X ++ cond (not t) (d ∷ kept k F) (kept k F)) ++ (counter k ++ (R ++ (only-if t N ++ added k F)))) K ys H L →
             Sound ((X ++ (d ∷ F)) ++ (counter k ++ R)) ((only-if t (clause-replaced d r ∷ []) ++ es) ++ K) (lines (only-if t (clause-replaced d r ∷ []) ++ es) ++ ys) H L
         go false t ih s =
             simp append-assoc
@@ -101,28 +93,28 @@ module _ (k : Choice) where
             (simp append-assoc (simp append-assoc at (ih X (R ++ N) v (simp append-assoc (simp append-assoc at s))))))
 
   -- ---- the clauses after the pass
-  pub kept-mem : (F : Formula) (d : Clause) → List·Memᴰ d (kept F) → List·Memᴰ d F × (opposes (k .literals) d ≡ false)
+  pub kept-mem : (F : Formula) (d : Clause) → List·Memᴰ d (kept k F) → List·Memᴰ d F × (opposes (k .literals) d ≡ false)
   kept-mem F d i = let r = those-mem (λ d. not (opposes (k .literals) d)) F d i in (r .0, not-true (r .1))
 
-  pub mem-kept : (F : Formula) (d : Clause) → List·Memᴰ d F → opposes (k .literals) d ≡ false → List·Memᴰ d (kept F)
+  pub mem-kept : (F : Formula) (d : Clause) → List·Memᴰ d F → opposes (k .literals) d ≡ false → List·Memᴰ d (kept k F)
   mem-kept F d i e = mem-those (λ d. not (opposes (k .literals) d)) F d i (of-false e)
 
-  pub added-mem : (F : Formula) (d : Clause) → List·Memᴰ d (added F) → (c : Clause) × List·Memᴰ c F × (d ≡ replaced k c)
+  pub added-mem : (F : Formula) (d : Clause) → List·Memᴰ d (added k F) → (c : Clause) × List·Memᴰ c F × (d ≡ replaced k c)
   added-mem F d i =
-      let r = for-each-mem F results d i in
+      let r = for-each-mem F (results k) d i in
       (r .0, r .1, List·Memᴰ·eq-of-singleton (only-if-mem (not (opposed (replaced k (r .0)))) _ d (only-if-mem (opposes (k .literals) (r .0)) _ d (r .2) .1) .1))
 
   -- a literal of a variable before the new ones stands in no more clauses than before
-  pub pass-times : Well-formed k → (x : ℤ) → natAbs x ≤ k .below → (F : Formula) → times x (kept F) + times x (added F) ≤ times x F
+  pub pass-times : Well-formed k → (x : ℤ) → natAbs x ≤ k .below → (F : Formula) → times x (kept k F) + times x (added k F) ≤ times x F
   unfolding those for-each only-if
   pass-times u x b [] = omega (arith, times-nil x)
   pass-times u x b (d ∷ F) = go (opposes (k .literals) d) (opposed (replaced k d)) (pass-times u x b F)
     where
-      go : (t q : Bool) → times x (kept F) + times x (added F) ≤ times x F →
-          times x (cond (not t) (d ∷ kept F) (kept F)) + times x (only-if t (only-if (not q) (replaced k d ∷ [])) ++ added F) ≤ times x (d ∷ F)
-      go false q ih = omega (arith, times-cons x d F, times-cons x d (kept F))
+      go : (t q : Bool) → times x (kept k F) + times x (added k F) ≤ times x F →
+          times x (cond (not t) (d ∷ kept k F) (kept k F)) + times x (only-if t (only-if (not q) (replaced k d ∷ [])) ++ added k F) ≤ times x (d ∷ F)
+      go false q ih = omega (arith, times-cons x d F, times-cons x d (kept k F))
       go true true ih = omega (arith, times-cons x d F)
-      go true false ih = omega (arith, times-cons x d F, times-cons x (replaced k d) (added F), holds-bit x (replaced k d) d (replaced-old k u d x b))
+      go true false ih = omega (arith, times-cons x d F, times-cons x (replaced k d) (added k F), holds-bit x (replaced k d) d (replaced-old k u d x b))
 
   -- the variables of clauses that are replaced stand
   pub pass-known : (h : ℕ) (K : List Event) (G F : Formula) → ((d : Clause) → List·Memᴰ d F → List·Memᴰ d G) → Known h K G → Known h (for-each F (replace k) ++ K) G

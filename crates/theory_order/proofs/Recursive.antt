@@ -13,7 +13,7 @@ use Rattle.definition.specs.Lists.{only-if, for-each, for-from}
 use Rattle.definition.specs.Literals.{Clause, Formula, same}
 use Rattle.definition.specs.Events.{Choice}
 use Rattle.definition.specs.Counter.{size, lit, new}
-use Rattle.theory_soundness.proofs.CounterClauses.{Written, From, from-next, from-literal, from-new, from-previous, from-second, full-size}
+use Rattle.theory_counter.proofs.CounterClauses.{Written, From, from-next, from-literal, from-new, from-previous, from-second, full-size}
 use Rattle.definition.specs.Order.{place-from, previous, negated-new, instead-of, replaced, deletions-of}
 
 -- ---- what stands for a literal

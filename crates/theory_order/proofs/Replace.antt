@@ -14,11 +14,12 @@ use Rattle.definition.specs.Events.{Choice}
 use Rattle.definition.specs.Counter.{last-new, counter}
 use Rattle.definition.specs.Order.{replaced}
 use Rattle.theory_base.proofs.Tests.{of-true, bit-not}
-use Rattle.theory_base.proofs.Members.{same-eq, unlike, turn, Proper, opposes-mem}
-use Rattle.theory_base.proofs.Fitting.{Fit-all, fit-up, Between}
+use Rattle.theory_base.proofs.Members.{same-eq, unlike, turn, opposes-mem}
+use Rattle.theory_base.specs.Clauses.{Proper, Fit-all}
+use Rattle.theory_base.proofs.Fitting.{fit-up, Between}
 use Rattle.theory_base.proofs.Trues.{negated, trues-++, trues-at, Sat, sat-left, sat-right}
-use Rattle.theory_soundness.proofs.CounterClauses.{stage-2-from, stage-3-from, counter-from, Written, written, counter-is}
-use Rattle.theory_counter.proofs.Ready.{Well-formed}
+use Rattle.theory_counter.proofs.CounterClauses.{stage-2-from, stage-3-from, counter-from, Written, written, counter-is}
+use Rattle.theory_counter.specs.Ready.{Well-formed}
 use Rattle.theory_order.proofs.Recursive.{link-instead, instead-from, replaced-from, replaced-is}
 
 -- the negation of a literal is looked for

@@ -16,10 +16,11 @@ use Rattle.definition.specs.Events.{Choice}
 use Rattle.definition.specs.Counter.{size, lit, new, last-new}
 use Rattle.definition.specs.Order.{place-from, previous, negated-new, instead-of, replaced}
 use Rattle.theory_base.proofs.Tests.{to-true, of-true, to-false, or-cases, or-l, or-r}
-use Rattle.theory_base.proofs.Members.{holds-mem, mem-holds, same-eq, same-refl, unlike-false, Proper, proper-unopposed, opposes-mem, mem-opposes, natAbs-neg, turn, same-variable}
+use Rattle.theory_base.proofs.Members.{holds-mem, mem-holds, same-eq, same-refl, unlike-false, proper-unopposed, opposes-mem, mem-opposes, natAbs-neg, turn, same-variable}
+use Rattle.theory_base.specs.Clauses.{Proper}
 use Rattle.theory_base.proofs.Fitting.{Up-to, Between}
 use Rattle.theory_base.proofs.Loops.{only-if-mem, for-each-mem, mem-for-each, getD-mem}
-use Rattle.theory_counter.proofs.Ready.{Well-formed}
+use Rattle.theory_counter.specs.Ready.{Well-formed}
 use Rattle.theory_order.proofs.Replace.{replaced-literal}
 
 -- ---- the place of a literal

@@ -15,8 +15,8 @@ use Rattle.theory_base.proofs.Loops.{getD-mem}
 use Rattle.theory_base.proofs.Fitting.{Proper-to, Between, fit-between, literal-between, negated-between, two-to, three-to}
 use Rattle.theory_base.proofs.Replay.{All-clauses}
 use Rattle.theory_soundness.proofs.Written.{Each, each, of-each, each-++}
-use Rattle.theory_soundness.proofs.CounterClauses.{stage-2-from, stage-3-from, counter-from, Written, written, counter-is}
-use Rattle.theory_counter.proofs.Ready.{Well-formed}
+use Rattle.theory_counter.proofs.CounterClauses.{stage-2-from, stage-3-from, counter-from, Written, written, counter-is}
+use Rattle.theory_counter.specs.Ready.{Well-formed}
 use Rattle.theory_counter.proofs.Pairs.{pair-form}
 use Rattle.theory_order.proofs.Recursive.{link-deletions, deletions-from, deletions, deletions-is}
 

@@ -9,15 +9,13 @@ use Rattle.definition.specs.Standing.{after}
 use Rattle.definition.specs.Events.{Clash, Event, clash-cleared, pure-deleted}
 use Rattle.definition.specs.Clearing.{clear-clashes, clear-pure}
 use Rattle.definition.specs.Reencoding.{lines, unclashed, cleared}
-use Rattle.theory_base.proofs.Members.{Proper-all, Fits}
+use Rattle.theory_base.specs.Clauses.{Proper-all, Fits}
 use Rattle.theory_base.proofs.Fitting.{Proper-to, proper-fits, line-to}
 use Rattle.theory_base.proofs.Replay.{All-clauses, All-lines, after-++, lines-++}
 use Rattle.theory_clearing.proofs.Clashes.{Clears, next, clashes-clear}
 use Rattle.theory_clearing.proofs.Pure.{Eliminates, next as further, pure-eliminates}
 use Rattle.theory_clearing.proofs.Cleared.{cleared-facts, clearing-lines-proper}
-
-unfoldable pub clearing : Formula → List Event
-clearing f = clear-clashes f ++ clear-pure (unclashed f)
+use Rattle.theory_room.specs.Choices.{clearing}
 
 -- an event of the clearing
 pub data Clearing : Event → Type 0 where

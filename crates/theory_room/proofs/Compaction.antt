@@ -19,18 +19,20 @@ use Rattle.definition.specs.Order.{replacement-lines, replaced, replace, order-
 use Rattle.definition.specs.Reencoding.{lines-of, lines, Form, counter-form, order-form, Settings, choice-events, choices-events, cleared, chosen, events, result}
 use Rattle.definition.specs.Calls.{workspace-need, numbers-of}
 use Rattle.theory_base.proofs.Tests.{to-true, of-true, to-false}
-use Rattle.theory_base.proofs.Members.{Disjoint, Parted, opposes-same, opposes-mem, mem-opposes, holds-false, natAbs-neg, parted-before}
+use Rattle.theory_base.proofs.Members.{opposes-same, opposes-mem, mem-opposes, holds-false, natAbs-neg, parted-before}
+use Rattle.theory_base.specs.Clauses.{Disjoint, Parted}
 use Rattle.theory_base.proofs.Replay.{Leads, leads-split, after-++, lines-++, All-clauses, All-lines}
 use Rattle.theory_base.proofs.Sums.{sum-++, sum-≤, sum-at, sum-none, sum-for-each}
 use Rattle.theory_base.proofs.Fitting.{Up-to, Proper-to}
-use Rattle.theory_counter.proofs.Ready.{Well-formed}
+use Rattle.theory_counter.specs.Ready.{Well-formed}
 use Rattle.theory_soundness.proofs.Times.{holds-yes}
 use Rattle.theory_order.proofs.Replace.{replaced-old}
 use Rattle.theory_room.proofs.Weights.{weight, Of-set, weight-of-set, gained, added, added-deletions, deleted, balance, Raises, raised}
 use Rattle.theory_room.proofs.Replaced.{Weighs, replaced-weight}
-use Rattle.theory_room.proofs.Lines.{before-counter, taken-lines, after-taken, order-gone-through, Of-choice, Arranges, new-variables, as-choice, ordered-length, ordered-size, ordered-proper, ordered-formed, ordered-new, others, choices-lines-to, choices-standing-to, From-choices, from-choice, events-of-choices}
-use Rattle.theory_room.proofs.Cleared.{clearing, clearing-event, cleared-after}
-use Rattle.theory_room.proofs.Runs.{Run, order-of, choosing, events-are, standing-to, chosen-mem, arranges, parts-lead, run-raises, weight-after, few-new-variables, literal-weight, literal-most, literal-least, weighs, weight-most, weight-least}
+use Rattle.theory_room.proofs.Lines.{before-counter, taken-lines, after-taken, order-gone-through, Of-choice, Arranges, ordered-length, ordered-size, ordered-proper, ordered-formed, ordered-new, others, choices-lines-to, choices-standing-to, From-choices, from-choice, events-of-choices}
+use Rattle.theory_room.specs.Choices.{new-variables, as-choice, clearing, order-of, events-of-first, standing-after-first, next-choice}
+use Rattle.theory_room.proofs.Cleared.{clearing-event, cleared-after}
+use Rattle.theory_room.proofs.Runs.{Run, choosing, events-are, standing-to, chosen-mem, arranges, parts-lead, run-raises, weight-after, few-new-variables, literal-weight, literal-most, literal-least, weighs, weight-most, weight-least}
 use Rattle.theory_room.proofs.Additions.{numbers, numbers-least, taken-adds}
 use Rattle.theory_room.proofs.Rises.{risen, clearing-risen, added-only-if, taken-changes, missing-copies, counter-weight, choice-raises, choices-risen}
 
@@ -169,17 +171,6 @@ choices-split form order n f (c ∷ cs) ds h =
     ∙ ap (λ (X : Formula). es ++ xs ++ choices-events form order (n + new-variables (c ∷ cs)) X ds) (sym (ap (after f) (lines-++ es xs) ∙ after-++ f (lines es) (lines xs)))
 
 -- ---- the choices of a run
-
--- the events of the first choices, and what stands after them
-unfoldable pub events-of-first : Settings → Input → List Clause → List Event
-events-of-first s i cs = choices-events (s .form) (order-of s i) (i .variables) (cleared (i .formula)) cs
-
-unfoldable pub standing-after-first : Settings → Input → List Clause → Formula
-standing-after-first s i cs = after (cleared (i .formula)) (lines (events-of-first s i cs))
-
--- the choice that is taken then
-abbrev pub next-choice : Settings → Input → List Clause → Clause → Choice
-next-choice s i cs c = as-choice (i .variables + new-variables cs) (order-of s i) c
 
 taken-leads : (form : Form) (f : Formula) (c : Choice) (es : List Event) {G : Formula} → Leads f (lines (choice-events form f c ++ es)) G → Leads f (lines-of (take-choice f c)) (after f (lines-of (take-choice f c)))
 unfolding lines for-each choice-events

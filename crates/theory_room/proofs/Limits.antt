@@ -7,8 +7,9 @@ use Rattle.definition.specs.Literals.{literals-of, highest}
 use Rattle.definition.specs.Standing.{Line, literals}
 use Rattle.definition.specs.Reading.{Input}
 use Rattle.definition.specs.Reencoding.{Settings, input, log, result, highest-used}
-use Rattle.theory_base.proofs.Members.{Proper, Proper-all, Fits, proper-literal}
-use Rattle.theory_base.proofs.Fitting.{Fit-all, fit-up, highest-at, highest-le, highest-in-at, highest-in-le}
+use Rattle.theory_base.proofs.Members.{proper-literal}
+use Rattle.theory_base.specs.Clauses.{Proper, Proper-all, Fits, Fit-all}
+use Rattle.theory_base.proofs.Fitting.{fit-up, highest-at, highest-le, highest-in-at, highest-in-le}
 use Rattle.theory_base.proofs.Replay.{all-after}
 use Rattle.theory_room.proofs.Runs.{Run, top, log-to, log-proper, few-new-variables, result-size}
 

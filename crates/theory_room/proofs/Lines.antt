@@ -15,18 +15,21 @@ use Rattle.definition.specs.Counter.{below-new, last-new, missing-pairs, size, 
 use Rattle.definition.specs.Order.{replacement-lines, replaced, replace, order-events, deletions-of, literal-deletions}
 use Rattle.definition.specs.Reencoding.{lines-of, lines, Form, counter-form, order-form, choice-events, choices-events}
 use Rattle.theory_base.proofs.Tests.{not-true, to-false}
-use Rattle.theory_base.proofs.Members.{Proper, Same, same-set-same}
+use Rattle.theory_base.proofs.Members.{same-set-same}
+use Rattle.theory_base.specs.Clauses.{Proper, Same}
 use Rattle.theory_base.proofs.Loops.{only-if-mem, for-each-mem}
 use Rattle.theory_base.proofs.Clauses.{same-length}
 use Rattle.theory_base.proofs.Fitting.{Proper-to, proper-fit, proper-to-more}
 use Rattle.theory_base.proofs.Replay.{after-++, lines-++, after-additions, after-deletions, All-clauses, All-lines, all-after, all-lines-++, all-additions, all-deletions, all-events}
-use Rattle.theory_counter.proofs.Ready.{Well-formed}
+use Rattle.theory_counter.specs.Ready.{Well-formed}
 use Rattle.theory_counter.proofs.Pairs.{missing-mem}
 use Rattle.theory_counter.proofs.CounterLiterals.{counter-new}
-use Rattle.theory_counter.proofs.Front.{taken-lines-are, paired, pair-copies, copies-mem}
+use Rattle.theory_counter.proofs.Front.{taken-lines-are, copies-mem}
+use Rattle.theory_counter.specs.Front.{paired, pair-copies}
 use Rattle.theory_order.proofs.Order.{order-events-are}
 use Rattle.theory_room.proofs.Choice.{pairs-to, counter-clause, deletions-clause}
 use Rattle.theory_room.proofs.Replaced.{replaced-to}
+use Rattle.theory_room.specs.Choices.{new-variables, as-choice}
 
 -- what stands before the counter clauses when a choice is taken where f stands
 unfoldable pub before-counter : Choice → Formula → Formula
@@ -121,14 +124,6 @@ module _ (c : Choice) (u : Well-formed c) (f : Formula) (a : All-clauses (Proper
 -- each choice is a proper clause of two literals at least, and stays so in its order
 abbrev pub Arranges : ℕ → (Clause → Clause) → List Clause → Type 0
 Arranges n order cs = (c : Clause) → List·Memᴰ c cs → Proper-to n c × (2 ≤ length c) × Proper (order c) × Same (order c) c
-
--- the new variables of the choices
-unfoldable pub new-variables : List Clause → ℕ
-new-variables cs = sum-of (λ c. length c - 1) cs
-
--- a clause as a choice
-abbrev pub as-choice : ℕ → (Clause → Clause) → Clause → Choice
-as-choice n order c = record { clause = c; literals = order c; below = below-new n }
 
 module _ (n : ℕ) (order : Clause → Clause) (cs : List Clause) (h : Arranges n order cs) (c : Clause) (i : List·Memᴰ c cs) where
   pub ordered-length : length (order c) ≡ length c

@@ -17,7 +17,7 @@ use Rattle.theory_base.proofs.Members.{natAbs-neg}
 use Rattle.theory_base.proofs.Sums.{sum-≤, sum-for-each}
 use Rattle.theory_base.proofs.Clauses.{tests-proper}
 use Rattle.theory_base.proofs.Fitting.{Proper-to, proper-fit}
-use Rattle.theory_counter.proofs.Ready.{Well-formed}
+use Rattle.theory_counter.specs.Ready.{Well-formed}
 use Rattle.theory_order.proofs.Replace.{replaced-fit}
 use Rattle.theory_order.proofs.Results.{placed, replaced-distinct}
 use Rattle.theory_room.proofs.Weights.{weight}

@@ -16,12 +16,14 @@ use Rattle.definition.specs.Order.{replacement-lines, replaced, replace, order-
 use Rattle.definition.specs.Reencoding.{lines-of, lines, Form, counter-form, order-form, choice-events, choices-events}
 use Rattle.theory_base.proofs.Loops.{only-if-mem, for-each-mem, count-mem}
 use Rattle.theory_base.proofs.Sums.{sum-++, sum-none, sum-for-from, sum-copies}
-use Rattle.theory_counter.proofs.Front.{taken-lines-are, paired, pair-copies}
+use Rattle.theory_counter.proofs.Front.{taken-lines-are}
+use Rattle.theory_counter.specs.Front.{paired, pair-copies}
 use Rattle.theory_base.proofs.Members.{mem-those, same-same-set, same-clause}
 use Rattle.theory_room.proofs.Weights.{weight, gained, lost, added, deleted, added-additions, added-deletions, deleted-additions, deleted-deletions}
 use Rattle.theory_room.proofs.Choice.{lit-mem}
 use Rattle.theory_room.proofs.Replaced.{Weighs, new-weight, negated-new-weight}
-use Rattle.theory_room.proofs.Lines.{Arranges, as-choice, ordered-length, others, new-variables, Of-choice, taken, replacing, deleting}
+use Rattle.theory_room.proofs.Lines.{Arranges, ordered-length, others, Of-choice, taken, replacing, deleting}
+use Rattle.theory_room.specs.Choices.{as-choice, new-variables}
 use Rattle.theory_room.proofs.Cleared.{Clearing, clash, pure-clause}
 
 -- the rise of an event: r for each new variable

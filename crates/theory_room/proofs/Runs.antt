@@ -15,10 +15,11 @@ use Rattle.definition.specs.Reading.{Input}
 use Rattle.definition.specs.Events.{Event}
 use Rattle.definition.specs.Clearing.{unique}
 use Rattle.definition.specs.Counter.{choice-size, choices, below-new}
-use Rattle.definition.specs.Alignment.{arranged, choice-literals}
+use Rattle.definition.specs.Alignment.{choice-literals}
 use Rattle.definition.specs.Reencoding.{lines-of, lines, Settings, choices-events, cleared, input, chosen, events, log, result}
 use Rattle.theory_base.proofs.Tests.{and-l, and-r}
-use Rattle.theory_base.proofs.Members.{Proper, Proper-all, Fits, those-mem, holds-false, natAbs-neg}
+use Rattle.theory_base.proofs.Members.{those-mem, holds-false, natAbs-neg}
+use Rattle.theory_base.specs.Clauses.{Proper, Proper-all, Fits}
 use Rattle.theory_base.proofs.Replay.{Leads, leads-split, lines-++, All-clauses, All-lines, all-lines-++}
 use Rattle.theory_base.proofs.Loops.{for-each-mem, mem-for-each}
 use Rattle.theory_base.proofs.Sums.{sum-++, sum-≤, sum-those, sum-most, sum-least}
@@ -27,13 +28,10 @@ use Rattle.theory_soundness.proofs.Times.{holds-yes}
 use Rattle.theory_alignment.proofs.Aligned.{arranged-keeps}
 use Rattle.theory_room.proofs.Weights.{added, deleted, weight, weight-of-set, Raises, raised}
 use Rattle.theory_room.proofs.Replaced.{Weighs, replaced-weight}
-use Rattle.theory_room.proofs.Lines.{Arranges, new-variables, as-choice, ordered-size, choices-lines-to, From-choices, from-choice, events-of-choices}
-use Rattle.theory_room.proofs.Cleared.{Clearing, clearing, clearing-event, cleared-after, clearing-lines-to, cleared-to}
+use Rattle.theory_room.proofs.Lines.{Arranges, ordered-size, choices-lines-to, From-choices, from-choice, events-of-choices}
+use Rattle.theory_room.specs.Choices.{new-variables, as-choice, clearing, order-of}
+use Rattle.theory_room.proofs.Cleared.{Clearing, clearing-event, cleared-after, clearing-lines-to, cleared-to}
 use Rattle.theory_room.proofs.Rises.{risen, counter-weight, clearing-raises, choice-raises, clearing-risen, choices-risen, unit}
-
--- the order in which a run takes the literals of its choices
-abbrev pub order-of : Settings → Input → Clause → Clause
-order-of s i = arranged (s .wish) (cleared (input s i)) (chosen s i)
 
 -- what is known of a run: its input is proper, and its deletions find their clauses
 pub record Run (s : Settings) (i : Input) : Type 0 where

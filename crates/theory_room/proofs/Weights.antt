@@ -14,7 +14,8 @@ use Rattle.definition.specs.Events.{Event}
 use Rattle.definition.specs.Reencoding.{lines-of, lines}
 use Rattle.theory_base.proofs.Tests.{of-true}
 use Rattle.theory_base.proofs.Sums.{sum-++, sum-none, sum-map}
-use Rattle.theory_base.proofs.Members.{Same, Proper, Proper-all, same-set-same}
+use Rattle.theory_base.proofs.Members.{same-set-same}
+use Rattle.theory_base.specs.Clauses.{Same, Proper, Proper-all}
 use Rattle.theory_base.proofs.Clauses.{same-sum}
 use Rattle.theory_base.proofs.Removal.{Removed, found, later, mem-removed}
 use Rattle.theory_base.proofs.Replay.{Leads, ends, adds, dels, leads-split, after-++, All-lines, all-changed, all-after, at-every-line}

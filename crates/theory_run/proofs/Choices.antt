@@ -15,27 +15,29 @@ use Rattle.definition.specs.Counter.{below-new, last-new, counter, take-choice}
 use Rattle.definition.specs.Order.{replacement-lines, replaced, replace, order-events}
 use Rattle.definition.specs.Reencoding.{lines-of, lines, Form, counter-form, order-form, Settings, choice-events, choices-events, cleared, chosen, input, events, log, result}
 use Rattle.definition.specs.Calls.{workspace-need, numbers-of}
-use Rattle.theory_base.proofs.Members.{Parted, Proper-all, Fits}
+use Rattle.theory_base.specs.Clauses.{Parted, Proper-all, Fits, Fit-all}
 use Rattle.theory_base.proofs.Sums.{sum-++, sum-≤, sum-for-each}
-use Rattle.theory_base.proofs.Fitting.{Fit-all, Proper-to, proper-fit, fit-up}
+use Rattle.theory_base.proofs.Fitting.{Proper-to, proper-fit, fit-up}
 use Rattle.theory_base.proofs.Replay.{All-clauses, after-++, lines-++}
 use Rattle.theory_soundness.proofs.Removals.{mem-removes}
 use Rattle.theory_clearing.proofs.Cleared.{cleared-facts}
-use Rattle.theory_counter.proofs.Ready.{Ready}
+use Rattle.theory_counter.specs.Ready.{Ready}
 use Rattle.theory_counter.proofs.Pairs.{missing-mem}
-use Rattle.theory_counter.proofs.Front.{front, own-fit, front-removes}
+use Rattle.theory_counter.proofs.Front.{own-fit, front-removes}
+use Rattle.theory_counter.specs.Front.{front}
 use Rattle.theory_counter.proofs.Counter.{after-choice}
 use Rattle.theory_order.proofs.Order.{order-events-are}
-use Rattle.theory_order.proofs.Pass.{results, added as results-of}
-use Rattle.theory_text.proofs.Accepted.{Accepted}
+use Rattle.theory_order.specs.Pass.{results, added as results-of}
+use Rattle.theory_text.specs.Accepted.{Accepted}
 use Rattle.theory_room.proofs.Weights.{gained, added, weight}
 use Rattle.theory_room.proofs.Choice.{pairs-to}
-use Rattle.theory_room.proofs.Lines.{Arranges, new-variables, ordered-length, ordered-proper, ordered-new}
-use Rattle.theory_room.proofs.Cleared.{clearing, cleared-after}
+use Rattle.theory_room.proofs.Lines.{Arranges, ordered-length, ordered-proper, ordered-new}
+use Rattle.theory_room.specs.Choices.{new-variables, clearing, order-of, events-of-first, standing-after-first, next-choice}
+use Rattle.theory_room.proofs.Cleared.{cleared-after}
 use Rattle.theory_room.proofs.Rises.{risen, taken-changes}
 use Rattle.theory_room.proofs.Additions.{numbers}
-use Rattle.theory_room.proofs.Runs.{Run, order-of, choosing, events-are, chosen-mem, arranges, run-risen, weight-after, few-new-variables, literal-weight, literal-most, literal-least, weight-most, weight-least}
-use Rattle.theory_room.proofs.Compaction.{events-of-first, standing-after-first, next-choice, choices-split, first-to}
+use Rattle.theory_room.proofs.Runs.{Run, choosing, events-are, chosen-mem, arranges, run-risen, weight-after, few-new-variables, literal-weight, literal-most, literal-least, weight-most, weight-least}
+use Rattle.theory_room.proofs.Compaction.{choices-split, first-to}
 use Rattle.theorems.proofs.Log.{chosen-parted, chosen-ready}
 use Rattle.theorems.proofs.Texts.{accepted-run}
 use Rattle.theorems.proofs.Steps.{steps}

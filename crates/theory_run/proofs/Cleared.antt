@@ -13,9 +13,10 @@ use Rattle.definition.specs.Reencoding.{lines, counter-form, Settings, chosen, 
 use Rattle.definition.specs.Alignment.{no-wish}
 use Rattle.theory_clearing.proofs.Clashes.{lowest-none, unclashed-proper, no-clash-left}
 use Rattle.theory_clearing.proofs.Cleared.{cleared-facts}
-use Rattle.theory_text.proofs.Accepted.{Accepted}
+use Rattle.theory_text.specs.Accepted.{Accepted}
 use Rattle.theory_room.proofs.Rises.{clearing-risen}
-use Rattle.theory_room.proofs.Cleared.{Clearing, clearing, clearing-event, cleared-after}
+use Rattle.theory_room.proofs.Cleared.{Clearing, clearing-event, cleared-after}
+use Rattle.theory_room.specs.Choices.{clearing}
 use Rattle.theory_room.proofs.Runs.{choosing, events-are, weight-after, literal-weight, literal-most, literal-least, weight-most, weight-least}
 use Rattle.theorems.proofs.Texts.{accepted-run}
 use Rattle.theorems.proofs.Steps.{events-from-clashes}

@@ -23,12 +23,11 @@ use Rattle.theory_base.proofs.Sums.{sum-++, sum-≤, sum-most, sum-for-each, co
 use Rattle.theory_base.proofs.Fitting.{Up-to}
 use Rattle.theory_base.proofs.Replay.{All-lines, lines-++}
 use Rattle.theory_room.proofs.Weights.{weight, weight-of-set, gained, added, deleted, balance}
-use Rattle.theory_room.proofs.Lines.{new-variables}
-use Rattle.theory_room.proofs.Cleared.{clearing, clearing-event, clearing-lines-to}
+use Rattle.theory_room.specs.Choices.{new-variables, clearing, order-of, events-of-first, standing-after-first, next-choice}
+use Rattle.theory_room.proofs.Cleared.{clearing-event, clearing-lines-to}
 use Rattle.theory_room.proofs.Additions.{numbers, clearing-adds}
-use Rattle.theory_text.proofs.Accepted.{Accepted}
-use Rattle.theory_room.proofs.Runs.{Run, order-of, choosing, events-are, weight-most, log-to, log-proper}
-use Rattle.theory_room.proofs.Compaction.{events-of-first, standing-after-first, next-choice}
+use Rattle.theory_text.specs.Accepted.{Accepted}
+use Rattle.theory_room.proofs.Runs.{Run, choosing, events-are, weight-most, log-to, log-proper}
 use Rattle.theorems.proofs.Log.{chosen-parted}
 use Rattle.theorems.proofs.Texts.{accepted-run}
 use Rattle.theorems.proofs.Steps.{steps}

@@ -12,9 +12,8 @@ use Rattle.definition.specs.Reencoding.{lines-of, lines, Form, counter-form, or
 use Rattle.definition.specs.Standing.{Line, after}
 use Rattle.theory_base.proofs.Replay.{lines-++}
 use Rattle.theory_counter.proofs.Front.{taken-open}
-use Rattle.theory_order.proofs.Order.{Before}
-use Rattle.theory_order.proofs.Pass.{added}
-use Rattle.theory_counter.proofs.Ready.{with-clause}
+use Rattle.theory_order.specs.Pass.{Before, added}
+use Rattle.theory_counter.specs.Ready.{with-clause}
 
 module _ (d : Clause) (k : Choice) where
   pub last-open : last-new (with-clause d k) ≡ last-new k

@@ -19,7 +19,7 @@ use Rattle.definition.specs.Calls.{numbers-of}
 use Rattle.theory_base.proofs.Digits.{digits-within}
 use Rattle.theory_base.proofs.Sums.{sum-++, count-length}
 use Rattle.theory_base.proofs.Fitting.{Up-to, proper-fit}
-use Rattle.theory_text.proofs.Accepted.{Accepted}
+use Rattle.theory_text.specs.Accepted.{Accepted}
 use Rattle.theory_room.proofs.Weights.{weight, gained, added}
 use Rattle.theory_room.proofs.Additions.{numbers}
 use Rattle.theory_room.proofs.Runs.{choosing}
@@ -27,7 +27,7 @@ use Rattle.theory_room.proofs.Limits.{result-fits, clauses-limit, literals-limi
 use Rattle.theorems.proofs.Log.{chosen-parted}
 use Rattle.theorems.proofs.Texts.{accepted-run}
 use Rattle.theorems.proofs.Steps.{steps, events-from-clashes}
-use Rattle.theory_room.proofs.Compaction.{standing-after-first, next-choice}
+use Rattle.theory_room.specs.Choices.{standing-after-first, next-choice}
 use Rattle.theory_run.specs.Choices.{events-up-to}
 use Rattle.theory_run.specs.Sizes.{Sizes}
 use Rattle.theory_run.proofs.Choices.{at-choice}

@@ -7,10 +7,10 @@ use Rattle.definition.specs.Literals.{Clause, Formula}
 use Rattle.definition.specs.Standing.{after}
 use Rattle.definition.specs.Counter.{below-new, last-new}
 use Rattle.definition.specs.Reencoding.{lines, Form, choice-events, choices-events}
-use Rattle.theory_base.proofs.Members.{Parted, Fits}
+use Rattle.theory_base.specs.Clauses.{Parted, Fits}
 use Rattle.theory_base.proofs.Replay.{after-++, lines-++}
-use Rattle.theory_counter.proofs.Ready.{Ready}
-use Rattle.theory_room.proofs.Lines.{as-choice}
+use Rattle.theory_counter.specs.Ready.{Ready}
+use Rattle.theory_room.specs.Choices.{as-choice}
 use Rattle.theorems.proofs.Choices.{after-events, after-fits, still-ready}
 
 -- all these choices can be taken where F stands

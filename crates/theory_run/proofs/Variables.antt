@@ -15,16 +15,18 @@ use Rattle.definition.specs.Counter.{below-new, last-new, missing-pairs, counte
 use Rattle.definition.specs.Order.{order-events}
 use Rattle.definition.specs.Alignment.{choice-literals}
 use Rattle.definition.specs.Reencoding.{lines-of, lines, Form, counter-form, order-form, Settings, choice-events, choices-events, cleared, chosen, log, highest-used}
-use Rattle.theory_base.proofs.Members.{Disjoint, Parted, proper-first}
+use Rattle.theory_base.proofs.Members.{proper-first}
+use Rattle.theory_base.specs.Clauses.{Disjoint, Parted}
 use Rattle.theory_base.proofs.Loops.{for-each-mem}
 use Rattle.theory_base.proofs.Fitting.{Proper-to, literal-between, cons-to, proper-length, highest-at, highest-le, highest-in-le}
 use Rattle.theory_base.proofs.Replay.{lines-++}
-use Rattle.theory_counter.proofs.Ready.{Well-formed}
-use Rattle.theory_counter.proofs.Front.{taken-lines-are, pair-copies}
+use Rattle.theory_counter.specs.Ready.{Well-formed}
+use Rattle.theory_counter.proofs.Front.{taken-lines-are}
+use Rattle.theory_counter.specs.Front.{pair-copies}
 use Rattle.theory_order.proofs.Found.{counter-stands}
-use Rattle.theory_room.proofs.Cleared.{clearing}
-use Rattle.theory_room.proofs.Lines.{Arranges, new-variables, as-choice, ordered-formed, ordered-new, others}
-use Rattle.theory_room.proofs.Runs.{Run, order-of, top, choosing, events-are, arranges, chosen-mem, log-to}
+use Rattle.theory_room.specs.Choices.{clearing, new-variables, as-choice, order-of}
+use Rattle.theory_room.proofs.Lines.{Arranges, ordered-formed, ordered-new, others}
+use Rattle.theory_room.proofs.Runs.{Run, top, choosing, events-are, arranges, chosen-mem, log-to}
 
 -- ---- the literals of all choices
 

@@ -11,15 +11,11 @@ use Rattle.definition.specs.Clearing.{clear-clashes, clear-pure}
 use Rattle.definition.specs.Counter.{counter, last-new}
 use Rattle.definition.specs.Reencoding.{lines, order-form, Settings, choice-events, unclashed, cleared, chosen, events, result}
 use Rattle.definition.specs.Calls.{workspace-need, numbers-of}
-use Rattle.theory_base.proofs.Members.{Proper-all, Fits}
-use Rattle.theory_base.proofs.Fitting.{Fit-all}
-use Rattle.theory_counter.proofs.Ready.{Ready}
-use Rattle.theory_counter.proofs.Front.{front}
-use Rattle.theory_order.proofs.Order.{Before}
-use Rattle.theory_order.proofs.Pass.{added}
-use Rattle.theory_room.proofs.Cleared.{clearing}
-use Rattle.theory_room.proofs.Lines.{new-variables}
-use Rattle.theory_room.proofs.Compaction.{events-of-first, standing-after-first, next-choice}
+use Rattle.theory_base.specs.Clauses.{Proper-all, Fits, Fit-all}
+use Rattle.theory_counter.specs.Ready.{Ready}
+use Rattle.theory_counter.specs.Front.{front}
+use Rattle.theory_order.specs.Pass.{Before, added}
+use Rattle.theory_room.specs.Choices.{clearing, new-variables, events-of-first, standing-after-first, next-choice}
 
 -- the events of the clearing and of the choices cs
 unfoldable pub events-up-to : Settings → Input → List Clause → List Event

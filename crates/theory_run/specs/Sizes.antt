@@ -13,11 +13,9 @@ use Rattle.definition.specs.Alignment.{choice-literals}
 use Rattle.definition.specs.Log.{log-text, formula-text}
 use Rattle.definition.specs.Reencoding.{lines, Settings, choice-events, unclashed, chosen, events, log, result, highest-used}
 use Rattle.definition.specs.Calls.{workspace-need, numbers-of}
-use Rattle.theory_base.proofs.Members.{Proper, Proper-all, Fits}
-use Rattle.theory_base.proofs.Fitting.{Fit-all}
-use Rattle.theory_clearing.proofs.Clashes.{Clash-free}
-use Rattle.theory_room.proofs.Lines.{new-variables}
-use Rattle.theory_room.proofs.Compaction.{standing-after-first, next-choice}
+use Rattle.theory_base.specs.Clauses.{Proper, Proper-all, Fits, Fit-all}
+use Rattle.theory_clearing.specs.Clashes.{Clash-free}
+use Rattle.theory_room.specs.Choices.{new-variables, standing-after-first, next-choice}
 use Rattle.theory_run.specs.Choices.{events-up-to}
 
 -- lines ls written after lines ks: places in the log and line numbers stay small

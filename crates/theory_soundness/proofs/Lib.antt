@@ -4,4 +4,3 @@ pub mod Times
 pub mod Without
 pub mod Removals
 pub mod Written
-pub mod CounterClauses

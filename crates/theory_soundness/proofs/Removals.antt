@@ -10,12 +10,13 @@ use Rattle.definition.specs.Standing.{Line, deletion, take-out}
 use Rattle.definition.specs.Assignments.{Assignment}
 use Rattle.definition.specs.Events.{Event}
 use Rattle.definition.specs.Clearing.{times}
-use Rattle.theory_base.proofs.Members.{Same, Absent}
+use Rattle.theory_base.specs.Clauses.{Same, Absent}
 use Rattle.theory_base.proofs.Trues.{Sat}
 use Rattle.theory_base.proofs.Removal.{Removed, removed-++, mem-removed, split, takes, sat-less}
 use Rattle.theory_soundness.proofs.Sound.{Sound}
 use Rattle.theory_soundness.proofs.Rules.{del-implied}
 use Rattle.theory_soundness.proofs.Times.{times-nil, times-cons, times-removed, stays-in}
+use Rattle.theory_soundness.specs.Removals.{take-all}
 
 -- the clauses D are taken out of F one after the other, which leaves G
 pub data Removes : Formula → Formula → Formula → Type 0 where
@@ -96,11 +97,6 @@ found-after d (k ∷ D) F G r s h = (
   (h .0 .0, ⊎-elim (λ q. absurd (s k (here refl) (λ x i. h .0 .2 .1 x (q .0 x i), λ x i. q .1 x (h .0 .2 .0 x i)))) (λ j. j) (split r (h .0 .1)), h .0 .2),
   found-after d D F G r (λ y i. s y (there i)) (h .1),
 )
-
--- what is left after taking the clauses out
-abbrev pub take-all : Formula → Formula → Formula
-take-all F [] = F
-take-all F (d ∷ D) = take-all (take-out d F) D
 
 pub take-all-++ : (F A B : Formula) → take-all F (A ++ B) ≡ take-all (take-all F A) B
 take-all-++ F [] B = refl

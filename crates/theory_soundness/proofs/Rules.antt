@@ -12,7 +12,8 @@ use Rattle.definition.specs.Standing.{Line, addition, deletion}
 use Rattle.definition.specs.Assignments.{Assignment, has-true, trues, make-true, repaired}
 use Rattle.definition.specs.Events.{Event}
 use Rattle.theory_base.proofs.Tests.{of-true, differ}
-use Rattle.theory_base.proofs.Members.{holds-mem, mem-holds, Absent}
+use Rattle.theory_base.proofs.Members.{holds-mem, mem-holds}
+use Rattle.theory_base.specs.Clauses.{Absent}
 use Rattle.theory_base.proofs.Trues.{made, keeps, unmoved, trues-mono, trues-same, has-trues, trues-has, Sat, sat-at, sat-all, sat-++, sat-left}
 use Rattle.theory_base.proofs.Removal.{Removed, sat-more}
 use Rattle.theory_soundness.proofs.Sound.{Into, Ones, Sound, adding, deleting}

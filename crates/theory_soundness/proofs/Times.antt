@@ -14,7 +14,8 @@ use Rattle.definition.specs.Literals.{Clause, Formula, holds}
 use Rattle.definition.specs.Clearing.{times, unique}
 use Rattle.theory_base.proofs.Tests.{to-true, of-true, bit≤1, and-l, and-r, and-i}
 use Rattle.theory_base.proofs.Loops.{count-++}
-use Rattle.theory_base.proofs.Members.{holds-mem, mem-holds, holds-false, all-at, all-of, Same, same-set-same, Absent}
+use Rattle.theory_base.proofs.Members.{holds-mem, mem-holds, holds-false, all-at, all-of, same-set-same}
+use Rattle.theory_base.specs.Clauses.{Same, Absent}
 use Rattle.theory_base.proofs.Removal.{Removed, found, later, split}
 
 pub holds-yes : (x : ℤ) (c : Clause) → List·Memᴰ x c → holds x c ≡ true

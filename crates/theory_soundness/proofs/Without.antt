@@ -13,7 +13,8 @@ use Rattle.definition.specs.Literals.{Clause, Formula, same, without, with-firs
 use Rattle.definition.specs.Assignments.{Assignment, true-in, trues}
 use Rattle.definition.specs.Events.{Event}
 use Rattle.theory_base.proofs.Tests.{of-true, not-true, of-false, by-test, to-false}
-use Rattle.theory_base.proofs.Members.{same-eq, unlike, those-mem, mem-those, Same, Proper, proper-literal, proper-unopposed, same-variable, Absent, same-set-same}
+use Rattle.theory_base.proofs.Members.{same-eq, unlike, those-mem, mem-those, proper-literal, proper-unopposed, same-variable, same-set-same}
+use Rattle.theory_base.specs.Clauses.{Same, Proper, Absent}
 use Rattle.theory_base.proofs.Sums.{count-sum}
 use Rattle.theory_base.proofs.Clauses.{same-sum}
 use Rattle.theory_soundness.proofs.Sound.{Into}

@@ -4,7 +4,7 @@ use mathlib.Core.Logic.{_≢_}
 use mathlib.Core.List.{List, [], _∷_, _++_, List·Memᴰ, List·Memᴰ·head as here, List·Memᴰ·tail as there}
 use lib.IntN.{ℤ}
 use Rattle.definition.specs.Literals.{Clause, Formula}
-use Rattle.theory_base.proofs.Members.{Absent}
+use Rattle.theory_base.specs.Clauses.{Absent}
 
 -- every element of a list
 module _ {A : Type 0} where

@@ -15,9 +15,11 @@ use Rattle.definition.specs.Literals.{Formula, holds, literals-of}
 use Rattle.definition.specs.Text.{Bytes, TextLine, number, natural, fields, line-text, past-comments, text-lines}
 use Rattle.definition.specs.Reading.{Limits, Input, Header, Reader, read-header-fields, read-header-line, read-header, read-literal, end-clause, read-word, end-text, read-clauses, read-formula}
 use Rattle.theory_base.proofs.Tests.{differ, or-false-both}
-use Rattle.theory_base.proofs.Members.{mem-holds, Proper, Proper-all, Fit, Fits}
+use Rattle.theory_base.proofs.Members.{mem-holds}
+use Rattle.theory_base.specs.Clauses.{Proper, Proper-all, Fit, Fits}
 use Rattle.theory_base.proofs.Clauses.{literals-snoc, members-snoc, proper-snoc}
 use Rattle.theory_base.proofs.Outcomes.{fault-value, value-same, refuse-value, bind-value, through-keeps}
+use Rattle.theory_text.specs.Accepted.{Accepted}
 
 -- ---- between two words
 record Reads (most : Limits) (v c : ℕ) (r : Reader) : Type 0 where
@@ -77,14 +79,6 @@ module _ (most : Limits) (v c : ℕ) where
     here-fits = λ x i. absurd (List·Memᴰ·not-nil i);
     here-proper = tt;
   }
-
--- ---- the whole text
-pub record Accepted (most : Limits) (i : Input) : Type 0 where
-  pub variables-few : i .variables ≤ most .variables
-  pub clauses-few : length (i .formula) ≤ most .clauses
-  pub literals-few : literals-of (i .formula) ≤ most .literals
-  pub fits : Fits (i .variables) (i .formula)
-  pub proper : Proper-all (i .formula)
 
 -- V and C within the limits
 abbrev pub Header-few : Limits → Header → Type 0

@@ -17,13 +17,16 @@ use Rattle.definition.specs.Assignments.{Assignment, satisfies}
 use Rattle.definition.specs.Answer.{Answer, begins-with, space-or-tab, read-answer-word, read-answer-line, read-answer}
 use Rattle.definition.specs.Calls.{assigned, answer-text}
 use Rattle.theory_base.proofs.Tests.{to-true}
-use Rattle.theory_base.proofs.Members.{natAbs-neg, mem-holds, holds-false, Proper, proper-unopposed, Fit, Fits}
+use Rattle.theory_base.proofs.Members.{natAbs-neg, mem-holds, holds-false, proper-unopposed}
+use Rattle.theory_base.specs.Clauses.{Proper, Fit, Fits}
 use Rattle.theory_base.proofs.Clauses.{natAbs-zero}
 use Rattle.theory_base.proofs.Trues.{satisfies-same}
 use Rattle.theory_text.proofs.Digits.{number-literal}
-use Rattle.theory_text.proofs.Words.{Free, first-line, no-last-cr}
+use Rattle.theory_text.proofs.Words.{first-line, no-last-cr}
+use Rattle.theory_text.specs.Words.{Free}
 use Rattle.theory_base.proofs.Outcomes.{through-++}
-use Rattle.theory_text.proofs.ClauseText.{Outside, newline-outside, return-outside, space-or-tab-outside, literals-text, literal-words, clause-words, clause-line, clause-line-free, words-clause-line, literals-through}
+use Rattle.theory_text.proofs.ClauseText.{Outside, newline-outside, return-outside, space-or-tab-outside, literal-words, clause-words, clause-line-free, words-clause-line, literals-through}
+use Rattle.theory_text.specs.ClauseText.{literals-text, clause-line}
 
 -- the literals that are true, of the n variables from i
 unfoldable chosen-literal : Assignment → ℕ → ℤ

@@ -15,17 +15,12 @@ use Rattle.definition.specs.Literals.{Clause}
 use Rattle.definition.specs.Text.{Bytes, bytes, is, blank, words-by, words, fields, digits, literal-text}
 use Rattle.definition.specs.Log.{clause-text}
 use Rattle.definition.specs.Answer.{space-or-tab}
-use Rattle.theory_base.proofs.Members.{Proper, Fit}
+use Rattle.theory_base.specs.Clauses.{Proper, Fit}
 use Rattle.theory_base.proofs.Clauses.{proper-apart}
 use Rattle.theory_text.proofs.Digits.{literal-between, literal-some}
-use Rattle.theory_text.proofs.Words.{Free, free-++, between-free, first-word, only-word, first-field, only-field}
-
--- the literals, a blank after each; a clause's line without its LF
-unfoldable pub literals-text : Clause → Bytes
-literals-text c = for-each c (λ l. literal-text l ++ bytes " ")
-
-unfoldable pub clause-line : Clause → Bytes
-clause-line c = literals-text c ++ bytes "0"
+use Rattle.theory_text.proofs.Words.{free-++, between-free, first-word, only-word, first-field, only-field}
+use Rattle.theory_text.specs.Words.{Free}
+use Rattle.theory_text.specs.ClauseText.{literals-text, clause-line}
 
 -- their words
 unfoldable pub literal-words : Clause → List Bytes

@@ -15,11 +15,13 @@ use Rattle.definition.specs.Literals.{Clause, Formula, literals-of}
 use Rattle.definition.specs.Text.{Bytes, bytes, is, line-text, past-comments, add-part, parts, words-by, words, fields, digits, same-bytes, literal-text, number, natural, not-negated, digit, digit-value}
 use Rattle.definition.specs.Log.{clause-text, formula-text}
 use Rattle.definition.specs.Reading.{Limits, Reader, read-header-fields, read-header-line, read-header, read-literal, end-clause, read-word, end-text, read-clauses, read-formula}
-use Rattle.theory_base.proofs.Members.{holds-false, Proper, Proper-all, Fit, Fits}
+use Rattle.theory_base.proofs.Members.{holds-false}
+use Rattle.theory_base.specs.Clauses.{Proper, Proper-all, Fit, Fits}
 use Rattle.theory_base.proofs.Clauses.{literals-snoc, natAbs-zero}
 use Rattle.theory_base.proofs.Outcomes.{through-++}
 use Rattle.theory_text.proofs.Digits.{natural-digits, number-literal}
-use Rattle.theory_text.proofs.Words.{Free, free-++, any-free, first-field, only-field, first-line, no-last-cr, past-line}
+use Rattle.theory_text.proofs.Words.{free-++, any-free, first-field, only-field, first-line, no-last-cr, past-line}
+use Rattle.theory_text.specs.Words.{Free}
 use Rattle.theory_text.proofs.ClauseText.{Outside, blank-outside, newline-outside, return-outside, digits-free, literal-words, clause-words, words-clause-text, literals-through}
 
 -- ---- the header

@@ -16,12 +16,14 @@ use Rattle.definition.specs.Text.{Bytes, TextLine, bytes, is, text-lines, same-
 use Rattle.definition.specs.Standing.{Line, addition, deletion, literals}
 use Rattle.definition.specs.Log.{log-line-text, log-text}
 use Rattle.definition.specs.LogReading.{with-literal, read-line-clause, line-clause-allowed, allowed-clause, read-line-fields, read-line, read-log}
-use Rattle.theory_base.proofs.Members.{Proper}
+use Rattle.theory_base.specs.Clauses.{Proper}
 use Rattle.theory_base.proofs.Fitting.{Line-fits}
 use Rattle.theory_base.proofs.Clauses.{natAbs-zero, proper-unrepeated, proper-not-opposed}
 use Rattle.theory_text.proofs.Digits.{Between, number-literal, literal-between}
-use Rattle.theory_text.proofs.Words.{Free, first-field, first-line}
-use Rattle.theory_text.proofs.ClauseText.{newline-outside, literal-words, clause-words, clause-line, clause-text-line, fields-clause-line, clause-line-free}
+use Rattle.theory_text.proofs.Words.{first-field, first-line}
+use Rattle.theory_text.specs.Words.{Free}
+use Rattle.theory_text.proofs.ClauseText.{newline-outside, literal-words, clause-words, clause-text-line, fields-clause-line, clause-line-free}
+use Rattle.theory_text.specs.ClauseText.{clause-line}
 
 -- ---- the clause of a line
 more-words : (w : Bytes) (c : Clause) → read-line-clause (w ∷ clause-words c) ≡ with-literal (number w) (read-line-clause (clause-words c))

@@ -12,11 +12,7 @@ use Rattle.definition.specs.Lists.{any}
 use Rattle.definition.specs.Text.{Bytes, is, add-part, parts, words-by, longer, text-lines, without-last-cr, fields-from, fields, same-bytes}
 use Rattle.theory_base.proofs.Tests.{or-false-both, to-true, of-true, differ, and-r, by-test}
 use Rattle.theory_text.proofs.Digits.{Between}
-
--- no byte passes the test
-abbrev pub Free : (ℕ → Bool) → Bytes → Type 0
-Free p [] = Unit {0}
-Free p (b ∷ t) = (p b ≡ false) × Free p t
+use Rattle.theory_text.specs.Words.{Free}
 
 pub free-++ : (p : ℕ → Bool) (s t : Bytes) → Free p s → Free p t → Free p (s ++ t)
 free-++ p [] t f g = g

@@ -2,7 +2,6 @@ use borrow.Author.Needs.{needs}
 use mathlib.Core.Path.{_≡_}
 use Prim.Native.Nat.{_-_}
 use lib.ListN.{length, take, drop}
-use borrow.Author.Needs.{needs}
 use Rattle.definition.specs.Text.{same-bytes}
 use Rattle.definition.specs.Answer.{begins-with}
 use Rattle.answer.proofs.Lines.{begins-start, begins-step, begins-differ, begins-end, begins-short}

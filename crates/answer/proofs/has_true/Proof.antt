@@ -1,9 +1,8 @@
-use borrow.Author.Needs.{needs}
+use borrow.Author.Needs.{needs, sfits-of}
 use mathlib.Core.Path.{_≡_, refl, _∙_}
 use Prim.Native.Nat.{_-_}
 use lib.IntN.{pos}
 use lib.ListN.{length, drop, getD}
-use borrow.Author.Needs.{needs, sfits-of}
 use Rattle.definition.specs.Assignments.{true-in, has-true}
 use Rattle.literals.proofs.Laws.{answered}
 use Rattle.answer.specs.Table.{marked}

@@ -2,9 +2,8 @@ use borrow.Author.Needs.{needs}
 use Prim.Native.Nat.{_-_, _≤_}
 use native.Mathlib.Omega.{arith}
 use lib.ListN.{length}
-use borrow.Author.Needs.{needs}
 use Rattle.definition.specs.Text.{is}
-use Rattle.theory_text.proofs.Words.{Free}
+use Rattle.theory_text.specs.Words.{Free}
 use Rattle.answer.specs.Lines.{part}
 use Rattle.answer.proofs.Lines.{line-end-start, line-end-step}
 use Rattle.answer.proofs.line_end.Statement.{statement}

@@ -1,10 +1,9 @@
-use mathlib.Core.Path.{sym}
+use mathlib.Core.Path.{sym, refl}
 use lib.IntN.{natAbs}
 use lib.Seq.{set-out}
 use native.Mathlib.Omega.{arith}
 use Rattle.literals.proofs.Laws.{answer}
 use Rattle.answer.specs.Table.{entry-of}
-use mathlib.Core.Path.{refl}
 use borrow.Author.Needs.{needs}
 use Rattle.answer.proofs.make_true.Statement.{statement}
 use Rattle.answer.proofs.make_true.Tie as tie

@@ -1,11 +1,10 @@
 use mathlib.Core.Path.{_∙_}
 use mir.Syntax.{w32}
 use mir.ValLaws.{toZ-ofZ}
-use borrow.Author.Needs.{sfits-of}
+use borrow.Author.Needs.{sfits-of, needs}
 use Rattle.definition.specs.Text.{bytes}
 use Rattle.text.proofs.Output.{put-then, put-same}
 use Rattle.answer.proofs.Output.{value-is}
-use borrow.Author.Needs.{needs}
 use Rattle.answer.proofs.put_value.Statement.{statement}
 use Rattle.answer.proofs.put_value.Tie as tie
 

@@ -3,7 +3,6 @@ use mathlib.Core.Path.{_≡_, refl}
 use Prim.Native.Nat.{_-_, _≤_}
 use native.Mathlib.Omega.{arith}
 use lib.ListN.{length}
-use borrow.Author.Needs.{needs}
 use Rattle.text.specs.Output.{Put}
 use Rattle.answer.specs.Table.{marked}
 use Rattle.answer.specs.Output.{values-text}

@@ -3,7 +3,6 @@ use mathlib.Core.Path.{_≡_, refl}
 use Prim.Native.Nat.{_-_}
 use native.Mathlib.Omega.{arith}
 use lib.ListN.{length}
-use borrow.Author.Needs.{needs}
 use Rattle.answer.specs.Lines.{First-line}
 use Rattle.answer.proofs.Reading.{Lines-walked, lines-start, lines-step, lines-end}
 use Rattle.answer.proofs.read_answer.Statement.{statement}

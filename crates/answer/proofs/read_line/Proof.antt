@@ -1,6 +1,5 @@
 use borrow.Author.Needs.{needs}
 use mathlib.Core.Path.{sym, _∙_}
-use borrow.Author.Needs.{needs}
 use Rattle.definition.specs.Answer.{read-answer-line}
 use Rattle.answer.proofs.Reading.{line-comment, line-status, line-waiting, line-values, line-open, line-closed, faulty}
 use Rattle.answer.proofs.read_line.Statement.{statement}

@@ -1,9 +1,8 @@
-use mathlib.Core.Path.{subst}
+use mathlib.Core.Path.{subst, _∙_, sym}
 use mir.Syntax.{w32}
 use mir.Val.{SFits}
 use mir.ValLaws.{toZ-ofZ}
 use Rattle.answer.specs.Reading.{read-literal, Steps-open}
-use mathlib.Core.Path.{_∙_, sym}
 use lib.IntN.{ℤ}
 use Rattle.answer.proofs.Reading.{word-number, word-large, word-none}
 use borrow.Author.Needs.{needs}

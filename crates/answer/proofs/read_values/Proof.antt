@@ -3,7 +3,6 @@ use mathlib.Core.Path.{_≡_, refl, sym, _∙_}
 use Prim.Native.Nat.{_-_}
 use native.Mathlib.Omega.{arith}
 use lib.ListN.{length, drop}
-use borrow.Author.Needs.{needs}
 use Rattle.definition.specs.Checked.{through}
 use Rattle.definition.specs.Text.{words-by}
 use Rattle.definition.specs.Literals.{Clause}

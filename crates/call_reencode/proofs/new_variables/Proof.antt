@@ -1,12 +1,11 @@
 use mathlib.Core.Path.{sym}
 use native.Mathlib.Omega.{arith}
 use denote.Ref.{now}
-use borrow.Author.Needs.{sfits-of}
+use borrow.Author.Needs.{sfits-of, needs}
 use Rattle.literals.specs.Literal.{negative, header-literals}
 use Rattle.literals.proofs.Laws.{answered, answer, literals-within}
 use Rattle.store.specs.Store.{header-at}
 use Rattle.call_reencode.proofs.Turns.{new-none, new-some}
-use borrow.Author.Needs.{needs}
 use Rattle.call_reencode.proofs.new_variables.Statement.{statement}
 use Rattle.call_reencode.proofs.new_variables.Tie as tie
 

@@ -1,13 +1,11 @@
-use lib.ListN.{drop}
+use lib.ListN.{drop, length-replicate}
 use lib.IntN.{pos}
-use lib.ListN.{length-replicate}
-use Rattle.call_reencode.proofs.Phases.{choice-counts, prefix-is, prefix-room, prefix-length}
+use Rattle.call_reencode.proofs.Phases.{choice-counts, prefix-is, prefix-room, prefix-length, clash-ready, pure-ready, collectable, alignable, all-ready, ran-all}
 use mathlib.Core.Path.{sym, _∙_}
 use native.Mathlib.Omega.{arith}
 use lib.Seq.{length-take-le}
 use Rattle.progress.proofs.Laws.{ran-holds}
 use Rattle.call_reencode.specs.Run.{settings-by}
-use Rattle.call_reencode.proofs.Phases.{clash-ready, pure-ready, collectable, alignable, all-ready, ran-all}
 use borrow.Author.Needs.{needs}
 use Rattle.call_reencode.proofs.run_phases.Statement.{statement}
 use Rattle.call_reencode.proofs.run_phases.Tie as tie

@@ -1,11 +1,10 @@
 use mathlib.Core.Path.{sym}
 use denote.Ref.{now}
-use borrow.Author.Needs.{sfits-of}
+use borrow.Author.Needs.{sfits-of, needs}
 use Rattle.literals.specs.Literal.{negative}
 use Rattle.literals.proofs.Laws.{answered}
 use Rattle.store.specs.Store.{header-at}
 use Rattle.call_reencode.proofs.Counting.{bit-deleted, bit-stands}
-use borrow.Author.Needs.{needs}
 use Rattle.call_reencode.proofs.standing_at.Statement.{statement}
 use Rattle.call_reencode.proofs.standing_at.Tie as tie
 

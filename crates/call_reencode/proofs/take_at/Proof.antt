@@ -1,12 +1,11 @@
 use native.Mathlib.Omega.{arith}
 use denote.Ref.{now}
-use borrow.Author.Needs.{sfits-of}
+use borrow.Author.Needs.{sfits-of, needs}
 use Rattle.literals.specs.Literal.{negative}
 use Rattle.literals.proofs.Laws.{answered}
 use Rattle.store.specs.Store.{header-at}
 use Rattle.store.proofs.Laws.{formed-next}
 use Rattle.call_reencode.proofs.Turns.{none-taken, one-takeable, one-taken}
-use borrow.Author.Needs.{needs}
 use Rattle.call_reencode.proofs.take_at.Statement.{statement}
 use Rattle.call_reencode.proofs.take_at.Tie as tie
 

@@ -1,16 +1,13 @@
-use Rattle.dimacs.proofs.Loads.{storing-less}
-use borrow.Author.Needs.{needs}
-use borrow.Author.Needs.{needs}
+use Rattle.dimacs.proofs.Loads.{storing-less, Storing, storing-start, storing-on, storing-end}
+use borrow.Author.Needs.{needs, sfits-of}
 use mathlib.Core.Path.{sym, ap, _∙_}
 use Prim.Native.Nat.{_-_}
 use native.Mathlib.Omega.{arith}
 use lib.IntN.{ℤ}
 use lib.ListN.{length, set, length-set}
 use denote.Ref.{now}
-use borrow.Author.Needs.{sfits-of}
 use Rattle.literals.proofs.Laws.{at-arg}
 use Rattle.dimacs.specs.declared.Step.the-variants as Step
-use Rattle.dimacs.proofs.Loads.{Storing, storing-start, storing-on, storing-end}
 use Rattle.dimacs.proofs.load_clause.Statement.{statement}
 use Rattle.dimacs.proofs.load_clause.Tie as tie
 

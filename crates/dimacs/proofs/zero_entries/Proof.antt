@@ -1,7 +1,5 @@
-use mathlib.Core.Path.{sym}
+use mathlib.Core.Path.{sym, _≡_, ap, _∙_, refl}
 use borrow.Author.Needs.{needs}
-use borrow.Author.Needs.{needs}
-use mathlib.Core.Path.{_≡_, ap, _∙_, refl}
 use mathlib.Core.List.{List, _++_, append-nil}
 use native.Mathlib.Omega.{arith}
 use Prim.Native.Nat.{ℕ, _-_, _≤_}

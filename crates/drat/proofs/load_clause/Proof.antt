@@ -1,12 +1,10 @@
-use lib.ListN.{length-set}
-use borrow.Author.Needs.{needs}
+use lib.ListN.{length-set, length, set}
+use borrow.Author.Needs.{needs, sfits-of}
 use native.Mathlib.Omega.{arith}
 use mathlib.Core.Path.{sym, ap, _∙_}
 use Prim.Native.Nat.{_-_, _+_}
 use lib.IntN.{ℤ}
-use lib.ListN.{length, set}
 use denote.Ref.{now}
-use borrow.Author.Needs.{needs, sfits-of}
 use Rattle.literals.proofs.Laws.{answer}
 use Rattle.drat.proofs.Rest.{word-literal, word-last, word-fault}
 use Rattle.drat.proofs.Loading.{Loading, loading-fits, loading-start, loading-step, loading-last, loading-never, loading-length}

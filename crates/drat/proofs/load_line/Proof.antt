@@ -5,7 +5,6 @@ use denote.Ref.{now}
 use Rattle.literals.specs.Literal.{flip}
 use Rattle.literals.proofs.Laws.{answer}
 use Rattle.drat.proofs.Loading.{deletion-first, addition-first, deletion-size, addition-size, first-room, first-loadable, entry-stored, deletion-header, addition-header}
-use borrow.Author.Needs.{needs}
 use Rattle.drat.proofs.load_line.Statement.{statement}
 use Rattle.drat.proofs.load_line.Tie as tie
 

@@ -6,7 +6,6 @@ use Rattle.literals.proofs.Laws.{answered}
 use Rattle.store.specs.Store.{header-at}
 use Rattle.store.proofs.Laws.{formed-next}
 use Rattle.drat.proofs.FormulaText.{entry-length, entry-deleted, entry-written}
-use borrow.Author.Needs.{needs}
 use Rattle.drat.proofs.put_entry.Statement.{statement}
 use Rattle.drat.proofs.put_entry.Tie as tie
 

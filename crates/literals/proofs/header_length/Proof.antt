@@ -3,8 +3,7 @@ use Rattle.literals.proofs.Bits.{literals-negative, literals-positive}
 use Rattle.literals.specs.Literal.{negative, flip}
 use mathlib.Core.Path.{ap, _∙_}
 use lib.IntN.{natAbs}
-use borrow.Author.Needs.{sfits-of}
-use borrow.Author.Needs.{needs}
+use borrow.Author.Needs.{sfits-of, needs}
 use Rattle.literals.proofs.header_length.Statement.{statement}
 use Rattle.literals.proofs.header_length.Tie as tie
 

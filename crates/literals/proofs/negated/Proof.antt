@@ -3,8 +3,7 @@ use Rattle.literals.specs.Literal.{negative, signed-of}
 use mathlib.Core.Path.{ap, sym, _∙_}
 use mathlib.Core.Bool.{true, false, not}
 use lib.IntN.{ℤ, natAbs}
-use borrow.Author.Needs.{sfits-of}
-use borrow.Author.Needs.{needs}
+use borrow.Author.Needs.{sfits-of, needs}
 use Rattle.literals.proofs.negated.Statement.{statement}
 use Rattle.literals.proofs.negated.Tie as tie
 

@@ -4,8 +4,7 @@ use Rattle.literals.specs.Literal.{negation}
 use Rattle.definition.specs.Literals.{same}
 use mathlib.Core.Path.{ap, sym, _∙_}
 use lib.IntN.{natAbs}
-use borrow.Author.Needs.{sfits-of}
-use borrow.Author.Needs.{needs}
+use borrow.Author.Needs.{sfits-of, needs}
 use Rattle.literals.proofs.opposite.Statement.{statement}
 use Rattle.literals.proofs.opposite.Tie as tie
 

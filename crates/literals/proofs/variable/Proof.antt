@@ -1,8 +1,7 @@
 use Rattle.literals.proofs.Laws.{answer, answered}
 use Rattle.literals.proofs.Bits.{cast-fits, turned-cast, turned-variable, turned-add}
 use Rattle.literals.specs.Literal.{negative, flip}
-use borrow.Author.Needs.{sfits-of}
-use borrow.Author.Needs.{needs}
+use borrow.Author.Needs.{sfits-of, needs}
 use Rattle.literals.proofs.variable.Statement.{statement}
 use Rattle.literals.proofs.variable.Tie as tie
 

@@ -1,12 +1,11 @@
 use denote.Ref.{now}
 use native.Mathlib.Omega.{arith}
-use borrow.Author.Needs.{sfits-of}
+use borrow.Author.Needs.{sfits-of, needs}
 use Rattle.literals.specs.Literal.{negative}
 use Rattle.literals.proofs.Laws.{answered}
 use Rattle.store.specs.Store.{header-at}
 use Rattle.store.proofs.Laws.{formed-next}
 use Rattle.pass_choose.proofs.Laws.{at-deleted, at-other, at-room, at-choice}
-use borrow.Author.Needs.{needs}
 use Rattle.pass_choose.proofs.collect_at.Statement.{statement}
 use Rattle.pass_choose.proofs.collect_at.Tie as tie
 

@@ -4,11 +4,10 @@ use native.Mathlib.Omega.{arith}
 use lib.IntN.{ℤ, pos, negℤ}
 use lib.Seq.{length-take-le}
 use denote.Ref.{now}
-use borrow.Author.Needs.{sfits-of}
+use borrow.Author.Needs.{sfits-of, needs}
 use Rattle.literals.proofs.Laws.{signed-small}
 use Rattle.pass_clashes.proofs.Resolving.{arg-is}
 use Rattle.pass_clashes.proofs.Adding.{one-standing, other-standing, one-inside, other-inside, opposed-answer, none-added, joined-room, added-within, one-added}
-use borrow.Author.Needs.{needs}
 use Rattle.pass_clashes.proofs.add_resolvent.Statement.{statement}
 use Rattle.pass_clashes.proofs.add_resolvent.Tie as tie
 

@@ -1,4 +1,4 @@
-use borrow.Author.Needs.{needs}
+use borrow.Author.Needs.{needs, sfits-of}
 use mathlib.Core.Path.{_≡_, refl, _∙_}
 use mathlib.Core.Bool.{Bool}
 use Prim.Native.Nat.{_-_, _≤_}
@@ -7,7 +7,6 @@ use lib.IntN.{ℤ, pos}
 use mir.Syntax.{w32}
 use mir.Val.{ofZ, toZ}
 use denote.Ref.{now}
-use borrow.Author.Needs.{sfits-of}
 use Rattle.literals.proofs.Laws.{answered, at-arg}
 use Rattle.definition.specs.Lists.{any}
 use Rattle.theory_base.proofs.Slices.{any-hit, any-miss, any-end}

@@ -5,13 +5,12 @@ use lib.IntN.{ℤ}
 use lib.ListN.{length, take, drop, length-append}
 use lib.Seq.{sets}
 use denote.Ref.{now}
-use borrow.Author.Needs.{sfits-of}
+use borrow.Author.Needs.{sfits-of, needs}
 use mathlib.Core.Bool.{true, false}
 use Rattle.definition.specs.Literals.{without}
 use Rattle.literals.specs.Literal.{signed-of}
 use Rattle.literals.proofs.Laws.{at-arg}
 use Rattle.pass_clashes.proofs.Resolving.{arg-is, second-room, entry-next, entry-written, entry-length}
-use borrow.Author.Needs.{needs}
 use Rattle.pass_clashes.proofs.append_resolvent.Statement.{statement}
 use Rattle.pass_clashes.proofs.append_resolvent.Tie as tie
 

@@ -5,11 +5,10 @@ use lib.IntN.{ℤ}
 use lib.Dec.{ltb}
 use lib.ListN.{getD}
 use denote.Ref.{now}
-use borrow.Author.Needs.{sfits-of}
+use borrow.Author.Needs.{sfits-of, needs}
 use Rattle.literals.specs.Literal.{index-of}
 use Rattle.literals.proofs.Laws.{answer}
 use Rattle.pass_clashes.proofs.Search.{both-first, both-none}
-use borrow.Author.Needs.{needs}
 use Rattle.pass_clashes.proofs.clashes.Statement.{statement}
 use Rattle.pass_clashes.proofs.clashes.Tie as tie
 

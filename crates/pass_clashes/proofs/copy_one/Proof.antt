@@ -3,10 +3,9 @@ use native.Mathlib.Omega.{arith}
 use lib.ListN.{getD, set, length}
 use lib.IntN.{ℤ, pos}
 use denote.Ref.{now}
-use borrow.Author.Needs.{sfits-of}
+use borrow.Author.Needs.{sfits-of, needs}
 use Rattle.literals.proofs.Laws.{at-arg}
 use Rattle.pass_clashes.proofs.Resolving.{left-out, kept}
-use borrow.Author.Needs.{needs}
 use Rattle.pass_clashes.proofs.copy_one.Statement.{statement}
 use Rattle.pass_clashes.proofs.copy_one.Tie as tie
 

@@ -2,13 +2,12 @@ use native.Mathlib.Omega.{arith}
 use Prim.Native.Nat.{_+_}
 use mathlib.Core.Path.{_≡_}
 use denote.Ref.{now}
-use borrow.Author.Needs.{sfits-of}
+use borrow.Author.Needs.{sfits-of, needs}
 use Rattle.literals.specs.Literal.{header-literals}
 use Rattle.literals.proofs.Laws.{answer}
 use Rattle.store.specs.Store.{header-at, past}
 use Rattle.store.proofs.Laws.{formed-next}
 use Rattle.pass_clashes.proofs.Resolving.{part-written, part-length}
-use borrow.Author.Needs.{needs}
 use Rattle.pass_clashes.proofs.delete_first.Statement.{statement}
 use Rattle.pass_clashes.proofs.delete_first.Tie as tie
 

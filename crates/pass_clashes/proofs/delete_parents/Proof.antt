@@ -2,11 +2,10 @@ use mathlib.Core.Bool.{true, false}
 use mathlib.Core.Path.{_∙_}
 use native.Mathlib.Omega.{arith}
 use lib.IntN.{ℤ, pos, negℤ}
-use borrow.Author.Needs.{sfits-of}
+use borrow.Author.Needs.{sfits-of, needs}
 use Rattle.literals.proofs.Laws.{signed-small}
 use Rattle.pass_clashes.proofs.Resolving.{arg-is}
 use Rattle.pass_clashes.proofs.Parents.{second-stays, parents-gone, parents-room}
-use borrow.Author.Needs.{needs}
 use Rattle.pass_clashes.proofs.delete_parents.Statement.{statement}
 use Rattle.pass_clashes.proofs.delete_parents.Tie as tie
 

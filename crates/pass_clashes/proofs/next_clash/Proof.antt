@@ -1,11 +1,10 @@
 use mathlib.Core.Path.{ap, _∙_}
 use lib.IntN.{ℤ}
 use lib.ListN.{getD}
-use borrow.Author.Needs.{sfits-of}
+use borrow.Author.Needs.{sfits-of, needs}
 use Rattle.literals.specs.Literal.{index-of}
 use Rattle.literals.proofs.Laws.{answer}
 use Rattle.pass_clashes.proofs.Search.{countable, next-none, next-some}
-use borrow.Author.Needs.{needs}
 use Rattle.pass_clashes.proofs.next_clash.Statement.{statement}
 use Rattle.pass_clashes.proofs.next_clash.Tie as tie
 

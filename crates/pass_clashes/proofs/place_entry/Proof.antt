@@ -1,12 +1,11 @@
 use native.Mathlib.Omega.{arith}
 use denote.Ref.{now}
-use borrow.Author.Needs.{sfits-of}
+use borrow.Author.Needs.{sfits-of, needs}
 use Rattle.literals.specs.Literal.{negative}
 use Rattle.literals.proofs.Laws.{answered}
 use Rattle.store.specs.Store.{header-at}
 use Rattle.store.proofs.Laws.{formed-next}
 use Rattle.pass_clashes.proofs.Filling.{entry-deleted, entry-unique, entry-other}
-use borrow.Author.Needs.{needs}
 use Rattle.pass_clashes.proofs.place_entry.Statement.{statement}
 use Rattle.pass_clashes.proofs.place_entry.Tie as tie
 

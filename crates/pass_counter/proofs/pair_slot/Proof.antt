@@ -2,12 +2,11 @@ use mathlib.Core.Path.{sym}
 use denote.Ref.{now}
 use lib.IntN.{pos}
 use lib.ListN.{getD}
-use borrow.Author.Needs.{sfits-of}
+use borrow.Author.Needs.{sfits-of, needs}
 use Rattle.literals.proofs.Laws.{answer}
 use Rattle.pass_counter.specs.Pairs.{place-in}
 use Rattle.pass_counter.proofs.Places.{slot-long}
 use Rattle.pass_counter.proofs.Steps.{slot-first, slot-second}
-use borrow.Author.Needs.{needs}
 use Rattle.pass_counter.proofs.pair_slot.Statement.{statement}
 use Rattle.pass_counter.proofs.pair_slot.Tie as tie
 

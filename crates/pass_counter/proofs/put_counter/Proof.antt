@@ -1,7 +1,7 @@
 use mathlib.Core.Path.{refl}
 use denote.Ref.{now}
 use Rattle.definition.specs.Counter.{stage-3}
-use Rattle.theory_counter.proofs.Ready.{of-literals}
+use Rattle.theory_counter.specs.Ready.{of-literals}
 use Rattle.pass_counter.proofs.Links.{counter-parts, first-room, rest-room, two-grown}
 use borrow.Author.Needs.{needs}
 use Rattle.pass_counter.proofs.put_counter.Statement.{statement}

@@ -1,11 +1,10 @@
 use Prim.Native.Nat.{_-_}
 use denote.Ref.{now}
-use borrow.Author.Needs.{sfits-of}
+use borrow.Author.Needs.{sfits-of, needs}
 use Rattle.literals.specs.Literal.{negation}
 use Rattle.literals.proofs.Laws.{answer}
 use Rattle.pass_counter.specs.Pairs.{literal-at}
 use Rattle.pass_counter.proofs.Links.{first-made, second-made, third-made, link-2-parts, link-2-more, link-2-last, first-room, second-room, third-room, three-grown}
-use borrow.Author.Needs.{needs}
 use Rattle.pass_counter.proofs.put_link_2.Statement.{statement}
 use Rattle.pass_counter.proofs.put_link_2.Tie as tie
 

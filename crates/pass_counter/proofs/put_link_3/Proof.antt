@@ -1,12 +1,11 @@
 use mathlib.Core.Path.{refl, sym}
 use Prim.Native.Nat.{_-_}
 use denote.Ref.{now}
-use borrow.Author.Needs.{sfits-of}
+use borrow.Author.Needs.{sfits-of, needs}
 use Rattle.literals.specs.Literal.{negation}
 use Rattle.literals.proofs.Laws.{answer}
 use Rattle.pass_counter.specs.Pairs.{literal-at}
 use Rattle.pass_counter.proofs.Links.{grow-as, grown-as, link-3-made}
-use borrow.Author.Needs.{needs}
 use Rattle.pass_counter.proofs.put_link_3.Statement.{statement}
 use Rattle.pass_counter.proofs.put_link_3.Tie as tie
 

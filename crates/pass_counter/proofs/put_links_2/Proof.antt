@@ -5,7 +5,7 @@ use lib.ListN.{length}
 use denote.Ref.{now}
 use Rattle.definition.specs.Lists.{for-from}
 use Rattle.progress.proofs.Laws.{written-length}
-use Rattle.theory_counter.proofs.Ready.{of-literals}
+use Rattle.theory_counter.specs.Ready.{of-literals}
 use Rattle.pass_counter.specs.Growth.{Grown, link-2}
 use Rattle.pass_counter.proofs.Growing.{grown-start, grow-turn, grown-turn}
 use Rattle.pass_counter.proofs.Links.{grow-as, grown-as}

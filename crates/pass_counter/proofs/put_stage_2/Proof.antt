@@ -2,12 +2,11 @@ use mathlib.Core.Path.{refl, _∙_}
 use native.Mathlib.Omega.{arith}
 use Prim.Native.Nat.{_+_}
 use denote.Ref.{now}
-use borrow.Author.Needs.{sfits-of}
+use borrow.Author.Needs.{sfits-of, needs}
 use Rattle.literals.specs.Literal.{negation}
 use Rattle.literals.proofs.Laws.{answer}
 use Rattle.pass_counter.specs.Pairs.{literal-at}
 use Rattle.pass_counter.proofs.Links.{two-passed, new-is, new-negated, lit-is, lit-negated, stage-2-parts, stage-2-more, stage-2-last, first-room, second-room, third-room, three-grown}
-use borrow.Author.Needs.{needs}
 use Rattle.pass_counter.proofs.put_stage_2.Statement.{statement}
 use Rattle.pass_counter.proofs.put_stage_2.Tie as tie
 

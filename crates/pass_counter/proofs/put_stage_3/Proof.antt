@@ -3,9 +3,8 @@ use native.Mathlib.Omega.{arith}
 use Prim.Native.Nat.{_+_, _-_}
 use lib.ListN.{length}
 use denote.Ref.{now}
-use borrow.Author.Needs.{sfits-of}
+use borrow.Author.Needs.{sfits-of, needs}
 use Rattle.pass_counter.proofs.Links.{two-passed, new-is, lit-is, stage-3-parts, stage-3-last, first-room, rest-room, two-grown}
-use borrow.Author.Needs.{needs}
 use Rattle.pass_counter.proofs.put_stage_3.Statement.{statement}
 use Rattle.pass_counter.proofs.put_stage_3.Tie as tie
 

@@ -1,8 +1,7 @@
 use mathlib.Core.Path.{sym}
 use denote.Ref.{now}
-use borrow.Author.Needs.{sfits-of}
+use borrow.Author.Needs.{sfits-of, needs}
 use Rattle.pass_counter.proofs.Steps.{written-as, room-as, cell-is}
-use borrow.Author.Needs.{needs}
 use Rattle.pass_counter.proofs.record_cell.Statement.{statement}
 use Rattle.pass_counter.proofs.record_cell.Tie as tie
 

@@ -3,12 +3,11 @@ use mathlib.Core.List.{[], _∷_}
 use lib.IntN.{ℤ}
 use mir.Syntax.{w32}
 use mir.ValLaws.{toZ-ofZ}
-use borrow.Author.Needs.{sfits-of}
+use borrow.Author.Needs.{sfits-of, needs}
 use Rattle.literals.specs.Literal.{negation}
 use Rattle.literals.proofs.Laws.{answer}
 use Rattle.drat.specs.Lines.{line-of}
 use Rattle.pass_counter.proofs.Steps.{written-as}
-use borrow.Author.Needs.{needs}
 use Rattle.pass_counter.proofs.record_pair.Statement.{statement}
 use Rattle.pass_counter.proofs.record_pair.Tie as tie
 

@@ -4,11 +4,10 @@ use Prim.Native.Nat.{ℕ}
 use lib.ListN.{set}
 use lib.Seq.{set-out}
 use denote.Ref.{now}
-use borrow.Author.Needs.{sfits-of}
+use borrow.Author.Needs.{sfits-of, needs}
 use Rattle.literals.specs.Literal.{index-of, negation}
 use Rattle.literals.proofs.Laws.{answer}
 use Rattle.pass_counter.proofs.Steps.{passed}
-use borrow.Author.Needs.{needs}
 use Rattle.pass_counter.proofs.set_place.Statement.{statement}
 use Rattle.pass_counter.proofs.set_place.Tie as tie
 

@@ -1,11 +1,10 @@
-use borrow.Author.Needs.{needs}
+use borrow.Author.Needs.{needs, sfits-of}
 use mathlib.Core.Path.{_≡_, refl, _∙_}
 use Prim.Native.Nat.{_+_, _-_, _≤_}
 use native.Mathlib.Omega.{arith}
 use lib.IntN.{ℤ, pos}
 use lib.ListN.{length, getD, set}
 use denote.Ref.{now}
-use borrow.Author.Needs.{sfits-of}
 use Rattle.literals.specs.Literal.{index-of, negation}
 use Rattle.literals.proofs.Laws.{at-arg}
 use Rattle.pass_counter.specs.Pairs.{Placed}

@@ -1,11 +1,10 @@
-use mathlib.Core.Path.{_≡_, refl, _∙_}
+use mathlib.Core.Path.{_≡_, refl, _∙_, sym}
 use native.Mathlib.Omega.{arith}
 use Prim.Native.Nat.{_-_}
 use lib.ListN.{length}
 use denote.Ref.{now}
 use Rattle.store.specs.Store.{stored}
 use Rattle.pass_counter.proofs.Walking.{Walking, walking-start, walking-step, walking-end}
-use mathlib.Core.Path.{sym}
 use Rattle.pass_counter.proofs.take_pairs.Statement.{statement}
 use Rattle.pass_counter.proofs.take_pairs.Tie as tie
 

@@ -3,11 +3,10 @@ use native.Mathlib.Omega.{arith}
 use lib.IntN.{ℤ}
 use lib.ListN.{take, drop}
 use denote.Ref.{now}
-use borrow.Author.Needs.{sfits-of}
+use borrow.Author.Needs.{sfits-of, needs}
 use Rattle.literals.proofs.Laws.{at-arg}
 use Rattle.pass_order.specs.Table.{replaced-by}
 use Rattle.pass_order.proofs.Writing.{header-written}
-use borrow.Author.Needs.{needs}
 use Rattle.pass_order.proofs.append_replaced.Statement.{statement}
 use Rattle.pass_order.proofs.append_replaced.Tie as tie
 

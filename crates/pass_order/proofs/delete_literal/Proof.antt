@@ -2,11 +2,10 @@ use lib.ListN.{getD}
 use lib.IntN.{pos}
 use Prim.Native.Nat.{_-_}
 use denote.Ref.{now}
-use borrow.Author.Needs.{sfits-of}
+use borrow.Author.Needs.{sfits-of, needs}
 use Rattle.literals.specs.Literal.{negation}
 use Rattle.literals.proofs.Laws.{answer}
 use Rattle.pass_order.proofs.Deleting.{first-deletable, second-deletable, third-deletable, literal-deletes}
-use borrow.Author.Needs.{needs}
 use Rattle.pass_order.proofs.delete_literal.Statement.{statement}
 use Rattle.pass_order.proofs.delete_literal.Tie as tie
 

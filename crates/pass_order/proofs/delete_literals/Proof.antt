@@ -4,7 +4,7 @@ use Prim.Native.Nat.{_-_, _+_}
 use lib.ListN.{length}
 use denote.Ref.{now}
 use Rattle.definition.specs.Order.{deletions-of}
-use Rattle.theory_counter.proofs.Ready.{of-literals}
+use Rattle.theory_counter.specs.Ready.{of-literals}
 use Rattle.pass_order.proofs.Deleting.{Deleting, deleting-start, deleting-room, deleting-step, deleting-end}
 use Rattle.pass_order.proofs.delete_literals.Statement.{statement}
 use Rattle.pass_order.proofs.delete_literals.Tie as tie

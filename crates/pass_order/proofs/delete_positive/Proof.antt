@@ -5,12 +5,11 @@ use lib.Dec.{ltb}
 use mir.Syntax.{w32}
 use mir.Val.{ofZ, toZ}
 use denote.Ref.{now}
-use borrow.Author.Needs.{sfits-of}
+use borrow.Author.Needs.{sfits-of, needs}
 use lib.Seq.{length-take-le}
 use Rattle.definition.specs.Literals.{Clause}
 use Rattle.pass_order.specs.Order.{Deletable, Deletes}
 use Rattle.pass_order.proofs.Deleting.{positive-is, one-room, two-room, long-room}
-use borrow.Author.Needs.{needs}
 use Rattle.pass_order.proofs.delete_positive.Statement.{statement}
 use Rattle.pass_order.proofs.delete_positive.Tie as tie
 

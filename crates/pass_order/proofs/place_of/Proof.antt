@@ -2,10 +2,9 @@ use mathlib.Core.Path.{sym, ap, _∙_}
 use Prim.Native.Nat.{ℕ}
 use lib.ListN.{getD, List·getD-eq-default}
 use denote.Ref.{now}
-use borrow.Author.Needs.{sfits-of}
+use borrow.Author.Needs.{sfits-of, needs}
 use Rattle.literals.specs.Literal.{index-of, negation}
 use Rattle.literals.proofs.Laws.{answer}
-use borrow.Author.Needs.{needs}
 use Rattle.pass_order.proofs.place_of.Statement.{statement}
 use Rattle.pass_order.proofs.place_of.Tie as tie
 

@@ -1,8 +1,7 @@
 use lib.ListN.{length}
 use denote.Ref.{now}
-use borrow.Author.Needs.{sfits-of}
+use borrow.Author.Needs.{sfits-of, needs}
 use Rattle.pass_order.proofs.Writing.{none-room, none-put, some-room, last-room, some-put}
-use borrow.Author.Needs.{needs}
 use Rattle.pass_order.proofs.put_instead.Statement.{statement}
 use Rattle.pass_order.proofs.put_instead.Tie as tie
 

@@ -1,19 +1,15 @@
-use lib.ListN.{getD}
+use lib.ListN.{getD, length}
 use lib.IntN.{pos}
-use Prim.Native.Nat.{_+_}
+use Prim.Native.Nat.{_+_, _-_}
 use lib.Seq.{sets}
-use borrow.Author.Needs.{sfits-of}
+use borrow.Author.Needs.{sfits-of, needs}
 use Rattle.literals.proofs.Laws.{answer}
 use Rattle.definition.specs.Literals.{Clause}
-use Rattle.pass_order.proofs.Writing.{instead-arg}
-use borrow.Author.Needs.{needs}
+use Rattle.pass_order.proofs.Writing.{instead-arg, Writing, writing-start, writing-room, writing-step, writing-end}
 use mathlib.Core.Path.{ap, _∙_}
 use native.Mathlib.Omega.{arith}
-use Prim.Native.Nat.{_-_}
-use lib.ListN.{length}
 use denote.Ref.{now}
 use Rattle.pass_order.specs.Table.{place-in, instead-by}
-use Rattle.pass_order.proofs.Writing.{Writing, writing-start, writing-room, writing-step, writing-end}
 use Rattle.pass_order.proofs.put_replaced.Statement.{statement}
 use Rattle.pass_order.proofs.put_replaced.Tie as tie
 

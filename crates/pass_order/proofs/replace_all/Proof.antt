@@ -4,7 +4,7 @@ use Prim.Native.Nat.{_-_}
 use lib.ListN.{length, take, drop}
 use denote.Ref.{now}
 use Rattle.progress.proofs.Laws.{written-length}
-use Rattle.theory_counter.proofs.Ready.{of-literals}
+use Rattle.theory_counter.specs.Ready.{of-literals}
 use Rattle.pass_order.specs.Order.{front}
 use Rattle.pass_order.proofs.Passing.{Passing, passing-start, passing-before, passing-within, passing-addable, passing-step, passing-end}
 use Rattle.pass_order.proofs.Ordered.{middle-size, pass-room, places-small}

@@ -1,11 +1,10 @@
 use native.Mathlib.Omega.{arith}
 use denote.Ref.{now}
-use borrow.Author.Needs.{sfits-of}
+use borrow.Author.Needs.{sfits-of, needs}
 use Rattle.literals.specs.Literal.{negative, header-literals}
 use Rattle.literals.proofs.Laws.{answer, answered}
 use Rattle.store.specs.Store.{header-at}
 use Rattle.pass_order.proofs.Steps.{step-deleted, step-other, step-addable, deletion-room, step-replaced}
-use borrow.Author.Needs.{needs}
 use Rattle.pass_order.proofs.replace_at.Statement.{statement}
 use Rattle.pass_order.proofs.replace_at.Tie as tie
 

@@ -1,10 +1,9 @@
-use borrow.Author.Needs.{needs}
+use borrow.Author.Needs.{needs, sfits-of}
 use mathlib.Core.Path.{_≡_, refl, _∙_}
 use Prim.Native.Nat.{_-_, _≤_}
 use lib.ListN.{length, getD, drop}
 use lib.IntN.{pos}
 use denote.Ref.{now}
-use borrow.Author.Needs.{sfits-of}
 use Rattle.literals.proofs.Laws.{answered}
 use Rattle.definition.specs.Lists.{all}
 use Rattle.theory_base.proofs.Slices.{all-more, all-miss, all-end}

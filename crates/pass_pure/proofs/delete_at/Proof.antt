@@ -4,14 +4,13 @@ use lib.IntN.{ℤ}
 use mir.Syntax.{w32}
 use mir.Val.{ofZ, toZ}
 use denote.Ref.{now}
-use borrow.Author.Needs.{sfits-of}
+use borrow.Author.Needs.{sfits-of, needs}
 use Rattle.literals.specs.Literal.{negative}
 use Rattle.literals.proofs.Laws.{answered, at-arg}
 use Rattle.store.specs.Store.{header-at}
 use Rattle.store.proofs.Laws.{formed-next}
 use Rattle.pass_pure.proofs.Pass.{at-deleted, at-nothing, at-literal}
 use Rattle.pass_pure.specs.declared.Pure.{Pure}
-use borrow.Author.Needs.{needs}
 use Rattle.pass_pure.proofs.delete_at.Statement.{statement}
 use Rattle.pass_pure.proofs.delete_at.Tie as tie
 

@@ -1,10 +1,9 @@
-use borrow.Author.Needs.{needs}
+use borrow.Author.Needs.{needs, sfits-of}
 use mathlib.Core.Path.{_≡_, refl, _∙_}
 use Prim.Native.Nat.{_-_, _≤_}
 use lib.ListN.{length, getD, drop}
 use lib.IntN.{ℤ, pos}
 use denote.Ref.{now}
-use borrow.Author.Needs.{sfits-of}
 use Rattle.literals.proofs.Laws.{answered, at-arg}
 use Rattle.definition.specs.Lists.{first}
 use Rattle.pass_pure.proofs.Tests.{first-hit, first-miss, first-end}

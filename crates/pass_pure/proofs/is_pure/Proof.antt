@@ -3,11 +3,10 @@ use Prim.Native.Nat.{ℕ}
 use lib.IntN.{ℤ}
 use lib.Dec.{eqb}
 use denote.Ref.{now}
-use borrow.Author.Needs.{sfits-of}
+use borrow.Author.Needs.{sfits-of, needs}
 use Rattle.literals.specs.Literal.{negation}
 use Rattle.literals.proofs.Laws.{answer}
 use Rattle.pass_pure.specs.Table.{count-of}
-use borrow.Author.Needs.{needs}
 use Rattle.pass_pure.proofs.is_pure.Statement.{statement}
 use Rattle.pass_pure.proofs.is_pure.Tie as tie
 

@@ -1,4 +1,4 @@
-use borrow.Author.Needs.{needs}
+use borrow.Author.Needs.{needs, sfits-of}
 use Rattle.progress.proofs.Writing.{Others, others-start, others-step, others-end}
 use native.Mathlib.Omega.{arith}
 use Prim.Native.Nat.{_-_}
@@ -6,7 +6,6 @@ use lib.ListN.{length}
 use denote.Ref.{now}
 use mir.Syntax.{w32}
 use mir.Val.{ofZ, toZ}
-use borrow.Author.Needs.{sfits-of}
 use Rattle.progress.proofs.put_others.Statement.{statement}
 use Rattle.progress.proofs.put_others.Tie as tie
 

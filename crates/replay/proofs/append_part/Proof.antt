@@ -1,14 +1,12 @@
-use mathlib.Core.Path.{_∙_}
+use mathlib.Core.Path.{_∙_, refl}
 use native.Mathlib.Omega.{arith}
-use borrow.Author.Needs.{sfits-of}
+use borrow.Author.Needs.{sfits-of, needs}
 use lib.IntN.{ℤ}
 use lib.ListN.{take, drop, length-drop}
 use lib.Seq.{length-take-le}
 use denote.Ref.{now}
-use mathlib.Core.Path.{refl}
 use Rattle.literals.proofs.Laws.{at-arg}
 use Rattle.replay.proofs.Copying.{entry-written}
-use borrow.Author.Needs.{needs}
 use Rattle.replay.proofs.append_part.Statement.{statement}
 use Rattle.replay.proofs.append_part.Tie as tie
 

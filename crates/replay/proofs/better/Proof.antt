@@ -1,7 +1,7 @@
 use mathlib.Core.Path.{_≡_, ap, _∙_}
 use Prim.Native.Nat.{ℕ, _+_, _-_}
 use native.Mathlib.Omega.{arith}
-use borrow.Author.Needs.{sfits-of}
+use borrow.Author.Needs.{sfits-of, needs}
 use lib.ListN.{take, drop}
 use denote.Ref.{now}
 use Rattle.definition.specs.Literals.{same-set}
@@ -10,7 +10,6 @@ use Rattle.literals.proofs.Laws.{answered}
 use Rattle.store.specs.Store.{header-at, size-at}
 use Rattle.store.proofs.Laws.{formed-next}
 use Rattle.replay.proofs.Index.{better-deleted, better-here, better-not}
-use borrow.Author.Needs.{needs}
 use Rattle.replay.proofs.better.Statement.{statement}
 use Rattle.replay.proofs.better.Tie as tie
 

@@ -1,13 +1,12 @@
 use mathlib.Core.Path.{_≡_}
 use Prim.Native.Nat.{_+_, _-_}
 use native.Mathlib.Omega.{arith}
-use borrow.Author.Needs.{sfits-of}
+use borrow.Author.Needs.{sfits-of, needs}
 use denote.Ref.{now}
 use Rattle.literals.specs.Literal.{negative}
 use Rattle.literals.proofs.Laws.{answered}
 use Rattle.store.specs.Store.{header-at, size-at}
 use Rattle.replay.proofs.Carrying.{carried-deletion, carried-addition}
-use borrow.Author.Needs.{needs}
 use Rattle.replay.proofs.carry_line.Statement.{statement}
 use Rattle.replay.proofs.carry_line.Tie as tie
 

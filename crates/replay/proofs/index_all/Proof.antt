@@ -1,11 +1,9 @@
 use borrow.Author.Needs.{needs}
-use borrow.Author.Needs.{needs}
-use mathlib.Core.Path.{_∙_}
+use mathlib.Core.Path.{_∙_, sym}
 use Prim.Native.Nat.{_-_}
 use native.Mathlib.Omega.{arith}
 use denote.Ref.{now}
 use Rattle.replay.proofs.Indexing.{Indexing, indexing-start, entry-rest, link-inside, entry-there, indexing-step, indexing-end}
-use mathlib.Core.Path.{sym}
 use Rattle.replay.proofs.index_all.Statement.{statement}
 use Rattle.replay.proofs.index_all.Tie as tie
 

@@ -1,13 +1,12 @@
 use mathlib.Core.Path.{_≡_}
 use Prim.Native.Nat.{_-_}
 use native.Mathlib.Omega.{arith}
-use borrow.Author.Needs.{sfits-of}
+use borrow.Author.Needs.{sfits-of, needs}
 use denote.Ref.{now}
 use Rattle.literals.specs.Literal.{header-literals}
 use Rattle.literals.proofs.Laws.{answer, literals-within}
 use Rattle.store.specs.Store.{header-at, size-at}
 use Rattle.replay.proofs.Lines.{last-fits, last-line}
-use borrow.Author.Needs.{needs}
 use Rattle.replay.proofs.line_start.Statement.{statement}
 use Rattle.replay.proofs.line_start.Tie as tie
 

@@ -1,11 +1,10 @@
 use mathlib.Core.Path.{refl, ap, _∙_}
 use Prim.Native.Nat.{_+_}
-use borrow.Author.Needs.{sfits-of}
+use borrow.Author.Needs.{sfits-of, needs}
 use lib.IntN.{ℤ}
 use lib.ListN.{set}
 use denote.Ref.{now}
 use Rattle.literals.proofs.Laws.{at-arg}
-use borrow.Author.Needs.{needs}
 use Rattle.replay.proofs.link_entry.Statement.{statement}
 use Rattle.replay.proofs.link_entry.Tie as tie
 

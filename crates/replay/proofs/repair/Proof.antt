@@ -1,13 +1,12 @@
 use mathlib.Core.Path.{sym, ap, _∙_}
 use native.Mathlib.Omega.{arith}
-use borrow.Author.Needs.{sfits-of}
+use borrow.Author.Needs.{sfits-of, needs}
 use lib.IntN.{ℤ, pos}
 use lib.ListN.{getD}
 use denote.Ref.{now}
 use Rattle.literals.proofs.Laws.{at-arg}
 use Rattle.answer.specs.Table.{marked, naming}
 use Rattle.replay.proofs.Carrying.{repaired-none, repaired-kept, repaired-first}
-use borrow.Author.Needs.{needs}
 use Rattle.replay.proofs.repair.Statement.{statement}
 use Rattle.replay.proofs.repair.Tie as tie
 

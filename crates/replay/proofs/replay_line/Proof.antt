@@ -2,7 +2,7 @@ use Rattle.replay.specs.declared.Replayed.the-variants as Replayed
 use mathlib.Core.Path.{_≡_}
 use Prim.Native.Nat.{_+_}
 use native.Mathlib.Omega.{arith}
-use borrow.Author.Needs.{sfits-of}
+use borrow.Author.Needs.{sfits-of, needs}
 use denote.Ref.{now}
 use lib.ListN.{length, drop, length-drop}
 use lib.Seq.{length-take-le}
@@ -11,7 +11,6 @@ use Rattle.literals.proofs.Laws.{answer, answered, literals-within}
 use Rattle.store.specs.Store.{stored, header-at, size-at, clause-at}
 use Rattle.replay.specs.Replayed.{between, Clause-added}
 use Rattle.replay.proofs.Replaying.{added-line, replays-addition, replays-deletion}
-use borrow.Author.Needs.{needs}
 use Rattle.replay.proofs.replay_line.Statement.{statement}
 use Rattle.replay.proofs.replay_line.Tie as tie
 

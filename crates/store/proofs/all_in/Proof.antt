@@ -1,11 +1,10 @@
-use borrow.Author.Needs.{needs}
+use borrow.Author.Needs.{needs, sfits-of}
 use mathlib.Core.Bool.{Bool}
 use mathlib.Core.Path.{_≡_, refl, _∙_}
 use Prim.Native.Nat.{_-_, _≤_}
 use lib.ListN.{length, getD, drop}
 use lib.IntN.{ℤ, pos}
 use denote.Ref.{now}
-use borrow.Author.Needs.{sfits-of}
 use Rattle.literals.proofs.Laws.{answered}
 use Rattle.definition.specs.Lists.{all}
 use Rattle.definition.specs.Literals.{holds}

@@ -10,7 +10,6 @@ use lib.IntN.{ℤ}
 use denote.Ref.{now}
 use Rattle.literals.specs.Literal.{largest, header-of}
 use Rattle.literals.proofs.Laws.{at-arg}
-use borrow.Author.Needs.{needs}
 use Rattle.store.proofs.append_clause.Statement.{statement}
 use Rattle.store.proofs.append_clause.Tie as tie
 

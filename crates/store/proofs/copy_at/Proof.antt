@@ -1,4 +1,4 @@
-use borrow.Author.Needs.{needs}
+use borrow.Author.Needs.{needs, sfits-of}
 use mathlib.Core.Path.{_≡_, refl, sym, ap, _∙_}
 use mathlib.Core.List.{List}
 use Prim.Native.Nat.{_+_, _-_, _≤_}
@@ -6,7 +6,6 @@ use lib.ListN.{length, getD, drop, set, length-set}
 use lib.Seq.{sets}
 use lib.IntN.{ℤ, pos}
 use denote.Ref.{now}
-use borrow.Author.Needs.{sfits-of}
 use Rattle.literals.proofs.Laws.{at-arg}
 use Rattle.theory_base.proofs.Slices.{sets-step, drop-end}
 use native.Mathlib.Nat.{add-zero}

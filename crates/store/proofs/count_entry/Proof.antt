@@ -9,7 +9,6 @@ use Rattle.literals.proofs.Laws.{answered}
 use Rattle.store.specs.Store.{header-at, size-at}
 use Rattle.store.specs.Tally.{tallied}
 use Rattle.store.proofs.Laws.{formed-next}
-use borrow.Author.Needs.{needs}
 use Rattle.store.proofs.count_entry.Statement.{statement}
 use Rattle.store.proofs.count_entry.Tie as tie
 

@@ -6,7 +6,6 @@ use denote.Ref.{now}
 use Rattle.literals.specs.Literal.{negative, header-literals}
 use Rattle.literals.proofs.Laws.{answer, answered, literals-within}
 use Rattle.store.specs.Store.{header-at}
-use borrow.Author.Needs.{needs}
 use Rattle.store.proofs.filled_by.Statement.{statement}
 use Rattle.store.proofs.filled_by.Tie as tie
 

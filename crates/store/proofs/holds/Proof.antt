@@ -1,10 +1,9 @@
-use borrow.Author.Needs.{needs}
+use borrow.Author.Needs.{needs, sfits-of}
 use mathlib.Core.Path.{_≡_, refl, _∙_}
 use Prim.Native.Nat.{_-_, _≤_}
 use lib.ListN.{length, getD, drop}
 use lib.IntN.{ℤ, pos}
 use denote.Ref.{now}
-use borrow.Author.Needs.{sfits-of}
 use Rattle.definition.specs.Literals.{same, holds}
 use Rattle.literals.proofs.Laws.{at-arg, answered}
 use Rattle.theory_base.proofs.Slices.{any-hit, any-miss, any-end}

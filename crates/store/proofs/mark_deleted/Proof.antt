@@ -2,10 +2,9 @@ use mathlib.Core.Path.{ap, _∙_}
 use lib.ListN.{getD, set}
 use lib.IntN.{ℤ, pos}
 use denote.Ref.{now}
-use borrow.Author.Needs.{sfits-of}
+use borrow.Author.Needs.{sfits-of, needs}
 use Rattle.literals.specs.Literal.{flip}
 use Rattle.literals.proofs.Laws.{at-arg}
-use borrow.Author.Needs.{needs}
 use Rattle.store.proofs.mark_deleted.Statement.{statement}
 use Rattle.store.proofs.mark_deleted.Tie as tie
 

@@ -10,7 +10,6 @@ use Rattle.literals.proofs.Laws.{answered}
 use Rattle.store.specs.Store.{header-at, size-at}
 use Rattle.store.proofs.Laws.{formed-next}
 use Rattle.store.proofs.Finding.{matches-deleted, matches-stands}
-use borrow.Author.Needs.{needs}
 use Rattle.store.proofs.matches.Statement.{statement}
 use Rattle.store.proofs.matches.Tie as tie
 

@@ -1,11 +1,10 @@
-use borrow.Author.Needs.{needs}
+use borrow.Author.Needs.{needs, sfits-of}
 use mathlib.Core.Path.{_≡_, refl, sym, ap, _∙_}
 use Prim.Native.Nat.{ℕ, _+_, _-_, _≤_}
 use native.Mathlib.Omega.{arith}
 use lib.ListN.{length, getD, take, drop, set, length-set}
 use lib.Seq.{sets}
 use lib.IntN.{ℤ, pos}
-use borrow.Author.Needs.{sfits-of}
 use Rattle.literals.proofs.Laws.{at-arg}
 use Rattle.theory_base.proofs.Slices.{move-step}
 use native.Mathlib.Nat.{add-zero, sub-zero}

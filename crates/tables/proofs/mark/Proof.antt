@@ -1,11 +1,10 @@
 use mathlib.Core.Path.{ap, _∙_}
 use native.Mathlib.Omega.{arith}
 use denote.Ref.{now}
-use borrow.Author.Needs.{sfits-of}
+use borrow.Author.Needs.{sfits-of, needs}
 use Rattle.literals.specs.Literal.{index-of, negation}
 use Rattle.literals.proofs.Laws.{answer}
 use Rattle.tables.proofs.Laws.{place-within, negation-within, mark-repeated, mark-opposed, mark-new}
-use borrow.Author.Needs.{needs}
 use Rattle.tables.proofs.mark.Statement.{statement}
 use Rattle.tables.proofs.mark.Tie as tie
 

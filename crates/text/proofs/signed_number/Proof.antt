@@ -1,9 +1,8 @@
 use Rattle.literals.proofs.Laws.{at-arg}
 use mathlib.Core.Path.{ap, _∙_}
-use borrow.Author.Needs.{sfits-of}
+use borrow.Author.Needs.{sfits-of, needs}
 use Rattle.text.specs.declared.Number.the-variants as Number
 use Rattle.text.proofs.Numbers.{sign-some}
-use borrow.Author.Needs.{needs}
 use Rattle.text.proofs.signed_number.Statement.{statement}
 use Rattle.text.proofs.signed_number.Tie as tie
 

@@ -7,8 +7,7 @@ use lib.ListN.{length}
 use Rattle.definition.specs.Literals.{Formula, Clause}
 use Rattle.definition.specs.Events.{Choice}
 use Rattle.definition.specs.Clearing.{times}
-use Rattle.theory_base.proofs.Members.{Same, Proper}
-use Rattle.theory_base.proofs.Fitting.{Fit-all}
+use Rattle.theory_base.specs.Clauses.{Same, Proper, Fit-all}
 
 -- a choice of two or more literals, all of its variables before the new ones
 pub record Well-formed (k : Choice) : Type 0 where

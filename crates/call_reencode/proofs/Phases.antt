@@ -30,7 +30,7 @@ use Rattle.progress.specs.Progress.{Log-room, Ran}
 use Rattle.progress.proofs.Laws.{room-first, room-rest, ran-holds, ran-written, ran-join, ran-as}
 use Rattle.pass_pure.specs.Pass.{Pure-ready}
 use Rattle.pass_choose.specs.Collecting.{Collectable, Collected}
-use Rattle.theorems.proofs.Log.{chosen-parted}
+use Rattle.theory_run.proofs.LogSound.{chosen-parted}
 use Rattle.theory_base.specs.Clauses.{Fits}
 use Rattle.pass_clashes.specs.Clashes.{Clash-ready}
 use Rattle.theory_run.specs.Choices as Bounds
@@ -42,7 +42,7 @@ use Rattle.theory_run.proofs.Choices.{choices-taken, few-variables}
 use Rattle.store.specs.Store.{stored}
 use Rattle.pass_align.specs.Aligned.{Alignable-store, Aligned}
 use Rattle.theory_counter.specs.Ready.{of-literals}
-use Rattle.theorems.proofs.Steps.{events-from-clashes}
+use Rattle.theory_run.proofs.Steps.{events-from-clashes}
 use Rattle.call_reencode.specs.Choosing.{Takeable, All-takeable, finished, at-choice, taken-events, All-ready}
 use Rattle.call_reencode.specs.Run.{wish-of, input-in, start-at, Run-ready, Arranged}
 

@@ -28,7 +28,7 @@ use Rattle.progress.proofs.Laws.{lines-one, room-first, room-rest, ran-join, ra
 use Rattle.pass_counter.specs.Choice.{Choice-ready, Taken}
 use Rattle.pass_order.specs.Order.{Order-ready}
 use Rattle.theory_counter.specs.Ready.{of-literals}
-use Rattle.theorems.proofs.Choices.{before-order as before-choice}
+use Rattle.theory_run.proofs.ChoicesSound.{before-order as before-choice}
 use Rattle.theory_run.proofs.OpenClause.{before-open}
 use Rattle.theory_run.proofs.Choices.{front-proper-of}
 use Rattle.call_reencode.specs.Choosing.{form-of, Takeable, One-ready}

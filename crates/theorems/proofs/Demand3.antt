@@ -10,7 +10,7 @@ use Rattle.theory_base.proofs.Replay.{leads-cut, leads-replay}
 use Rattle.theory_soundness.proofs.Sound.{into-none, Sound, sound-leads, Can, cut, exactly-one}
 use Rattle.theory_text.proofs.Accepted.{accepted}
 use Rattle.theorems.specs.Demand3.{standing, Demand-3-holds}
-use Rattle.theorems.proofs.Log.{log-sound}
+use Rattle.theory_run.proofs.LogSound.{log-sound}
 
 can-satisfiable : (f : Formula) → Can f → Satisfiable f
 can-satisfiable f s = record { by = s .0; holds = sat-satisfies (s .0) f (s .1) }

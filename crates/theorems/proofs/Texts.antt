@@ -2,9 +2,8 @@
 use Prim.Native.Nat.{_≤_}
 use lib.ListN.{length}
 use Rattle.definition.specs.Literals.{literals-of}
-use Rattle.definition.specs.Reading.{Input, input-limits, read-back-limits}
-use Rattle.definition.specs.Reencoding.{Settings, input, log, result, highest-used}
-use Rattle.theory_soundness.proofs.Sound.{sound-leads}
+use Rattle.definition.specs.Reading.{input-limits, read-back-limits}
+use Rattle.definition.specs.Reencoding.{log, result, highest-used}
 use Rattle.theory_text.proofs.Accepted.{accepted}
 use Rattle.theory_text.specs.Accepted.{Accepted}
 use Rattle.theory_text.proofs.FormulaText.{formula-read-back}
@@ -14,12 +13,7 @@ use Rattle.theory_room.proofs.Room.{room}
 use Rattle.theory_room.proofs.Limits.{result-proper, result-fits, log-line-limit, highest-limit, clauses-limit, literals-limit}
 use Rattle.theorems.specs.Demand3.{standing}
 use Rattle.theorems.specs.Texts.{Texts-hold}
-use Rattle.theorems.proofs.Log.{log-sound}
-
--- what the bounds ask of a run holds where the formula was accepted
-pub accepted-run : (s : Settings) (i : Input) → Accepted input-limits i → Run s i
-unfolding input
-accepted-run s i a = record { proper = a .proper; fits = a .fits; leads = sound-leads (log-sound s i (a .proper) (a .fits)) }
+use Rattle.theory_run.proofs.LogSound.{accepted-run}
 
 pub texts : Texts-hold
 unfolding Texts-hold standing input-limits read-back-limits

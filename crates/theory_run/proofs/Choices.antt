@@ -38,10 +38,9 @@ use Rattle.theory_room.proofs.Rises.{risen, taken-changes}
 use Rattle.theory_room.proofs.Additions.{numbers}
 use Rattle.theory_room.proofs.Runs.{Run, choosing, events-are, chosen-mem, arranges, run-risen, weight-after, few-new-variables, literal-weight, literal-most, literal-least, weight-most, weight-least}
 use Rattle.theory_room.proofs.Compaction.{choices-split, first-to}
-use Rattle.theorems.proofs.Log.{chosen-parted, chosen-ready}
-use Rattle.theorems.proofs.Texts.{accepted-run}
-use Rattle.theorems.proofs.Steps.{steps}
-use Rattle.theorems.proofs.Choices.{before-order}
+use Rattle.theory_run.proofs.LogSound.{chosen-parted, chosen-ready, accepted-run}
+use Rattle.theory_run.proofs.Steps.{steps}
+use Rattle.theory_run.proofs.ChoicesSound.{before-order}
 use Rattle.theory_run.specs.Choices.{events-up-to, Takeable, At-choice, Choices-taken}
 use Rattle.theory_run.proofs.Splits.{choice-alone, ready-after}
 use Rattle.theory_run.proofs.Variables.{chosen-few}

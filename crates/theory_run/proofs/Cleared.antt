@@ -18,8 +18,8 @@ use Rattle.theory_room.proofs.Rises.{clearing-risen}
 use Rattle.theory_room.proofs.Cleared.{Clearing, clearing-event, cleared-after}
 use Rattle.theory_room.specs.Choices.{clearing}
 use Rattle.theory_room.proofs.Runs.{choosing, events-are, weight-after, literal-weight, literal-most, literal-least, weight-most, weight-least}
-use Rattle.theorems.proofs.Texts.{accepted-run}
-use Rattle.theorems.proofs.Steps.{events-from-clashes}
+use Rattle.theory_run.proofs.LogSound.{accepted-run}
+use Rattle.theory_run.proofs.Steps.{events-from-clashes}
 use Rattle.theory_run.specs.Sizes.{Standing-cleared}
 
 module _ (i : Input) (a : Accepted input-limits i) where

@@ -5,3 +5,6 @@ pub mod Cleared
 pub mod LogLength
 pub mod Sizes
 pub mod OpenClause
+pub mod ChoicesSound
+pub mod LogSound
+pub mod Steps

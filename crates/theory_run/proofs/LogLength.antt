@@ -28,9 +28,8 @@ use Rattle.theory_room.proofs.Cleared.{clearing-event, clearing-lines-to}
 use Rattle.theory_room.proofs.Additions.{numbers, clearing-adds}
 use Rattle.theory_text.specs.Accepted.{Accepted}
 use Rattle.theory_room.proofs.Runs.{Run, choosing, events-are, weight-most, log-to, log-proper}
-use Rattle.theorems.proofs.Log.{chosen-parted}
-use Rattle.theorems.proofs.Texts.{accepted-run}
-use Rattle.theorems.proofs.Steps.{steps}
+use Rattle.theory_run.proofs.LogSound.{chosen-parted, accepted-run}
+use Rattle.theory_run.proofs.Steps.{steps}
 use Rattle.theory_run.specs.Sizes.{Short}
 use Rattle.theory_run.proofs.Variables.{chosen-few}
 use Rattle.theory_run.proofs.Choices.{at-choice}

@@ -24,9 +24,8 @@ use Rattle.theory_room.proofs.Weights.{weight, gained, added}
 use Rattle.theory_room.proofs.Additions.{numbers}
 use Rattle.theory_room.proofs.Runs.{choosing}
 use Rattle.theory_room.proofs.Limits.{result-fits, clauses-limit, literals-limit}
-use Rattle.theorems.proofs.Log.{chosen-parted}
-use Rattle.theorems.proofs.Texts.{accepted-run}
-use Rattle.theorems.proofs.Steps.{steps, events-from-clashes}
+use Rattle.theory_run.proofs.LogSound.{chosen-parted, accepted-run}
+use Rattle.theory_run.proofs.Steps.{steps, events-from-clashes}
 use Rattle.theory_room.specs.Choices.{standing-after-first, next-choice}
 use Rattle.theory_run.specs.Choices.{events-up-to}
 use Rattle.theory_run.specs.Sizes.{Sizes}

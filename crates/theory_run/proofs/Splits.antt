@@ -11,7 +11,7 @@ use Rattle.theory_base.specs.Clauses.{Parted, Fits}
 use Rattle.theory_base.proofs.Replay.{after-++, lines-++}
 use Rattle.theory_counter.specs.Ready.{Ready}
 use Rattle.theory_room.specs.Choices.{as-choice}
-use Rattle.theorems.proofs.Choices.{after-events, after-fits, still-ready}
+use Rattle.theory_run.proofs.ChoicesSound.{after-events, after-fits, still-ready}
 
 -- all these choices can be taken where F stands
 abbrev pub All-ready : (Clause → Clause) → Formula → List Clause → Type 0

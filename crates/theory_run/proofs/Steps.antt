@@ -19,8 +19,7 @@ use Rattle.theory_room.proofs.Runs.{choosing}
 use Rattle.theory_room.proofs.Room.{event-room, standing-room}
 use Rattle.theory_room.proofs.Compaction.{choice-room}
 use Rattle.theory_room.specs.Choices.{standing-after-first, next-choice}
-use Rattle.theorems.proofs.Log.{chosen-parted}
-use Rattle.theorems.proofs.Texts.{accepted-run}
+use Rattle.theory_run.proofs.LogSound.{chosen-parted, accepted-run}
 
 -- at each start: what stands there, and all that is added until the next
 pub record Steps (s : Settings) (i : Input) : Type 0 where

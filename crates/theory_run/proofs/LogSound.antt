@@ -9,7 +9,7 @@ use lib.Dec.{T}
 use lib.IntN.{ℤ}
 use Rattle.definition.specs.Lists.{those}
 use Rattle.definition.specs.Literals.{Clause, Formula}
-use Rattle.definition.specs.Reading.{Input}
+use Rattle.definition.specs.Reading.{Input, input-limits}
 use Rattle.definition.specs.Standing.{after}
 use Rattle.definition.specs.Clearing.{times, unique, clear-clashes, clear-pure}
 use Rattle.definition.specs.Counter.{choice-size, choices, size}
@@ -26,9 +26,10 @@ use Rattle.theory_clearing.proofs.Pure.{pure-sound}
 use Rattle.theory_clearing.proofs.Cleared.{cleared-facts}
 use Rattle.theory_room.proofs.Lines.{ordered-size}
 use Rattle.theory_room.specs.Choices.{as-choice, order-of}
-use Rattle.theory_room.proofs.Runs.{choosing, chosen-mem, chosen-arranges}
+use Rattle.theory_room.proofs.Runs.{choosing, chosen-mem, chosen-arranges, Run}
 use Rattle.theory_counter.specs.Ready.{Ready}
-use Rattle.theorems.proofs.Choices.{choices-sound}
+use Rattle.theory_run.proofs.ChoicesSound.{choices-sound}
+use Rattle.theory_text.specs.Accepted.{Accepted}
 
 -- ---- the choices have no variable in common
 module _ (F : Formula) (free : Clash-free F) where
@@ -92,3 +93,8 @@ module _ (s : Settings) (i : Input) (proper : Proper-all (i .formula)) (fits : F
   pub log-sound : Sound (input s i) (events s i) (log s i) (result s i) []
   unfolding result
   log-sound = rw (leads-after (sound-leads whole)) whole
+
+-- what the bounds ask of a run holds where the formula was accepted
+pub accepted-run : (s : Settings) (i : Input) → Accepted input-limits i → Run s i
+unfolding input
+accepted-run s i a = record { proper = a .proper; fits = a .fits; leads = sound-leads (log-sound s i (a .proper) (a .fits)) }

@@ -21,4 +21,4 @@ pub record Texts (s : Settings) (i : Input) : Type 0 where
 
 -- the theorem, proved as `texts` in proofs/Texts
 unfoldable pub Texts-hold : Type 0
-Texts-hold = (t : Bytes) (i : Input) → read-formula input-limits t ≡ value i → (s : Settings) → Texts s i
+Texts-hold = (t : Bytes) (i : Input) → read-input t ≡ value i → (s : Settings) → Texts s i

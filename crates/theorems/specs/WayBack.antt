@@ -18,7 +18,7 @@ use Rattle.theorems.specs.Demand3.{standing}
 -- a call of walk-back on the log that reencoding writes for the formula, with j lines kept and an answer u
 pub record Walk (s : Settings) (t : Bytes) (i : Input) (workspace room j : ℕ) (u : Bytes) (named : Clause) : Type 0 where
   -- the formula is accepted, and the log has that many lines
-  pub accepted : read-formula input-limits t ≡ value i
+  pub accepted : read-input t ≡ value i
   pub kept : j ≤ length (log s i)
   -- the answer is in the layout, and satisfies what stands
   pub answered : read-answer (highest-allowed i (take j (log s i))) u ≡ value named

@@ -13,7 +13,7 @@ use Rattle.definition.specs.Reading.{Input, input-limits}
 use Rattle.definition.specs.Events.{Choice, Event, clause-replaced, literals-deleted}
 use Rattle.definition.specs.Counter.{below-new, last-new, counter, take-choice}
 use Rattle.definition.specs.Order.{replacement-lines, replaced, replace, order-events}
-use Rattle.definition.specs.Reencoding.{lines-of, lines, Form, counter-form, order-form, Settings, choice-events, choices-events, cleared, chosen, input, events, log, result}
+use Rattle.definition.specs.Reencoding.{lines-of, lines, Form, counter-form, order-form, Settings, choice-events, choices-events, cleared, chosen, events, log, result}
 use Rattle.definition.specs.Calls.{workspace-need, numbers-of}
 use Rattle.theory_base.specs.Clauses.{Parted, Proper-all, Fits, Fit-all}
 use Rattle.theory_base.proofs.Sums.{sum-++, sum-≤, sum-for-each}
@@ -100,7 +100,7 @@ module _ (F : Formula) (k : Choice) (f : Fits (k .below) F) (r : Ready F k) wher
       (List·Memᴰ·append-cases F (mem-removes (front-removes F k f r) m))
 
 -- the variables are within the tables' reach
-pub few-variables : {i : Input} → Accepted input-limits i → i .variables ≤ 8_000
+pub few-variables : {i : Input} → Accepted input-limits i → i .highest ≤ 8_000
 unfolding input-limits
 few-variables a = a .variables-few
 
@@ -121,21 +121,21 @@ module _ (i : Input) (a : Accepted input-limits i) (s : Settings) where
     k : Choice
     k = next-choice s i cs c
 
-    arranged-first : Arranges (i .variables) (order-of s i) cs
+    arranged-first : Arranges (i .highest) (order-of s i) cs
     arranged-first d m = arranges s i run d (rw e (Memᴰ·append-left (c ∷ ds) m))
 
     next-in : List·Memᴰ c (chosen s i)
     next-in = rw e (Memᴰ·append-right cs (here refl))
 
-    F-to : All-clauses (Proper-to (i .variables + new-variables cs)) F
+    F-to : All-clauses (Proper-to (i .highest + new-variables cs)) F
     unfolding F
     F-to = first-to s i run parted cs ds c e
 
     ready-k : Ready F k
     unfolding F k standing-after-first events-of-first
     ready-k =
-        ready-after (s .form) (order-of s i) (i .variables) (cleared (i .formula)) cs (c ∷ ds) (cleared-facts (a .proper) (a .fits) .1)
-        (λ d m. chosen-ready s i (a .proper) (a .fits) d (rw e m)) (rw e at parted) c (here refl) (i .variables + new-variables cs)
+        ready-after (s .form) (order-of s i) (i .highest) (cleared (i .formula)) cs (c ∷ ds) (cleared-facts (a .proper) (a .fits) .1)
+        (λ d m. chosen-ready s i (a .proper) (a .fits) d (rw e m)) (rw e at parted) c (here refl) (i .highest + new-variables cs)
 
     fits-k : Fits (k .below) F
     unfolding k below-new
@@ -143,13 +143,13 @@ module _ (i : Input) (a : Accepted input-limits i) (s : Settings) where
 
     k-length : length (k .literals) ≡ length c
     unfolding k
-    k-length = ordered-length (i .variables) (order-of s i) (chosen s i) (arranges s i run) c next-in
+    k-length = ordered-length (i .highest) (order-of s i) (chosen s i) (arranges s i run) c next-in
 
-    old-k : Fit-all (i .variables) (k .literals)
+    old-k : Fit-all (i .highest) (k .literals)
     unfolding k
-    old-k = proper-fit (ordered-proper (i .variables) (order-of s i) (chosen s i) (arranges s i run) c next-in)
+    old-k = proper-fit (ordered-proper (i .highest) (order-of s i) (chosen s i) (arranges s i run) c next-in)
 
-    first-new : new-variables cs ≤ i .variables
+    first-new : new-variables cs ≤ i .highest
     unfolding new-variables
     first-new = omega (arith, chosen-few s i run parted .1, ap new-variables e, sum-++ (λ d. length d - 1) cs (c ∷ ds))
 
@@ -164,8 +164,8 @@ module _ (i : Input) (a : Accepted input-limits i) (s : Settings) where
     first-split : choosing s i ≡ events-of-first s i cs ++ (es ++ rest)
     unfolding choosing F k es rest standing-after-first events-of-first choices-events
     first-split =
-        ap (choices-events (s .form) (order-of s i) (i .variables) (cleared (i .formula))) e
-        ∙ choices-split (s .form) (order-of s i) (i .variables) (cleared (i .formula)) cs (c ∷ ds) arranged-first
+        ap (choices-events (s .form) (order-of s i) (i .highest) (cleared (i .formula))) e
+        ∙ choices-split (s .form) (order-of s i) (i .highest) (cleared (i .formula)) cs (c ∷ ds) arranged-first
 
     events-split : events s i ≡ events-up-to s i cs ++ (es ++ rest)
     unfolding events-up-to
@@ -177,8 +177,8 @@ module _ (i : Input) (a : Accepted input-limits i) (s : Settings) where
     first-more : events-of-first s i (cs ++ (c ∷ [])) ≡ events-of-first s i cs ++ es
     unfolding F k es standing-after-first events-of-first
     first-more =
-        choices-split (s .form) (order-of s i) (i .variables) (cleared (i .formula)) cs (c ∷ []) arranged-first
-        ∙ ap (λ (xs : List Event). events-of-first s i cs ++ xs) (choice-alone (s .form) (order-of s i) (i .variables + new-variables cs) F c)
+        choices-split (s .form) (order-of s i) (i .highest) (cleared (i .formula)) cs (c ∷ []) arranged-first
+        ∙ ap (λ (xs : List Event). events-of-first s i cs ++ xs) (choice-alone (s .form) (order-of s i) (i .highest + new-variables cs) F c)
 
     stands-F : after (i .formula) (lines (events-up-to s i cs)) ≡ F
     unfolding F events-up-to standing-after-first
@@ -202,12 +202,12 @@ module _ (i : Input) (a : Accepted input-limits i) (s : Settings) where
         ap (λ (xs : List Event). clearing (i .formula) ++ xs) first-more
         ∙ sym (append-assoc (clearing (i .formula)) (events-of-first s i cs) es)
 
-    next-below-of : last-new k ≡ i .variables + new-variables (cs ++ (c ∷ []))
+    next-below-of : last-new k ≡ i .highest + new-variables (cs ++ (c ∷ []))
     unfolding k new-variables sum-of
     next-below-of =
         omega (
           arith,
-          ordered-new (i .variables) (order-of s i) (chosen s i) (arranges s i run) c next-in (i .variables + new-variables cs),
+          ordered-new (i .highest) (order-of s i) (chosen s i) (arranges s i run) c next-in (i .highest + new-variables cs),
           sum-++ (λ d. length d - 1) cs (c ∷ []),
         )
 
@@ -248,7 +248,7 @@ module _ (i : Input) (a : Accepted input-limits i) (s : Settings) where
           least = omega (arith, k-length);
           most = omega (arith, k-length);
           old = old-k;
-          reach = λ x m. fit-up 8_000 (i .variables) x (few-variables a) (old-k x m);
+          reach = λ x m. fit-up 8_000 (i .highest) x (few-variables a) (old-k x m);
           new-few = omega (arith, first-new, (few-variables a));
           few = few-F;
           space = omega (arith, room-F, choice-space (s .form) F k);
@@ -271,7 +271,7 @@ module _ (i : Input) (a : Accepted input-limits i) (s : Settings) where
     }
 
   pub choices-taken : Choices-taken s i
-  unfolding events-up-to events-of-first standing-after-first choices-events choosing clearing new-variables sum-of lines for-each after result log input
+  unfolding events-up-to events-of-first standing-after-first choices-events choosing clearing new-variables sum-of lines for-each after result log
   choices-taken =
       let f = i .formula in
       record {

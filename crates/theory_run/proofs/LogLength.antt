@@ -15,7 +15,7 @@ use Rattle.definition.specs.Events.{Clash, Event}
 use Rattle.definition.specs.Clearing.{clash-lines, lowest-clash, pure-literal, clear-next, clear-up-to, clear-clashes, pure-next, clear-pure-from, clear-pure}
 use Rattle.definition.specs.Counter.{below-new, last-new}
 use Rattle.definition.specs.Log.{clause-text, log-line-text, log-text}
-use Rattle.definition.specs.Reencoding.{lines-of, lines, Settings, choice-events, choices-events, unclashed, cleared, chosen, input, events, log}
+use Rattle.definition.specs.Reencoding.{lines-of, lines, Settings, choice-events, choices-events, unclashed, cleared, chosen, events, log}
 use Rattle.definition.specs.Calls.{workspace-need}
 use Rattle.theory_base.proofs.Digits.{digits-within}
 use Rattle.theory_base.proofs.Loops.{for-each-++, mem-for-each}
@@ -131,9 +131,9 @@ module _ (i : Input) (a : Accepted input-limits i) (s : Settings) where
   unfolding input-limits lines
   clearing-added =
       let f = i .formula in
-      let to = clearing-lines-to (i .variables) f (a .proper) (a .fits) in
+      let to = clearing-lines-to (i .highest) f (a .proper) (a .fits) in
       let each : (e : Event) → List·Memᴰ e (clearing f) → added numbers (lines-of e) ≤ 8_001 =
-      λ e m. omega (arith, clearing-adds (i .variables) e (clearing-event f e m) (λ x j. to x (mem-for-each (clearing f) lines-of e x m j)), a .variables-few) in
+      λ e m. omega (arith, clearing-adds (i .highest) e (clearing-event f e m) (λ x j. to x (mem-for-each (clearing f) lines-of e x m j)), a .variables-few) in
       omega (arith, events-add-most 8_001 (clearing f) each, clearing-few f, unclashed-shorter i a, a .clauses-few)
 
   -- the workspace holds what one choice adds
@@ -143,7 +143,7 @@ module _ (i : Input) (a : Accepted input-limits i) (s : Settings) where
 
   -- the events of the choices ds, taken after cs
   events-of-others : List Clause → List Clause → List Event
-  events-of-others cs ds = choices-events (s .form) (order-of s i) (i .variables + new-variables cs) (standing-after-first s i cs) ds
+  events-of-others cs ds = choices-events (s .form) (order-of s i) (i .highest + new-variables cs) (standing-after-first s i cs) ds
 
   choices-added : (cs ds : List Clause) → chosen s i ≡ cs ++ ds → added numbers (lines (events-of-others cs ds)) ≤ length ds * 1_300_000
   unfolding events-of-others choices-events below-new
@@ -156,7 +156,7 @@ module _ (i : Input) (a : Accepted input-limits i) (s : Settings) where
       let t = at-choice i a s cs ds c e in
       let same : rest ≡ events-of-others (cs ++ (c ∷ [])) ds =
       ap (λ (n : ℕ). choices-events (s .form) (order-of s i) n (after F (lines es)) ds) (t .next-below)
-      ∙ ap (λ (X : Formula). choices-events (s .form) (order-of s i) (i .variables + new-variables (cs ++ (c ∷ []))) X ds) (sym (t .next-stands)) in
+      ∙ ap (λ (X : Formula). choices-events (s .form) (order-of s i) (i .highest + new-variables (cs ++ (c ∷ []))) X ds) (sym (t .next-stands)) in
       omega (
         arith,
         ap (added numbers) (lines-++ es rest),
@@ -170,7 +170,7 @@ module _ (i : Input) (a : Accepted input-limits i) (s : Settings) where
   choosing-added : added numbers (lines (choosing s i)) ≤ length (chosen s i) * 1_300_000
   unfolding choosing events-of-others standing-after-first events-of-first choices-events new-variables sum-of lines for-each after
   choosing-added =
-      let n : i .variables + 0 ≡ i .variables = omega arith in
+      let n : i .highest + 0 ≡ i .highest = omega arith in
       omega (
         arith,
         choices-added [] (chosen s i) refl,
@@ -178,7 +178,7 @@ module _ (i : Input) (a : Accepted input-limits i) (s : Settings) where
       )
 
   log-numbers : sum-of line-numbers (log s i) ≤ 4_900_000_000
-  unfolding log input input-limits
+  unfolding log input-limits
   log-numbers =
       let f = i .formula in
       let few = chosen-few s i run (chosen-parted s i (a .proper) (a .fits)) .2 in

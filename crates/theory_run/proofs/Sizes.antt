@@ -74,7 +74,7 @@ module _ (i : Input) (a : Accepted input-limits i) (s : Settings) where
       let r = accepted-run s i a in
       let parted = chosen-parted s i (a .proper) (a .fits) in
       let few = chosen-few s i r parted in
-      let v : i .variables ≤ 8_000 = a .variables-few in
+      let v : i .highest ≤ 8_000 = a .variables-few in
       let m = clauses-limit s i r v (a .clauses-few) (a .literals-few) in
       let l = literals-limit s i r v (a .clauses-few) (a .literals-few) in
       let h : highest-used s i ≤ 16_000 = omega (arith, highest-is s i r, few .1) in

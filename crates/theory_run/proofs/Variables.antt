@@ -107,24 +107,24 @@ choices-highest form order n f (c ∷ cs) h =
 
 -- ---- of a run
 module _ (s : Settings) (i : Input) (h : Run s i) where
-  pub highest-is : highest-used s i ≡ i .variables + new-variables (chosen s i)
+  pub highest-is : highest-used s i ≡ i .highest + new-variables (chosen s i)
   unfolding highest-used log choosing
   highest-is =
       let f = i .formula in
       omega (
         arith,
         highest-in-le (top s i) (log s i) (λ x m. highest-le (top s i) (literals x) (log-to s i h x m .1)),
-        choices-highest (s .form) (order-of s i) (i .variables) (cleared f) (chosen s i) (arranges s i h),
+        choices-highest (s .form) (order-of s i) (i .highest) (cleared f) (chosen s i) (arranges s i h),
         ap highest-in (ap lines (events-are s i) ∙ lines-++ (clearing f) (choosing s i)),
         highest-in-++ (lines (clearing f)) (lines (choosing s i)),
       )
 
   module _ (parted : Parted (chosen s i)) where
-    pub chosen-proper : Proper-to (i .variables) (choice-literals (chosen s i))
-    chosen-proper = parted-proper (i .variables) (chosen s i) (λ c m. arranges s i h c m .0) parted
+    pub chosen-proper : Proper-to (i .highest) (choice-literals (chosen s i))
+    chosen-proper = parted-proper (i .highest) (chosen s i) (λ c m. arranges s i h c m .0) parted
 
-    pub chosen-few : (literals-of (chosen s i) ≤ i .variables) × (new-variables (chosen s i) ≤ i .variables) × (5 * length (chosen s i) ≤ i .variables)
+    pub chosen-few : (literals-of (chosen s i) ≤ i .highest) × (new-variables (chosen s i) ≤ i .highest) × (5 * length (chosen s i) ≤ i .highest)
     chosen-few =
-        let l = proper-length (i .variables) (choice-literals (chosen s i)) chosen-proper in
+        let l = proper-length (i .highest) (choice-literals (chosen s i)) chosen-proper in
         let r = five-each (chosen s i) (λ c m. chosen-mem s i c m .1) in
         (omega (arith, literals-length (chosen s i)), omega (arith, literals-length (chosen s i), r .0), omega (arith, literals-length (chosen s i), r .1))

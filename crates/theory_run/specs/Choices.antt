@@ -28,7 +28,7 @@ pub record Takeable (s : Settings) (i : Input) (F : Formula) (k : Choice) : Type
   pub ready : Ready F k
   pub least : 5 ≤ length (k .literals)
   pub most : length (k .literals) ≤ 64
-  pub old : Fit-all (i .variables) (k .literals)
+  pub old : Fit-all (i .highest) (k .literals)
   pub reach : Fit-all 8_000 (k .literals)
   pub new-few : k .below + 64 ≤ 16_064
   pub few : length F ≤ 300_000
@@ -44,8 +44,8 @@ pub record Takeable (s : Settings) (i : Input) (F : Formula) (k : Choice) : Type
 pub record At-choice (s : Settings) (i : Input) (cs : List Clause) (c : Clause) (F : Formula) (k : Choice) : Type 0 where
   pub takeable : Takeable s i F k
   -- its new variables are the next numbers above all used
-  pub below : k .below ≡ i .variables + new-variables cs
-  pub next-below : last-new k ≡ i .variables + new-variables (cs ++ (c ∷ []))
+  pub below : k .below ≡ i .highest + new-variables cs
+  pub next-below : last-new k ≡ i .highest + new-variables (cs ++ (c ∷ []))
   -- what stands, and the events up to it
   pub stands : after (i .formula) (lines (events-up-to s i cs)) ≡ F
   pub next-stands : standing-after-first s i (cs ++ (c ∷ [])) ≡ after F (lines (choice-events (s .form) F k))
@@ -58,7 +58,7 @@ pub record At-choice (s : Settings) (i : Input) (cs : List Clause) (c : Clause) 
 pub record Choices-taken (s : Settings) (i : Input) : Type 0 where
   pub at : (cs ds : List Clause) (c : Clause) → chosen s i ≡ cs ++ (c ∷ ds) → At-choice s i cs c (standing-after-first s i cs) (next-choice s i cs c)
   -- before the first
-  pub start-below : i .variables + new-variables [] ≡ i .variables
+  pub start-below : i .highest + new-variables [] ≡ i .highest
   pub start-stands : standing-after-first s i [] ≡ cleared (i .formula)
   pub start-events : events-up-to s i [] ≡ clear-clashes (i .formula) ++ clear-pure (unclashed (i .formula))
   -- after the last

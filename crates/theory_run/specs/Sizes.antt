@@ -26,7 +26,7 @@ pub record Short (ks ls : List Line) : Type 0 where
 -- what stands when no clash is left, or when the pure clauses are deleted too; proved as `unclashed-standing` and `cleared-standing` in proofs/Cleared
 pub record Standing-cleared (i : Input) (F : Formula) : Type 0 where
   pub proper : Proper-all F
-  pub fits : Fits (i .variables) F
+  pub fits : Fits (i .highest) F
   pub free : Clash-free F
   pub few : length F ≤ 20_000
 
@@ -41,11 +41,11 @@ pub record Sizes (s : Settings) (i : Input) : Type 0 where
   pub choice-short : (cs ds : List Clause) (c : Clause) → chosen s i ≡ cs ++ (c ∷ ds) →
       Short (lines (events-up-to s i cs)) (lines (choice-events (s .form) (standing-after-first s i cs) (next-choice s i cs c)))
   -- H
-  pub highest-is : highest-used s i ≡ i .variables + new-variables (chosen s i)
+  pub highest-is : highest-used s i ≡ i .highest + new-variables (chosen s i)
   pub highest-few : highest-used s i ≤ 16_000
   -- the choices: no literal stands in two, so that there are few
   pub chosen-proper : Proper (choice-literals (chosen s i))
-  pub chosen-reach : Fit-all (i .variables) (choice-literals (chosen s i))
+  pub chosen-reach : Fit-all (i .highest) (choice-literals (chosen s i))
   pub chosen-numbers : numbers-of (chosen s i) ≤ 9_600
   pub chosen-count : length (chosen s i) ≤ 1_600
   -- a resolvent fits beside what stands

@@ -13,7 +13,7 @@ use Rattle.definition.specs.Clearing
 use Rattle.definition.specs.Counter
 use Rattle.definition.specs.Order
 use Rattle.definition.specs.Alignment
-use Rattle.definition.specs.Alignment.{no-wish}
+use Rattle.definition.specs.Alignment.{as-listed}
 use Rattle.definition.specs.Events.{Choice}
 use Rattle.definition.specs.Reencoding
 use Rattle.definition.specs.Reencoding.{Settings, order-form, events, Goes-into, taken}
@@ -30,7 +30,7 @@ unfolding first-clause
 choice-f = record { clause = first-clause; literals = first-clause; below = 6 }
 
 order : Settings
-order = record { form = order-form; wish = no-wish }
+order = record { form = order-form; arrangement = as-listed }
 
 first-goes-into : Goes-into choice-f (events order input-f) first-clause
 unfolding first-clause input-f choice-f order Lists.computing Checked.computing Literals.computing Text.computing Reading.computing Standing.computing Clearing.computing Counter.computing Order.computing Alignment.computing Reencoding.computing

@@ -30,7 +30,7 @@ texts t i e s = record {
     run = accepted-run s i a
 
     v : i .variables ≤ 8_000
-    v = a .variables-few
+    v = a .highest-few
 
     c : length (i .formula) ≤ 20_000
     c = a .clauses-few

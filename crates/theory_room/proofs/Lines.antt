@@ -158,6 +158,11 @@ unfolding used-after
 used-least order n [] = omega arith
 used-least order n (c ∷ cs) = omega (arith, last-new-above (order c) n, used-least order (last-new (as-choice n order c)) cs)
 
+pub used-++ : (order : Clause → Clause) (n : ℕ) (cs ds : List Clause) → used-after order n (cs ++ ds) ≡ used-after order (used-after order n cs) ds
+unfolding used-after
+used-++ order n [] ds = refl
+used-++ order n (c ∷ cs) ds = used-++ order (last-new (as-choice n order c)) cs ds
+
 -- no more than the sizes added up
 pub used-most : (order : Clause → Clause) (n : ℕ) (cs : List Clause) → Arranges n order cs → used-after order n cs ≤ n + new-variables cs
 unfolding used-after new-variables sum-of

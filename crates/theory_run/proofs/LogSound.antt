@@ -59,7 +59,7 @@ module _ (s : Settings) (i : Input) (proper : Proper-all (i .formula)) (fits : F
       let F = cleared (i .formula) in
       parted F (facts .2) (λ c. choice-size c && unique F c) (λ c t. and-r (choice-size c) (unique F c) t) F (λ d m. m) (λ x. omega arith)
 
-  pub chosen-ready : (c : Clause) → List·Memᴰ c (chosen s i) → (n : ℕ) → Ready (cleared (i .formula)) (as-choice n (order-of s i) c)
+  pub chosen-ready : (c : Clause) → List·Memᴰ c (chosen s i) → (n : ℕ) → Ready (cleared (i .formula)) c (as-choice n (order-of s i) c)
   unfolding size
   chosen-ready c m n =
       let h = chosen-arranges s i proper fits in
@@ -96,4 +96,4 @@ module _ (s : Settings) (i : Input) (proper : Proper-all (i .formula)) (fits : F
 
 -- what the bounds ask of a run holds where the formula was accepted
 pub accepted-run : (s : Settings) (i : Input) → Accepted input-limits i → Run s i
-accepted-run s i a = record { proper = a .proper; fits = a .fits; leads = sound-leads (log-sound s i (a .proper) (a .fits)) }
+accepted-run s i a = record { proper = a .proper; fits = a .fits; formula-few = a .formula-few; leads = sound-leads (log-sound s i (a .proper) (a .fits)) }

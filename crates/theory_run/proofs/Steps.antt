@@ -26,7 +26,7 @@ pub record Steps (s : Settings) (i : Input) : Type 0 where
   pub clash : (xs ys : List Event) (c : Clash) → clear-clashes (i .formula) ≡ xs ++ (clash-cleared c ∷ ys) → numbers-of (after (i .formula) (lines xs)) + added numbers (clash-lines c) ≤ workspace-need i
   pub pure-pass : numbers-of (unclashed (i .formula)) + added numbers (lines (clear-pure (unclashed (i .formula)))) ≤ workspace-need i
   pub choice : (cs ds : List Clause) (c : Clause) → chosen s i ≡ cs ++ (c ∷ ds) → let F = standing-after-first s i cs in
-      numbers-of F + added numbers (lines (choice-events (s .form) F (next-choice s i cs c))) ≤ workspace-need i
+      numbers-of F + added numbers (lines (choice-events (s .form) F c (next-choice s i cs c))) ≤ workspace-need i
 
 -- the pure pass adds nothing
 pure-adds : {F G : Formula} {es : List Event} → Eliminates F es G → added numbers (lines es) ≡ 0

@@ -8,7 +8,7 @@ use Rattle.definition.specs.Reencoding.{events, log, result}
 use Rattle.theory_base.proofs.Trues.{sat-satisfies, satisfies-sat}
 use Rattle.theory_base.proofs.Replay.{leads-cut, leads-replay}
 use Rattle.theory_soundness.proofs.Sound.{into-none, Sound, sound-leads, Can, cut, exactly-one}
-use Rattle.theory_text.proofs.Accepted.{accepted}
+use Rattle.theory_text.proofs.Accepted.{input-accepted}
 use Rattle.theorems.specs.Demand3.{standing, Demand-3-holds}
 use Rattle.theory_run.proofs.LogSound.{log-sound}
 
@@ -32,4 +32,4 @@ demand-3 t i e s = record {
 }
   where
     sound : Sound (i .formula) (events s i) (log s i) (result s i) []
-    sound = let a = accepted input-limits t i e in log-sound s i (a .proper) (a .fits)
+    sound = let a = input-accepted t i e in log-sound s i (a .proper) (a .fits)

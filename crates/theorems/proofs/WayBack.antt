@@ -17,9 +17,9 @@ use Rattle.definition.specs.Log.{log-text}
 use Rattle.definition.specs.LogReading.{read-log}
 use Rattle.definition.specs.Answer.{read-answer}
 use Rattle.definition.specs.Reencoding.{log}
-use Rattle.definition.specs.Calls.{assigned, answer-text, highest-allowed, log-workspace-need, carry-answer, walk-back}
+use Rattle.definition.specs.Calls.{assigned, answer-text, highest-allowed, log-workspace-need, carry-answer, walk-back, read-input}
 use Rattle.theory_base.proofs.Tests.{to-true}
-use Rattle.theory_text.proofs.Accepted.{accepted}
+use Rattle.theory_text.proofs.Accepted.{input-accepted, input-highest}
 use Rattle.theory_text.proofs.AnswerText.{Answered, answer-read}
 use Rattle.theorems.specs.Demand3.{standing, Demand-3, Demand-3-holds}
 use Rattle.theorems.specs.Texts.{Texts-hold}
@@ -52,7 +52,7 @@ walked s t i workspace room j u named w = record {
       (w .workspace-enough) found (carried-line room i kept (standing s i j) (assigned named) (w .satisfied) satisfied (w .room-enough));
   plan = answered .named;
   readable = answered .reads;
-  satisfying = rw (answered .satisfying (i .formula) (accepted input-limits t i (w .accepted) .fits)) satisfied;
+  satisfying = rw (answered .satisfying (i .formula) (rw (input-highest t i (w .accepted)) at (input-accepted t i (w .accepted) .fits))) satisfied;
 }
   where
     kept : List Line

@@ -7,11 +7,12 @@ use lib.Dec.{T}
 use lib.ListN.{take}
 use Rattle.definition.specs.Checked.{value}
 use Rattle.definition.specs.Literals.{Clause, Formula}
-use Rattle.definition.specs.Reading.{Input, input-limits, read-formula}
+use Rattle.definition.specs.Reading.{Input}
 use Rattle.definition.specs.Text.{Bytes}
 use Rattle.definition.specs.Standing.{after, replay}
 use Rattle.definition.specs.Assignments.{Assignment, satisfies, Satisfiable, Exactly-one, carried-back}
 use Rattle.definition.specs.Events.{Choice}
+use Rattle.definition.specs.Calls.{read-input}
 use Rattle.definition.specs.Reencoding.{Settings, events, log, result, Goes-into}
 
 -- the clauses that stand with j lines kept

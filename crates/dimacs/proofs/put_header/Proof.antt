@@ -1,9 +1,9 @@
 use native.Mathlib.Omega.{arith}
 use Rattle.text.proofs.Output.{number-length}
-use Rattle.drat.proofs.Writing.{header-put}
+use Rattle.dimacs.proofs.FormulaText.{header-put}
 use borrow.Author.Needs.{needs}
-use Rattle.drat.proofs.put_header.Statement.{statement}
-use Rattle.drat.proofs.put_header.Tie as tie
+use Rattle.dimacs.proofs.put_header.Statement.{statement}
+use Rattle.dimacs.proofs.put_header.Tie as tie
 
 slice-aggregate-put-text : tie.Need-slice-aggregate-put-text
 slice-aggregate-put-text c = search needs

@@ -5,9 +5,9 @@ use Rattle.literals.specs.Literal.{negative}
 use Rattle.literals.proofs.Laws.{answered}
 use Rattle.store.specs.Store.{header-at}
 use Rattle.store.proofs.Laws.{formed-next}
-use Rattle.drat.proofs.FormulaText.{entry-length, entry-deleted, entry-written}
-use Rattle.drat.proofs.put_entry.Statement.{statement}
-use Rattle.drat.proofs.put_entry.Tie as tie
+use Rattle.dimacs.proofs.FormulaText.{entry-length, entry-deleted, entry-written}
+use Rattle.dimacs.proofs.put_entry.Statement.{statement}
+use Rattle.dimacs.proofs.put_entry.Tie as tie
 
 mul-is-negative : tie.Need-mul-is-negative
 mul-is-negative c = search needs

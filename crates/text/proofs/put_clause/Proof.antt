@@ -1,9 +1,9 @@
 use native.Mathlib.Omega.{arith}
 use denote.Ref.{now}
-use Rattle.drat.proofs.Writing.{clause-put}
+use Rattle.text.proofs.Writing.{clause-put}
 use borrow.Author.Needs.{needs}
-use Rattle.drat.proofs.put_clause.Statement.{statement}
-use Rattle.drat.proofs.put_clause.Tie as tie
+use Rattle.text.proofs.put_clause.Statement.{statement}
+use Rattle.text.proofs.put_clause.Tie as tie
 
 put-items-requires : tie.Need-put-items-requires
 put-items-requires c κs = search needs

@@ -2,9 +2,9 @@ use borrow.Author.Needs.{needs}
 use Prim.Native.Nat.{_-_}
 use lib.ListN.{length}
 use denote.Ref.{now}
-use Rattle.drat.proofs.Writing.{Copied, copied-start, copied-step, copied-end}
-use Rattle.drat.proofs.put_text.Statement.{statement}
-use Rattle.drat.proofs.put_text.Tie as tie
+use Rattle.text.proofs.Writing.{Copied, copied-start, copied-step, copied-end}
+use Rattle.text.proofs.put_text.Statement.{statement}
+use Rattle.text.proofs.put_text.Tie as tie
 
 abbrev Inv-loop : tie.InvT-loop
 Inv-loop buf₀ at text i₀ buf i = Copied buf₀ at text i buf

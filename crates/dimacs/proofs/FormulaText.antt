@@ -1,7 +1,7 @@
--- The text of the clauses that stand in a store. Assumes nothing.
+-- The text of a header, and of the clauses that stand in a store. Assumes nothing.
 use mathlib.Core.Path.{_≡_, refl, sym, ap, _∙_}
 use mathlib.Core.Bool.{true, false}
-use mathlib.Core.List.{List, [], _++_, append-nil, append-assoc}
+use mathlib.Core.List.{List, [], _∷_, _++_, append-nil, append-assoc}
 use Prim.Native.Nat.{ℕ, _+_, _*_, _-_, _≤_, _<_}
 use native.Mathlib.Omega.{arith}
 use lib.IntN.{ℤ}
@@ -9,14 +9,14 @@ use lib.ListN.{length, take, drop, length-drop}
 use lib.Seq.{length-take-le}
 use Rattle.definition.specs.Lists.{for-each}
 use Rattle.definition.specs.Literals.{Formula}
-use Rattle.definition.specs.Text.{Bytes}
+use Rattle.definition.specs.Text.{Bytes, bytes, digits}
 use Rattle.definition.specs.Log.{clause-text, formula-text}
 use Rattle.theory_base.proofs.Tests.{by-test}
 use Rattle.text.specs.Output.{Put}
 use Rattle.text.proofs.Output.{put-none, put-then, put-same, put-length}
 use Rattle.store.specs.Store.{Formed, stored, deleted-at, size-at, past}
 use Rattle.store.proofs.Laws.{formed-next, rest-deleted, rest-stands, stored-end}
-use Rattle.drat.specs.Lines.{header-text, entry-text}
+use Rattle.dimacs.specs.FormulaText.{header-text, entry-text}
 
 -- ---- an entry
 
@@ -76,7 +76,12 @@ module _ {old buf : Bytes} {from at end : ℕ} {s : List ℤ} (p : Entries old f
   unfolding for-each
   entries-end l = put-same (p .put) (sym (append-nil (p .done)) ∙ ap (λ (f : Formula). p .done ++ for-each f clause-text) (sym (stored-end s at l)) ∙ p .whole)
 
--- the header, then the clauses
+-- ---- the header, then the clauses
+
+pub header-put : {x₀ x₁ x₂ x₃ x₄ x₅ : Bytes} {at a b c d r : ℕ} (h m : ℕ) → Put x₀ at (112 ∷ 32 ∷ 99 ∷ 110 ∷ 102 ∷ 32 ∷ []) a x₁ → Put x₁ a (digits h) b x₂ → Put x₂ b (32 ∷ []) c x₃ → Put x₃ c (digits m) d x₄ → Put x₄ d (10 ∷ []) r x₅ → Put x₀ at (header-text h m) r x₅
+unfolding header-text bytes
+header-put h m p q s t u = put-then (put-then (put-then (put-then p q) s) t) u
+
 pub formula-put : {x y z : Bytes} {m end r : ℕ} (h : ℕ) (f : Formula) → m ≡ length f → Put x 0 (header-text h m) end y → Put y end (for-each f clause-text) r z → Put x 0 (formula-text h f) r z
 unfolding header-text formula-text
 formula-put h f e p q = put-then (rw e at p) q

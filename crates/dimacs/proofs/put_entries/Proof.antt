@@ -3,9 +3,9 @@ use native.Mathlib.Omega.{arith}
 use Prim.Native.Nat.{_-_}
 use lib.ListN.{length}
 use denote.Ref.{now}
-use Rattle.drat.proofs.FormulaText.{Entries, entries-start, entries-step, entries-end}
-use Rattle.drat.proofs.put_entries.Statement.{statement}
-use Rattle.drat.proofs.put_entries.Tie as tie
+use Rattle.dimacs.proofs.FormulaText.{Entries, entries-start, entries-step, entries-end}
+use Rattle.dimacs.proofs.put_entries.Statement.{statement}
+use Rattle.dimacs.proofs.put_entries.Tie as tie
 
 abbrev Inv-loop : tie.InvT-loop
 Inv-loop buf₀ from store end₀ at₀ buf end at = Entries buf₀ from store at end buf

@@ -1,9 +1,9 @@
 use denote.Ref.{now}
 use Rattle.store.specs.Store.{stored}
-use Rattle.drat.proofs.FormulaText.{formula-put}
+use Rattle.dimacs.proofs.FormulaText.{formula-put}
 use borrow.Author.Needs.{needs}
-use Rattle.drat.proofs.write_formula.Statement.{statement}
-use Rattle.drat.proofs.write_formula.Tie as tie
+use Rattle.dimacs.proofs.write_formula.Statement.{statement}
+use Rattle.dimacs.proofs.write_formula.Tie as tie
 
 put-header-requires : tie.Need-put-header-requires
 put-header-requires c κs = search needs

@@ -3,9 +3,9 @@ use native.Mathlib.Omega.{arith}
 use Prim.Native.Nat.{_-_}
 use lib.ListN.{length}
 use denote.Ref.{now}
-use Rattle.drat.proofs.Writing.{Items, items-start, items-step, items-end}
-use Rattle.drat.proofs.put_items.Statement.{statement}
-use Rattle.drat.proofs.put_items.Tie as tie
+use Rattle.text.proofs.Writing.{Items, items-start, items-step, items-end}
+use Rattle.text.proofs.put_items.Statement.{statement}
+use Rattle.text.proofs.put_items.Tie as tie
 
 abbrev Inv-loop : tie.InvT-loop
 Inv-loop buf₀ at clause end₀ i₀ buf end i = Items buf₀ at clause i end buf
@@ -37,9 +37,11 @@ loop-less c = search needs
 
 loop-again : tie.Need-loop-again Inv-loop μ-loop
 loop-again c =
-    let back = c .before .before .before in let put-item-arg2 = back .put-item-arg2 in
+    let back = c .before .before in let put-item = back .put-item in
+    let back = back .before in let put-item-arg2 = back .put-item-arg2 in
     let loop = back .before .before .before .loop in
-    items-step (loop .inv) (search needs) (sfits-of (put-item-arg2 .given)) (c .before .before .put-item .ensures)
+    items-step (loop .inv) (search needs) (sfits-of (put-item-arg2 .given)) (put-item .ensures .0)
+    (put-item .ensures .1)
 
 same-length : tie.Need-same-length Inv-loop μ-loop
 same-length c = c .before .loop .inv .size

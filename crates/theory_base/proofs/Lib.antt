@@ -10,3 +10,5 @@ pub mod Replay
 pub mod Outcomes
 pub mod Slices
 pub mod Digits
+pub mod Parts
+pub mod Lines

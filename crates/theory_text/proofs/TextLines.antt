@@ -1,4 +1,4 @@
--- Laws of the lines of a text, for a walk over the rest of it. Assumes nothing.
+-- The lines of a text met in a walk over it: where a line ends, its CR left out, and what it begins with.
 use mathlib.Core.Path.{_≡_, refl, sym, ap, _∙_}
 use mathlib.Core.Bool.{true, false, _&&_}
 use mathlib.Core.List.{[], _∷_, _++_, append-nil}
@@ -7,54 +7,40 @@ use Prim.Native.Char.{code}
 use native.Mathlib.Omega.{arith}
 use native.Mathlib.Numerals.{add-one}
 use lib.Dec.{eqb}
-use lib.ListN.{length-take, length, getD, take, drop, take-append-drop, length-drop, drop-of-length-le}
-use lib.Seq.{take-length, drop-drop, drop-cons, take-suc, getD-drop}
+use lib.ListN.{length-take, length, getD, take, drop, length-drop, drop-of-length-le}
+use lib.Seq.{take-length, drop-cons}
 use borrow.Author.Tests.{eq-eqb, ne-eqb}
 use Rattle.definition.specs.Text.{Bytes, is, text-lines, without-last-cr, line-text, same-bytes}
 use Rattle.definition.specs.Answer.{begins-with}
-use Rattle.theory_base.proofs.Tests.{to-true, to-false}
+use Rattle.theory_base.specs.Slices.{between}
+use Rattle.theory_base.proofs.Parts.{between-none, between-snoc, between-then}
+use Rattle.theory_base.proofs.Tests.{to-true, to-false, second-holds}
 use Rattle.theory_text.proofs.Words.{free-++, first-line, last-cr, last-line, same-length, same-turned}
 use Rattle.theory_text.specs.Words.{Free}
-use Rattle.answer.specs.Lines.{part, Line-end, Trimmed, First-line}
-
-part-empty : (at : ℕ) (t : Bytes) → part at at t ≡ []
-part-empty at t = let e : at - at ≡ 0 = omega arith in ap (λ (i : ℕ). take i (drop at t)) e
-
--- a part of a list and one element more
-part-more : (t : Bytes) (at n : ℕ) → at ≤ n → n < length t → part at (n + 1) t ≡ part at n t ++ (getD t n 0 ∷ [])
-part-more t at n h k =
-    let e : n + 1 - at ≡ suc (n - at) = omega arith in
-    let f : at + (n - at) ≡ n = omega arith in
-    ap (λ (i : ℕ). take i (drop at t)) e ∙ take-suc (drop at t) (n - at) 0 (omega (arith, length-drop at t)) ∙ ap (λ (b : ℕ). part at n t ++ (b ∷ [])) (getD-drop at t (n - at) 0 ∙ ap (λ (i : ℕ). getD t i 0) f)
-
--- a part of a list and what follows
-part-then : (t : Bytes) (at n : ℕ) → at ≤ n → drop at t ≡ part at n t ++ drop n t
-part-then t at n h =
-    let f : at + (n - at) ≡ n = omega arith in
-    sym (take-append-drop (n - at) (drop at t)) ∙ ap (λ (r : Bytes). part at n t ++ r) (drop-drop (n - at) at t ∙ ap (λ (i : ℕ). drop i t) f)
+use Rattle.theory_text.specs.TextLines.{Line-end, Trimmed, First-line}
 
 -- ---- the end of a line
 
 module _ (t : Bytes) (at : ℕ) where
-  pub line-end-start : Free (is "\n") (part at at t)
-  line-end-start = rw (part-empty at t) tt
+  pub line-end-start : Free (is "\n") (between at at t)
+  line-end-start = rw (between-none at t) tt
 
-  pub line-end-step : (i : ℕ) → at ≤ i → i < length t → (getD t i 0 ≡ 10 → ⊥) → Free (is "\n") (part at i t) → Free (is "\n") (part at (i + 1) t)
+  pub line-end-step : (i : ℕ) → at ≤ i → i < length t → (getD t i 0 ≡ 10 → ⊥) → Free (is "\n") (between at i t) → Free (is "\n") (between at (i + 1) t)
   unfolding is
-  line-end-step i h k n f = rw (part-more t at i h k) (free-++ (is "\n") (part at i t) (getD t i 0 ∷ []) f (ne-eqb (getD t i 0) 10 n, tt))
+  line-end-step i h k n f = rw (between-snoc at i t 0 h k) (free-++ (is "\n") (between at i t) (getD t i 0 ∷ []) f (ne-eqb (getD t i 0) 10 n, tt))
 
 -- ---- a CR at the end
 
 module _ (t : Bytes) (start end : ℕ) where
-  last-byte : start < end → end ≤ length t → part start end t ≡ part start (end - 1) t ++ (getD t (end - 1) 0 ∷ [])
-  last-byte h k = let e : end - 1 + 1 ≡ end = omega arith in ap (λ (i : ℕ). part start i t) (sym e) ∙ part-more t start (end - 1) (omega arith) (omega arith)
+  last-byte : start < end → end ≤ length t → between start end t ≡ between start (end - 1) t ++ (getD t (end - 1) 0 ∷ [])
+  last-byte h k = let e : end - 1 + 1 ≡ end = omega arith in ap (λ (i : ℕ). between start i t) (sym e) ∙ between-snoc start (end - 1) t 0 (omega arith) (omega arith)
 
   pub trimmed-cr : start < end → end ≤ length t → getD t (end - 1) 0 ≡ 13 → Trimmed t start end (end - 1)
   unfolding is
   trimmed-cr h k e = record {
     after = omega arith;
     before = omega arith;
-    text = sym (ap without-last-cr (last-byte h k) ∙ last-cr (part start (end - 1) t) (getD t (end - 1) 0) ∙ (rw e refl));
+    text = sym (ap without-last-cr (last-byte h k) ∙ last-cr (between start (end - 1) t) (getD t (end - 1) 0) ∙ (rw e refl));
   }
 
   pub trimmed-none : start < end → end ≤ length t → (getD t (end - 1) 0 ≡ 13 → ⊥) → Trimmed t start end end
@@ -62,12 +48,12 @@ module _ (t : Bytes) (start end : ℕ) where
   trimmed-none h k n = record {
     after = omega arith;
     before = omega arith;
-    text = sym (ap without-last-cr (last-byte h k) ∙ last-cr (part start (end - 1) t) (getD t (end - 1) 0) ∙ (rw (ne-eqb (getD t (end - 1) 0) 13 n) refl) ∙ sym (last-byte h k));
+    text = sym (ap without-last-cr (last-byte h k) ∙ last-cr (between start (end - 1) t) (getD t (end - 1) 0) ∙ (rw (ne-eqb (getD t (end - 1) 0) 13 n) refl) ∙ sym (last-byte h k));
   }
 
   pub trimmed-empty : start ≡ end → Trimmed t start end end
   unfolding without-last-cr
-  trimmed-empty e = record { after = omega arith; before = omega arith; text = rw (← e, part-empty start t) refl }
+  trimmed-empty e = record { after = omega arith; before = omega arith; text = rw (← e, between-none start t) refl }
 
 -- ---- the line
 
@@ -76,8 +62,8 @@ module _ (t : Bytes) (at end : ℕ) (h : at < length t) (e : Line-end t at end) 
   pub line-last : end ≡ length t → First-line t at at end end
   unfolding line-text text-lines
   line-last q = record {
-    line = record { text = part at end t; ended = false };
-    lines = ap text-lines whole ∙ last-line (part at end t) some (e .no-newline) ∙ ap (λ (r : Bytes). record { text = part at end t; ended = false } ∷ text-lines r) (sym none);
+    line = record { text = between at end t; ended = false };
+    lines = ap text-lines whole ∙ last-line (between at end t) some (e .no-newline) ∙ ap (λ (r : Bytes). record { text = between at end t; ended = false } ∷ text-lines r) (sym none);
     text = refl;
     ordered = e .after;
     before = omega arith;
@@ -88,18 +74,18 @@ module _ (t : Bytes) (at end : ℕ) (h : at < length t) (e : Line-end t at end) 
       none : drop end t ≡ []
       none = drop-of-length-le t {i = end} (omega arith)
 
-      whole : drop at t ≡ part at end t
-      whole = part-then t at end (e .after) ∙ ap (λ (r : Bytes). part at end t ++ r) none ∙ append-nil (part at end t)
+      whole : drop at t ≡ between at end t
+      whole = between-then at end t (e .after) ∙ ap (λ (r : Bytes). between at end t ++ r) none ∙ append-nil (between at end t)
 
-      some : 1 ≤ length (part at end t)
+      some : 1 ≤ length (between at end t)
       some = omega (arith, ap length whole, length-drop at t)
 
   -- LF ends it
   pub line-ended : (trimmed : ℕ) → end < length t → Trimmed t at end trimmed → First-line t at at trimmed (end + 1)
   unfolding line-text
   line-ended trimmed q r = record {
-    line = record { text = part at end t; ended = true };
-    lines = ap text-lines whole ∙ first-line (part at end t) (drop (end + 1) t) (e .no-newline);
+    line = record { text = between at end t; ended = true };
+    lines = ap text-lines whole ∙ first-line (between at end t) (drop (end + 1) t) (e .no-newline);
     text = sym (r .text);
     ordered = r .after;
     before = omega (arith, r .before);
@@ -107,8 +93,8 @@ module _ (t : Bytes) (at end : ℕ) (h : at < length t) (e : Line-end t at end) 
     within = omega arith;
   }
     where
-      whole : drop at t ≡ part at end t ++ code "\n" ∷ drop (end + 1) t
-      whole = part-then t at end (e .after) ∙ ap (λ (r : Bytes). part at end t ++ r) (drop-cons t end 0 q ∙ ap (λ (b : ℕ). b ∷ drop (suc end) t) (e .stops q) ∙ ap (λ (i : ℕ). code "\n" ∷ drop i t) (sym (add-one end)))
+      whole : drop at t ≡ between at end t ++ code "\n" ∷ drop (end + 1) t
+      whole = between-then at end t (e .after) ∙ ap (λ (r : Bytes). between at end t ++ r) (drop-cons t end 0 q ∙ ap (λ (b : ℕ). b ∷ drop (suc end) t) (e .stops q) ∙ ap (λ (i : ℕ). code "\n" ∷ drop i t) (sym (add-one end)))
 
 pub lines-none : (t : Bytes) (at : ℕ) → length t ≤ at → text-lines (drop at t) ≡ []
 unfolding text-lines
@@ -148,3 +134,9 @@ same-begins p t e = ap (λ (n : ℕ). same-bytes p (take n t)) (sym e) ∙ ap (s
 
 pub same-other : (p t : Bytes) → (length t ≡ length p → ⊥) → false ≡ same-bytes t p
 same-other p t n = sym (to-false (λ x. n (same-length t p (to-true x))))
+
+pub same-one : (b : ℕ) (t : Bytes) → length t ≡ 1 → eqb (getD t 0 0) b ≡ same-bytes t (b ∷ [])
+unfolding same-bytes
+same-one b [] h = absurd (omega arith)
+same-one b (c ∷ []) h = second-holds (eqb c b) true refl
+same-one b (c ∷ d ∷ t) h = absurd (omega arith)

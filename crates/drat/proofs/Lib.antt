@@ -1,6 +1,5 @@
 -- Loaded: laws of loaded lines for callers. The others serve the functions of this crate.
 pub mod Writing
-pub mod FormulaText
 pub mod Words
 pub mod Rest
 pub mod Clause

@@ -1,61 +1,23 @@
-// Proof lines: the log's lines and the formula's text are written; the kept lines of a log are read into a store.
+// Proof lines: written into a log; the kept lines of a log are read into a store.
 use tables::Marked;
 ghost use mathlib.Core.Path.{_≡_};
-ghost use mathlib.Core.List.{[], _++_};
-ghost use Prim.Native.Nat.{_+_, _*_, _-_, _≤_, _<_, _^_};
+ghost use mathlib.Core.List.{[]};
+ghost use Prim.Native.Nat.{_+_, _*_, _≤_, _<_, _^_};
 ghost use lib.ListN.{length, drop, set};
 ghost use mathlib.Core.Bool.{false, cond};
-ghost use Rattle.definition.specs.Lists.{for-each};
-ghost use Rattle.definition.specs.Text.{bytes, literal-text, same-bytes, number};
+ghost use Rattle.definition.specs.Text.{bytes, same-bytes, number};
 ghost use Rattle.definition.specs.LogReading.{read-log};
-ghost use Rattle.definition.specs.Log.{clause-text, log-line-text, formula-text};
+ghost use Rattle.definition.specs.Log.{log-line-text};
 ghost use Rattle.text.specs.Numbers.{number-class};
 ghost use Rattle.text.specs.Words.{run-end};
 ghost use Rattle.text.specs.Output.{Put};
-ghost use Rattle.theory_text.specs.ClauseText.{literals-text};
 ghost use Rattle.theory_text.specs.LogLines.{first-read, begins-deletion, rest-read};
-ghost use Rattle.store.specs.Store.{Formed, stored, past};
 ghost use Rattle.tables.specs.Stamps.{Fresh, At-most};
-ghost use Rattle.drat.specs.Lines.{line-of, header-text, entry-text};
+ghost use Rattle.drat.specs.Lines.{line-of};
 ghost use Rattle.drat.specs.Loaded.{line-header};
 ghost use Rattle.drat.specs.Reading.{stops, literal-answer, line-word, Clause-reads, Line-reads, Log-reads};
 
 // ---- writing
-
-// Writes a literal and a blank.
-fn put_item(buf: &mut [u8], at: usize, l: i32) -> usize
-    requires { ⌜ at + 12 < 2 ^ 64 ⌝ }
-    ensures { λ r. ⌜ Put (now (buf .entry)) at (literal-text l ++ bytes " ") r (now (buf .exit)) ⌝ }
-{
-    let a = text::put_literal(buf, at, l);
-    text::put_byte(buf, a, 32)
-}
-
-// Writes literals, a blank after each.
-fn put_items(buf: &mut [u8], at: usize, clause: &[i32]) -> usize
-    requires { ⌜ at + 12 * length (now clause) < 2 ^ 64 ⌝ }
-    ensures written { λ r. ⌜ Put (now (buf .entry)) at (literals-text (now (clause .entry))) r (now (buf .exit)) ⌝ }
-    ensures within { λ r. ⌜ r ≤ at + 12 * length (now (clause .entry)) ⌝ }
-{
-    let mut end = at;
-    let mut i = 0;
-    while i < clause.len() {
-        end = put_item(buf, end, clause[i]);
-        i += 1;
-    }
-    end
-}
-
-// Writes a clause: its literals and 0, single blanks, LF after.
-fn put_clause(buf: &mut [u8], at: usize, clause: &[i32]) -> usize
-    requires { ⌜ at + 12 * length (now clause) + 2 < 2 ^ 64 ⌝ }
-    ensures written { λ r. ⌜ Put (now (buf .entry)) at (clause-text (now (clause .entry))) r (now (buf .exit)) ⌝ }
-    ensures within { λ r. ⌜ r ≤ at + 12 * length (now (clause .entry)) + 2 ⌝ }
-{
-    let a = put_items(buf, at, clause);
-    let b = text::put_byte(buf, a, 48);
-    text::put_byte(buf, b, 10)
-}
 
 // Writes a proof line from the start of a buffer: an added clause, or a deleted one with `d` before.
 pub fn write_line(buf: &mut [u8], is_deletion: bool, clause: &[i32]) -> usize
@@ -66,9 +28,9 @@ pub fn write_line(buf: &mut [u8], is_deletion: bool, clause: &[i32]) -> usize
     if is_deletion {
         let a = text::put_byte(buf, 0, 100);
         let b = text::put_byte(buf, a, 32);
-        put_clause(buf, b, clause)
+        text::put_clause(buf, b, clause)
     } else {
-        put_clause(buf, 0, clause)
+        text::put_clause(buf, 0, clause)
     }
 }
 
@@ -84,73 +46,6 @@ pub fn log_line(log: &mut [u8], at: usize, is_deletion: bool, clause: &[i32]) ->
         let end = log.len();
         at + write_line(&mut log[end..], is_deletion, clause)
     }
-}
-
-// Writes bytes.
-fn put_text(buf: &mut [u8], at: usize, text: &[u8]) -> usize
-    requires { ⌜ at + length (now text) < 2 ^ 64 ⌝ }
-    ensures { λ r. ⌜ Put (now (buf .entry)) at (now (text .entry)) r (now (buf .exit)) ⌝ }
-{
-    let mut i = 0;
-    while i < text.len() {
-        text::put_byte(buf, at + i, text[i]);
-        i += 1;
-    }
-    at + i
-}
-
-// Writes the header line of a formula.
-fn put_header(buf: &mut [u8], at: usize, h: u32, m: u32) -> usize
-    requires { ⌜ at + 28 < 2 ^ 64 ⌝ }
-    ensures written { λ r. ⌜ Put (now (buf .entry)) at (header-text h m) r (now (buf .exit)) ⌝ }
-    ensures within { λ r. ⌜ r ≤ at + 28 ⌝ }
-{
-    let a = put_text(buf, at, b"p cnf ");
-    let b = text::put_number(buf, a, h);
-    let c = text::put_byte(buf, b, 32);
-    let d = text::put_number(buf, c, m);
-    text::put_byte(buf, d, 10)
-}
-
-// Writes the clause at a place of a store if it stands.
-fn put_entry(buf: &mut [u8], end: usize, store: &[i32], at: usize) -> usize
-    requires { ⌜ (at < length (now store)) × Formed (drop at (now store)) ⌝ }
-    requires { ⌜ end + 12 * (length (now store) - at) < 2 ^ 64 ⌝ }
-    ensures written { λ r. ⌜ Put (now (buf .entry)) end (entry-text (now (store .entry)) at) r (now (buf .exit)) ⌝ }
-    ensures within { λ r. ⌜ r ≤ end + 12 * (past (now (store .entry)) at - at) ⌝ }
-{
-    if literals::is_negative(store[at]) {
-        return end;
-    }
-    let next = store::next_at(store, at);
-    let first = at + 1;
-    put_clause(buf, end, &store[first..next])
-}
-
-// Writes the clauses that stand in a store, one a line.
-fn put_entries(buf: &mut [u8], from: usize, store: &[i32]) -> usize
-    requires { ⌜ Formed (now store) ⌝ }
-    requires { ⌜ from + 12 * length (now store) < 2 ^ 64 ⌝ }
-    ensures { λ r. ⌜ Put (now (buf .entry)) from (for-each (stored (now (store .entry))) clause-text) r (now (buf .exit)) ⌝ }
-{
-    let mut end = from;
-    let mut at = 0;
-    while at < store.len() {
-        end = put_entry(buf, end, store, at);
-        at = store::next_at(store, at);
-    }
-    end
-}
-
-// Writes the formula of the clauses that stand in a store, m of them.
-pub fn write_formula(buf: &mut [u8], h: u32, m: u32, store: &[i32]) -> usize
-    requires { ⌜ Formed (now store) ⌝ }
-    requires { ⌜ m ≡ length (stored (now store)) ⌝ }
-    requires { ⌜ 12 * length (now store) + 28 < 2 ^ 64 ⌝ }
-    ensures { λ r. ⌜ Put (now (buf .entry)) 0 (formula-text h (stored (now (store .entry)))) r (now (buf .exit)) ⌝ }
-{
-    let end = put_header(buf, 0, h, m);
-    put_entries(buf, end, store)
 }
 
 // ---- reading kept lines

@@ -13,13 +13,14 @@ use Rattle.definition.specs.Lists.{sum-of}
 use Rattle.definition.specs.Checked.{value, or-fault, through}
 use Rattle.definition.specs.Literals.{Formula, holds, literals-of}
 use Rattle.definition.specs.Text.{Bytes, TextLine, number, natural, fields, line-text, past-comments, text-lines}
-use Rattle.definition.specs.Reading.{Limits, Input, as-read, Header, Reader, read-header-fields, read-header-line, read-header, read-literal, end-clause, read-word, end-text, read-clauses, read-formula}
+use Rattle.definition.specs.Reading.{Limits, Input, as-read, Header, Reader, read-header-fields, read-header-line, read-header, read-literal, end-clause, read-word, end-text, read-clauses, read-formula, input-limits}
 use Rattle.theory_base.proofs.Tests.{differ, or-false-both}
 use Rattle.theory_base.proofs.Members.{mem-holds}
 use Rattle.theory_base.specs.Clauses.{Proper, Proper-all, Fit, Fits}
 use Rattle.theory_base.proofs.Clauses.{literals-snoc, members-snoc, proper-snoc}
 use Rattle.theory_base.proofs.Outcomes.{fault-value, value-same, refuse-value, bind-value, through-keeps}
 use Rattle.theory_text.specs.Accepted.{Accepted}
+use Rattle.definition.specs.Calls.{read-input}
 
 -- ---- between two words
 record Reads (most : Limits) (v c : ℕ) (r : Reader) : Type 0 where
@@ -141,3 +142,21 @@ unfolding read-formula
 accepted most t i e =
     let eh = bind-value (read-header most t) (read-clauses most) i e in
     clauses-accepted most (eh .0) i (header-few most t (eh .0) (eh .1)) (eh .2)
+
+-- nothing is joined to the text's clauses: the highest variable is V
+pub read-highest : (most : Limits) (t : Bytes) (i : Input) → read-formula most t ≡ value i → i .highest ≡ i .variables
+unfolding read-formula read-clauses
+read-highest most t i e =
+    let h = bind-value (read-header most t) (read-clauses most) i e in
+    let r = bind-value (through (read-word most (h .0 .variables) (h .0 .clauses)) (record { done = []; here = [] }) (h .0 .after)) _ i (h .2) in
+    let f = bind-value (end-text (h .0 .clauses) (r .0)) _ i (r .2) in
+    subst (λ (j : Input). j .highest ≡ j .variables) (value-same (as-read (h .0 .variables) (h .0 .clauses) (f .0)) i (f .2)) refl
+
+-- ---- the input of a call
+pub input-accepted : (t : Bytes) (i : Input) → read-input t ≡ value i → Accepted input-limits i
+unfolding read-input
+input-accepted t i e = accepted input-limits t i e
+
+pub input-highest : (t : Bytes) (i : Input) → read-input t ≡ value i → i .highest ≡ i .variables
+unfolding read-input
+input-highest t i e = read-highest input-limits t i e

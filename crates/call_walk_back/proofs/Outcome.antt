@@ -139,8 +139,8 @@ module _ (kept : ℕ) (formula log answer : Bytes) (old new : List ℤ) (v n g f
   need-is = rw (t .formula-numbers, t .log-numbers, t .highest) refl
 
   -- the outcome is that of the replay, where the workspace is not short
-  whole : (size room : ℕ) → walk-back size room kept formula log answer ≡ refuse-if (ltb size (need n g x)) 11 (replayed-text room v (t .i .formula) (t .ss) (marked marks))
-  whole size room =
+  outcome-is : (size room : ℕ) → walk-back size room kept formula log answer ≡ refuse-if (ltb size (need n g x)) 11 (replayed-text room v (t .i .formula) (t .ss) (marked marks))
+  outcome-is size room =
       texts-accepted size room kept formula log answer (t .i) (t .formula-is) (t .ss) (t .log-is) (t .named) (t .answer-is)
       ∙ ap₂ (λ (k : ℕ) (o : Checked Bytes). refuse-if (ltb size k) 11 o) need-is
       (carried-answer room (t .i) (t .ss) (assigned (t .named))
@@ -148,7 +148,7 @@ module _ (kept : ℕ) (formula log answer : Bytes) (old new : List ℤ) (v n g f
 
   pub short-walks : (size : ℕ) → size ≡ length old → ltb size (need n g x) ≡ true → (out : Bytes) → outcome old out kept formula log answer ≡ fault 11
   unfolding refuse-if
-  short-walks size len e out = whole (length old) (length out) ∙ rw (← len, e)
+  short-walks size len e out = outcome-is (length old) (length out) ∙ rw (← len, e)
 
   module _ (size : ℕ) (len : size ≡ length old) (enough : ltb size (need n g x) ≡ false) (m : ℕ) (em : m ≡ n + filled) where
     sized : need n g x ≤ length old
@@ -194,7 +194,7 @@ module _ (kept : ℕ) (formula log answer : Bytes) (old new : List ℤ) (v n g f
 
     pub outcome-walks : (out out' : Bytes) (r : Code.WalkedBack) → Walks (replayed-text (length out) v (stored (take n new)) (lines-in (between n m new)) (marked marks)) out r out' → Walks (outcome old out kept formula log answer) out r out'
     unfolding refuse-if
-    outcome-walks out out' r z = rw (whole (length old) (length out), ← len, enough) (rw (formula-stands, lines-are) at z)
+    outcome-walks out out' r z = rw (outcome-is (length old) (length out), ← len, enough) (rw (formula-stands, lines-are) at z)
 
 -- ---- the buffer
 

@@ -160,8 +160,12 @@ returns-4 c =
 
 add-n : tie.Need-add-n Inv-loop μ-loop
 add-n c =
-    let entry = c .before .before .before .before .before .before .before .before .before .before .before .before .before .before .before .before in
-    record { fits = omega (arith, c .if1 .left, entry .pre .1 .1 .1) }
+    let back = c .before .before .before .before .before .before .before .before .before .before in let start = back .start in
+    let back = back .before .before in let next-word = back .next-word in
+    let back = back .before in let loop = back .loop in
+    let w = sym (start .given .1) ∙ next-word .ensures in
+    let f = going-word (loop .inv .0) w in
+    record { fits = omega (arith, loop .inv .0 .fewer, f .after, f .some, f .within) }
 
 put-requires-2 : tie.Need-put-requires-2 Inv-loop μ-loop
 put-requires-2 c κs = search needs

@@ -22,7 +22,7 @@ use Rattle.text.proofs.Output.{put-none, put-then, put-same, put-length}
 use Rattle.tables.specs.Entries.{most, tallied-all}
 use Rattle.tables.specs.Counts.{Counts}
 use Rattle.tables.proofs.Counting.{counted-table}
-use Rattle.store.specs.Store.{Formed, stored, Compacted}
+use Rattle.store.specs.Store.{Formed, stored, Counted, Compacted}
 use Rattle.store.proofs.Laws.{few-stored}
 use Rattle.progress.specs.declared.Progress.{Progress}
 use Rattle.progress.specs.Progress.{Written, Log-room, Ran, standing, Good, Runs, Slid-down}
@@ -186,6 +186,9 @@ good-few {work = work} {p = p} g = omega (arith, g .small, g .inside, few-stored
 -- what `count_all` gives from zeros
 pub good-counts : {h : ℕ} {es : List Event} {work : List ℤ} {p : Progress} {t : List ℕ} → Good h es work p → t ≡ tallied-all (replicate (h + h + 2) 0) (standing work p) → Counts h t (standing work p)
 good-counts {h} {work = work} {p = p} g e = rw e (counted-table h (standing work p) (g .proper) (good-few g))
+
+pub good-counted : {h : ℕ} {es : List Event} {work : List ℤ} {p : Progress} {t : List ℕ} → Good h es work p → t ≡ tallied-all (replicate (h + h + 2) 0) (standing work p) → Counted h (take (p .end) work) t
+good-counted g e = record { formed = g .formed; fits = g .fits; table = good-counts g e }
 
 -- variables up to more
 pub good-up : {h k : ℕ} {es : List Event} {work : List ℤ} {p : Progress} → h ≤ k → Good h es work p → Good k es work p

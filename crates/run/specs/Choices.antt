@@ -11,13 +11,14 @@ use Rattle.definition.specs.Events.{Event, choice-of}
 use Rattle.definition.specs.Counter.{choices, below-new, last-new}
 use Rattle.definition.specs.Alignment.{Arrangement, arranged}
 use Rattle.definition.specs.Reencoding.{Form, choice-events}
+use Rattle.definition.specs.Calls.{numbers-of}
 use Rattle.theory_base.specs.Clauses.{Parted}
 use Rattle.theory_room.specs.Choices.{used-after}
 use Rattle.theory_run.specs.Choices.{Takeable, All-takeable, taken-events}
 use Rattle.store.specs.Store.{Formed, stored, deleted-at, clause-at}
 use Rattle.progress.specs.declared.Progress.{Progress}
 use Rattle.progress.specs.Progress.{standing, Good, Runs}
-use Rattle.pass_choose.specs.Collecting.{Collectable}
+use Rattle.tables.specs.Sizes.{input-reach}
 use Rattle.run.specs.declared.Run.{Run}
 
 -- ---- chosen
@@ -28,10 +29,11 @@ pub record Arranged (a : Arrangement) (F : Formula) (cs : List Clause) (size : �
   pub formed : Formed chosen
   pub stands : stored chosen ≡ map (arranged a F cs) cs
 
--- a store, and room for its choices, of which no two have a variable in common
-pub record Choosable (s chosen : List ℤ) : Type 0 where
-  pub collectable : Collectable s chosen
-  pub parted : Parted (choices (stored s))
+-- a good store, of whose choices no two have a variable in common, and room for them
+pub record Choosable (work : List ℤ) (p : Progress) (chosen : List ℤ) : Type 0 where
+  pub good : Good input-reach [] work p
+  pub parted : Parted (choices (standing work p))
+  pub space : numbers-of (choices (standing work p)) ≤ length chosen
 
 -- the choices of F fill the first r elements
 pub record Chosen (a : Arrangement) (F : Formula) (size r : ℕ) (chosen : List ℤ) : Type 0 where

@@ -1,3 +1,4 @@
+-- Invariant: the choices before `at` are in the list (Laws, Collecting).
 use denote.Ref.{now}
 use native.Mathlib.Omega.{arith}
 use Rattle.pass_choose.proofs.Laws.{Collecting, collecting-start, collecting-room, collecting-step, collecting-end}

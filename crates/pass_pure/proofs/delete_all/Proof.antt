@@ -1,3 +1,4 @@
+-- Invariant: the clauses before `at` are gone through (Pass, Passing).
 use mathlib.Core.Path.{_≡_, refl, _∙_}
 use native.Mathlib.Omega.{arith}
 use Prim.Native.Nat.{_-_}

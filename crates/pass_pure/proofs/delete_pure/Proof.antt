@@ -1,3 +1,4 @@
+-- A pass over the store's own part of the workspace is one over the workspace (progress, runs-part).
 use mathlib.Core.Path.{sym}
 use lib.Seq.{length-take-le}
 use denote.Ref.{now}

@@ -1,3 +1,4 @@
+-- By the entries of the literal and of its negation (Laws, mark-repeated and its neighbours).
 use lib.IntN.{ℤ}
 use lib.ListN.{set}
 use denote.Ref.{now}

@@ -20,7 +20,7 @@ use Rattle.definition.specs.Counter
 use Rattle.definition.specs.Counter.{choices}
 use Rattle.definition.specs.Order
 use Rattle.definition.specs.Alignment
-use Rattle.definition.specs.Alignment.{no-wish, arranged, alignment}
+use Rattle.definition.specs.Alignment.{as-listed, arranged, alignment}
 use Rattle.definition.specs.Reencoding
 use Rattle.definition.specs.Reencoding.{Settings}
 use Rattle.definition.specs.Log
@@ -31,10 +31,10 @@ use Rattle.definition.specs.Calls
 use Rattle.definition.specs.Calls.{Reencoded, reencode, read-back, walk-back}
 
 unfoldable pub counter : Settings
-counter = record { form = Reencoding.counter-form; wish = no-wish }
+counter = record { form = Reencoding.counter-form; arrangement = as-listed }
 
 unfoldable pub order : Settings
-order = record { form = Reencoding.order-form; wish = no-wish }
+order = record { form = Reencoding.order-form; arrangement = as-listed }
 
 -- a row: a call and what it must give
 pub data Session : Type 0 where

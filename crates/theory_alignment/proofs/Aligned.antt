@@ -10,7 +10,7 @@ use Rattle.definition.specs.Lists
 use Rattle.definition.specs.Literals
 use Rattle.definition.specs.Standing
 use Rattle.definition.specs.Literals.{Clause, Formula, holds, repeated}
-use Rattle.definition.specs.Alignment.{computing, Wish, no-wish, alignment, choice-literals, Alignable, group, alignable, group-number, sorted, aligned, arranged}
+use Rattle.definition.specs.Alignment.{computing, Arrangement, as-listed, alignment, choice-literals, Alignable, group, alignable, group-number, sorted, aligned, arranged}
 use Rattle.theory_base.proofs.Tests.{to-true, to-false, or-cases, or-l, or-r}
 use Rattle.theory_base.proofs.Members.{all-at, all-of, holds-mem, mem-holds}
 use Rattle.theory_base.specs.Clauses.{Same, Proper}
@@ -83,16 +83,16 @@ module _ (f : Formula) (cs : List Clause) where
   aligned-stays p n c = let e : alignable f cs ≡ false = to-false (λ t. n (alignable-agrees p .0 t)) in rw e
 
 -- ---- the order alone changes
-pub arranged-permutes : (w : Wish) (f : Formula) (cs : List Clause) (c : Clause) → List·Permᴰ (arranged w f cs c) c
+pub arranged-permutes : (w : Arrangement) (f : Formula) (cs : List Clause) (c : Clause) → List·Permᴰ (arranged w f cs c) c
 unfolding arranged aligned
-arranged-permutes no-wish f cs c = Permᴰ·refl c
+arranged-permutes as-listed f cs c = Permᴰ·refl c
 arranged-permutes alignment f cs c = go (alignable f cs)
   where
     go : (b : Bool) → List·Permᴰ (cond b (sorted (group-number f cs) c) c) c
     go true = sorted-permutes (group-number f cs) c
     go false = Permᴰ·refl c
 
-pub arranged-keeps : (w : Wish) (f : Formula) (cs : List Clause) (c : Clause) → Proper c → Proper (arranged w f cs c) × Same (arranged w f cs c) c × (length (arranged w f cs c) ≡ length c)
+pub arranged-keeps : (w : Arrangement) (f : Formula) (cs : List Clause) (c : Clause) → Proper c → Proper (arranged w f cs c) × Same (arranged w f cs c) c × (length (arranged w f cs c) ≡ length c)
 arranged-keeps w f cs c p =
     let q = arranged-permutes w f cs c in
     (permuted-proper (Permᴰ·symm q) p, permuted-same q, permuted-length q)

@@ -11,6 +11,7 @@ use Rattle.definition.specs.Literals.{Clause, Formula, same-set}
 use Rattle.definition.specs.Standing.{stands, take-out}
 use Rattle.definition.specs.Calls.{numbers-of}
 use Rattle.literals.specs.Literal.{largest, negative, header-of, flip, header-literals}
+use Rattle.tables.specs.Entries.{tallied}
 use Rattle.store.specs.declared.Found.{Found}
 use Rattle.store.specs.declared.Found.the-variants.{At, Nothing}
 use Rattle.store.specs.declared.Added.{Added}
@@ -64,6 +65,10 @@ past s at = at + (1 + size-at s at)
 -- the store with the clause at a place deleted, or standing again
 abbrev pub marked : List ℤ → ℕ → List ℤ
 marked s at = set s at (flip (header-at s at))
+
+-- a table of counts with the clause at a place, if it stands
+abbrev pub tallied-at : List ℕ → List ℤ → ℕ → List ℕ
+tallied-at t s at = cond (deleted-at s at) t (tallied t (clause-at s at))
 
 -- an entry begins at the place, or the store ends there
 pub record Place (s : List ℤ) (at : ℕ) : Type 0 where

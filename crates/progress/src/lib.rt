@@ -3,14 +3,15 @@ ghost use mathlib.Core.Path.{_≡_};
 ghost use mathlib.Core.Bool.{true};
 ghost use mathlib.Core.List.{[], _∷_, _++_};
 ghost use Prim.Native.Nat.{_+_, _*_, _≤_, _<_, _^_};
-ghost use lib.ListN.{length};
+ghost use lib.ListN.{length, take};
 ghost use Rattle.definition.specs.Text.{bytes, literal-text};
 ghost use Rattle.definition.specs.Literals.{without, with-first};
 ghost use Rattle.definition.specs.Standing.{deletion};
 ghost use Rattle.theory_text.specs.ClauseText.{literals-text};
 ghost use Rattle.text.specs.Output.{Put};
+ghost use Rattle.store.specs.Store.{Formed};
 ghost use Rattle.drat.specs.Lines.{line-of};
-ghost use Rattle.progress.specs.Progress.{Written};
+ghost use Rattle.progress.specs.Progress.{Written, Slid-down};
 
 // How far a run is: the store's end, the log's end and the lines in the log.
 pub struct Progress {
@@ -99,5 +100,21 @@ pub fn record_first(log: &mut [u8], p: Progress, first: i32, clause: &[i32]) -> 
         end: p.end,
         at,
         lines: p.lines + 1,
+    }
+}
+
+// ---- the store in a workspace
+
+// Slides the standing clauses of the store down.
+pub fn slide_down(work: &mut [i32], p: Progress) -> Progress
+    requires { ⌜ (p .end ≤ length (now work)) × Formed (take (p .end) (now work)) ⌝ }
+    ensures { λ r. ⌜ Slid-down (now (work .entry)) p (now (work .exit)) r ⌝ }
+{
+    let end = p.end;
+    let n = store::compact(&mut work[..end]);
+    Progress {
+        end: n,
+        at: p.at,
+        lines: p.lines,
     }
 }

@@ -34,4 +34,3 @@ place-at i (l ∷ c) a zero b = let e : i ≡ i + 0 = omega arith in rw (to-true
 place-at i (l ∷ c) a (suc j) b =
     let e : suc i + j ≡ i + suc j = omega arith in
     rw (unlike-false (getD c j (pos 0)) l (λ q. a .1 (Memᴰ·cast (sym q) (getD-mem c j (pos 0) (omega arith))))) (place-at (suc i) c (a .3) j (omega arith) ∙ ap some e)
-

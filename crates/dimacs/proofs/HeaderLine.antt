@@ -22,7 +22,8 @@ use Rattle.text.specs.Numbers.{natural-class}
 use Rattle.text.specs.declared.Natural.{Natural}
 use Rattle.text.specs.declared.Natural.the-variants as Natural
 use Rattle.dimacs.specs.declared.Header.the-variants as Answer
-use Rattle.dimacs.specs.HeaderLine.{until, line-until, limits-of, Countable, counts-by, counts-of, Header-post}
+use Rattle.dimacs.specs.Limits.{limits-of, Countable}
+use Rattle.dimacs.specs.HeaderLine.{until, line-until, counts-by, counts-of, Header-post}
 use Rattle.dimacs.specs.declared.Limits as Code
 use Rattle.dimacs.specs.declared.Header as Code-header
 use Rattle.dimacs.specs.declared.Counts.the-variants as Counts

@@ -8,7 +8,7 @@ use lib.ListN.{length, take, drop}
 use Rattle.definition.specs.Checked.{Checked, fault, value}
 use Rattle.definition.specs.Text.{Bytes, bytes, line-text, words}
 use Rattle.definition.specs.Text as Text
-use Rattle.definition.specs.Reading.{Header, Limits as Definition-limits}
+use Rattle.definition.specs.Reading.{Header}
 use Rattle.text.specs.declared.Natural.{Natural}
 use Rattle.text.specs.declared.Natural.the-variants as Natural
 use Rattle.dimacs.specs.declared.Limits.{Limits}
@@ -25,16 +25,6 @@ until b (x ∷ t) = cond (eqb x b) 0 (suc (until b t))
 -- the first line, whose LF stands at n unless the text ends there, without its end
 abbrev pub line-until : ℕ → Bytes → Bytes
 line-until n t = line-text (record { text = take n t; ended = ltb n (length t) })
-
--- the most that a text may have, as the definition names it
-abbrev pub limits-of : Limits → Definition-limits
-limits-of m = record { variables = m .variables; clauses = m .clauses; literals = m .literals }
-
--- limits that the reader's numbers can tell
-pub record Countable (m : Limits) : Type 0 where
-  pub variables : m .variables ≤ 70_000
-  pub clauses : m .clauses ≤ 1_000_000
-  pub literals : m .literals ≤ 1_000_000
 
 abbrev pub counts-by : Limits → Natural → Natural → Counts
 counts-by most Natural.NotANumber c = Counts.Fault 1

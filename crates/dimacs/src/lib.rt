@@ -6,28 +6,54 @@ use text::Word;
 ghost use mathlib.Core.Path.{_≡_};
 ghost use mathlib.Core.Bool.{false};
 ghost use mathlib.Core.List.{[], _++_};
-ghost use Prim.Native.Nat.{suc, _+_, _*_, _≤_};
-ghost use lib.ListN.{length, take, drop, set, replicate};
-ghost use lib.Seq.{sets};
-ghost use lib.IntN.{pos};
+ghost use Prim.Native.Nat.{suc, _+_, _*_, _≤_, min};
+ghost use lib.ListN.{length, take, drop, set};
 ghost use Rattle.definition.specs.Literals.{Clause};
 ghost use Rattle.definition.specs.Text.{bytes, number, past-comments, words, fields};
 ghost use Rattle.definition.specs.Answer.{begins-with};
-ghost use Rattle.definition.specs.Checked.{value};
-ghost use Rattle.definition.specs.Calls.{read-back, buffer-after};
-ghost use Rattle.definition.specs.Reading.{Input, input-limits, read-back-limits, read-header-fields, read-header, read-clauses, read-formula};
-ghost use Rattle.dimacs.specs.Clause.{first-clause};
-ghost use Rattle.dimacs.specs.Outcome.{header-of, checked-of, read-back-of};
-ghost use Rattle.dimacs.specs.Loading.{literal-in, step-of, Step-post, Load-post, plains, capped-entries, entries, entries-of};
+ghost use Rattle.definition.specs.Reading.{input-limits, read-back-limits, read-header-fields, read-header, read-clauses, read-formula};
 ghost use Rattle.tables.specs.Stamps.{Marks, Fresh};
-ghost use Rattle.dimacs.specs.Items.{number-item, Item-post, Clause-post};
-ghost use Rattle.dimacs.specs.HeaderLine.{until, line-until, limits-of, Countable, counts-by, counts-of, Header-post};
+ghost use Rattle.dimacs.specs.Limits.{limits-of, Countable};
+ghost use Rattle.dimacs.specs.HeaderLine.{until, line-until, counts-by, counts-of, Header-post};
+ghost use Rattle.dimacs.specs.Clause.{number-item, Item-post, ended, first-clause, Clause-post};
+ghost use Rattle.dimacs.specs.Outcome.{header-of, read-of, Filled};
+
+// ---- limits
 
 // The most that a text may have.
 pub struct Limits {
     pub variables: u32,
     pub clauses: u32,
     pub literals: u32,
+}
+
+// Document 01's limits for the formula.
+pub fn input_limits() -> Limits
+    ensures { λ r. ⌜ (limits-of r ≡ input-limits) × Countable r ⌝ }
+{
+    Limits {
+        variables: 8000,
+        clauses: 20000,
+        literals: 60000,
+    }
+}
+
+// Document 01's limits for the new formula read back.
+pub fn read_back_limits() -> Limits
+    ensures { λ r. ⌜ (limits-of r ≡ read-back-limits) × Countable r ⌝ }
+{
+    Limits {
+        variables: 70000,
+        clauses: 300000,
+        literals: 1000000,
+    }
+}
+
+// How many entries of workspace a formula needs.
+pub fn workspace_need(variables: u32, clauses: u32, literals: u32) -> usize
+    ensures { λ r. ⌜ r ≡ 20 * literals + 2 * clauses + 6 * variables + 8192 ⌝ }
+{
+    20 * (literals as usize) + 2 * (clauses as usize) + 6 * (variables as usize) + 8192
 }
 
 // ---- the header
@@ -207,7 +233,7 @@ fn read_header(text: &[u8], most: Limits) -> Header
     }
 }
 
-// ---- clauses
+// ---- a clause
 
 // What a word of a clause says: its end, a literal, or the number of a fault.
 enum Item {
@@ -216,12 +242,10 @@ enum Item {
     Fault(u8),
 }
 
-// How the reading of a clause ends: the place past it and the number of its literals; the number of a fault; or the
-// text's end and the number of literals read.
+// How the reading of a clause ends: the place past it and the number of its literals, or the number of a fault.
 enum ClauseRead {
-    Done(usize, u32),
+    Done(usize, usize),
     Fault(u8),
-    End(u32),
 }
 
 // What a word says by itself: 3, 4.
@@ -244,11 +268,11 @@ fn number_item(word: &[u8], variables: u32) -> Item
     }
 }
 
-// What a word says in its clause: 3, 4, 5, 6, 9.
-fn read_item(word: &[u8], seen: &mut [u32], stamp: u32, variables: u32, full: bool) -> Item
+// What a word says in its clause: 3, 4, 5, 6.
+fn read_item(word: &[u8], seen: &mut [u32], stamp: u32, variables: u32) -> Item
     requires { ⌜ variables ≤ 70000 ⌝ }
     requires { ⌜ 140002 ≤ length (now seen) ⌝ }
-    ensures { λ r. ⌜ ((here : Clause) → Marks (now (seen .entry)) stamp here → Item-post variables full here (now (word .entry)) (now (seen .exit)) stamp r) ⌝ }
+    ensures { λ r. ⌜ ((here : Clause) → Marks (now (seen .entry)) stamp here → Item-post variables here (now (word .entry)) (now (seen .exit)) stamp r) ⌝ }
 {
     match number_item(word, variables) {
         Item::Zero => Item::Zero,
@@ -256,154 +280,19 @@ fn read_item(word: &[u8], seen: &mut [u32], stamp: u32, variables: u32, full: bo
         Item::Literal(l) => match tables::mark(seen, stamp, l) {
             Marked::Repeated => Item::Fault(5),
             Marked::Opposed => Item::Fault(6),
-            Marked::New => {
-                if full {
-                    return Item::Fault(9);
-                }
-                Item::Literal(l)
-            }
+            Marked::New => Item::Literal(l),
         },
     }
 }
 
-// Reads the clause at the start of a text, after as many literals as before says. The table seen has an entry for each
-// literal, the stamp of the clause in which it was last read.
-fn read_clause(
-    text: &[u8],
-    seen: &mut [u32],
-    stamp: u32,
-    variables: u32,
-    most: Limits,
-    before: u32,
-) -> ClauseRead
-    requires { ⌜ variables ≤ 70000 ⌝ }
-    requires { ⌜ 140002 ≤ length (now seen) ⌝ }
-    requires { ⌜ Fresh (now seen) stamp ⌝ }
-    requires { ⌜ before ≤ most .literals ⌝ }
-    ensures { λ r. ⌜ Clause-post (now (text .entry)) (first-clause (limits-of most) variables before [] (words (now (text .entry)))) (most .literals) before (now (seen .exit)) stamp r ⌝ }
+// The number of a text that ends after so many literals of a clause: 7, or 8 where the clause is missing.
+fn ended(count: usize) -> u8
+    ensures { λ r. ⌜ r ≡ ended count ⌝ }
 {
-    let mut at = 0;
-    let mut total = before;
-    loop {
-        match text::next_word(text, at) {
-            Word::End => {
-                return ClauseRead::End(total - before);
-            }
-            Word::At(start, end) => {
-                let full = most.literals <= total;
-                match read_item(&text[start..end], seen, stamp, variables, full) {
-                    Item::Fault(n) => {
-                        return ClauseRead::Fault(n);
-                    }
-                    Item::Zero => {
-                        return ClauseRead::Done(end, total - before);
-                    }
-                    Item::Literal(_) => {
-                        total += 1;
-                        at = end;
-                    }
-                }
-            }
-        }
-    }
+    if count == 0 { 8 } else { 7 }
 }
 
-// ---- the checking pass
-
-// V, C and L of a formula, or the number of the first fault.
-pub enum Checked {
-    Formula(u32, u32, u32),
-    Fault(u8),
-}
-
-// Checks the clauses of a text that begins after its header.
-fn check_clauses(text: &[u8], variables: u32, clauses: u32, most: Limits) -> Checked
-    requires { ⌜ variables ≤ 70000 ⌝ }
-    requires { ⌜ clauses ≤ 1000000 ⌝ }
-    requires { ⌜ most .literals ≤ 1000000 ⌝ }
-    ensures { λ r. ⌜ r ≡ checked-of (read-clauses (limits-of most) (header-of variables clauses (now (text .entry)))) ⌝ }
-{
-    let mut seen = [0u32; 140002];
-    let mut at = 0;
-    let mut done: u32 = 0;
-    let mut total: u32 = 0;
-    while done < clauses {
-        match read_clause(&text[at..], &mut seen, done + 1, variables, most, total) {
-            ClauseRead::Fault(n) => {
-                return Checked::Fault(n);
-            }
-            ClauseRead::End(n) => {
-                if n == 0 {
-                    return Checked::Fault(8);
-                }
-                return Checked::Fault(7);
-            }
-            ClauseRead::Done(next, n) => {
-                at = at + next;
-                done += 1;
-                total = total + n;
-            }
-        }
-    }
-    match text::next_word(text, at) {
-        Word::At(_, _) => Checked::Fault(8),
-        Word::End => Checked::Formula(variables, clauses, total),
-    }
-}
-
-// Checks a text as a formula within limits.
-pub fn check(text: &[u8], most: Limits) -> Checked
-    requires { ⌜ Countable most ⌝ }
-    ensures { λ r. ⌜ r ≡ checked-of (read-formula (limits-of most) (now (text .entry))) ⌝ }
-{
-    match read_header(text, most) {
-        Header::Fault(n) => Checked::Fault(n),
-        Header::Numbers(v, c, next) => check_clauses(&text[next..], v, c, most),
-    }
-}
-
-// ---- the loading pass: what is written past the store's end is not stored
-
-// What stands next in a clause: a literal and the place past it, or the place past what ends the clause.
-enum Step {
-    Literal(i32, usize),
-    Stop(usize),
-}
-
-// The place past a clause in the text, and the number of its literals.
-struct Loaded {
-    pub next: usize,
-    pub count: usize,
-}
-
-// What a number says in a clause that is loaded, the place past it known.
-fn number_step(n: Number, end: usize) -> Step
-    ensures { λ r. ⌜ r ≡ step-of (literal-in n) end ⌝ }
-{
-    match n {
-        Number::Value(l) => {
-            if literals::is_zero(l) {
-                return Step::Stop(end);
-            }
-            Step::Literal(l, end)
-        }
-        Number::Large => Step::Stop(end),
-        Number::NotANumber => Step::Stop(end),
-    }
-}
-
-// What stands next in a clause at a place of a text.
-fn next_step(text: &[u8], at: usize) -> Step
-    requires { ⌜ at ≤ length (now text) ⌝ }
-    ensures { λ r. ⌜ Step-post (now (text .entry)) at r ⌝ }
-{
-    match text::next_word(text, at) {
-        Word::At(start, end) => number_step(text::read_number(&text[start..end]), end),
-        Word::End => Step::Stop(text.len()),
-    }
-}
-
-// Stores an entry where the store has the place.
+// Stores an element where the store has the place.
 fn put(store: &mut [i32], at: usize, l: i32)
     ensures { λ _. ⌜ now (store .exit) ≡ set (now (store .entry)) at l ⌝ }
 {
@@ -412,128 +301,122 @@ fn put(store: &mut [i32], at: usize, l: i32)
     }
 }
 
-// Loads the clause at the start of a text into the start of a store.
-fn load_clause(text: &[u8], store: &mut [i32]) -> Loaded
-    ensures { λ r. ⌜ Load-post (now (text .entry)) (now (store .entry)) (now (store .exit)) (r .next) (r .count) ⌝ }
+// Reads the clause at the start of a text, of at most room literals, and stores it at the start of a store. The table seen
+// has an entry for each literal, the stamp of the clause in which it was last read.
+fn read_clause(
+    text: &[u8],
+    seen: &mut [u32],
+    stamp: u32,
+    variables: u32,
+    room: usize,
+    store: &mut [i32],
+) -> ClauseRead
+    requires { ⌜ variables ≤ 70000 ⌝ }
+    requires { ⌜ 140002 ≤ length (now seen) ⌝ }
+    requires { ⌜ Fresh (now seen) stamp ⌝ }
+    requires { ⌜ room ≤ 1000000 ⌝ }
+    ensures { λ r. ⌜ Clause-post (now (text .entry)) (first-clause variables room [] (words (now (text .entry)))) room (now (store .entry)) (now (store .exit)) (now (seen .exit)) stamp r ⌝ }
 {
     let mut at = 0;
-    let mut n = 0;
+    let mut n: usize = 0;
     loop {
-        match next_step(text, at) {
-            Step::Stop(end) => {
-                put(store, 0, literals::header(n));
-                return Loaded {
-                    next: end,
-                    count: n,
-                };
+        match text::next_word(text, at) {
+            Word::End => {
+                return ClauseRead::Fault(ended(n));
             }
-            Step::Literal(l, end) => {
-                n += 1;
-                put(store, n, l);
-                at = end;
-            }
+            Word::At(start, end) => match read_item(&text[start..end], seen, stamp, variables) {
+                Item::Fault(f) => {
+                    return ClauseRead::Fault(f);
+                }
+                Item::Zero => {
+                    put(store, 0, literals::header(n));
+                    return ClauseRead::Done(end, n);
+                }
+                Item::Literal(l) => {
+                    if room <= n {
+                        return ClauseRead::Fault(9);
+                    }
+                    n += 1;
+                    put(store, n, l);
+                    at = end;
+                }
+            },
         }
     }
 }
 
-// Loads so many clauses of a text that begins after its header.
-fn load_clauses(text: &[u8], clauses: u32, store: &mut [i32])
-    ensures { λ _. ⌜ now (store .exit) ≡ sets (now (store .entry)) 0 (capped-entries (plains clauses (words (now (text .entry))))) ⌝ }
+// ---- the formula
+
+// V, C, L and how many elements of a store the clauses fill, or the number of the first fault.
+pub enum FormulaRead {
+    Formula(u32, u32, u32, usize),
+    Fault(u8),
+}
+
+// The lesser of two numbers.
+fn lesser(a: usize, b: usize) -> usize
+    ensures { λ r. ⌜ r ≡ min a b ⌝ }
 {
+    if a < b { a } else { b }
+}
+
+// Reads the clauses of a text that begins after its header into a store. What lies past the store's end is counted, but not
+// stored.
+fn read_clauses(
+    text: &[u8],
+    variables: u32,
+    clauses: u32,
+    most: Limits,
+    store: &mut [i32],
+) -> FormulaRead
+    requires { ⌜ variables ≤ 70000 ⌝ }
+    requires { ⌜ clauses ≤ 1000000 ⌝ }
+    requires { ⌜ most .literals ≤ 1000000 ⌝ }
+    ensures outcome { λ r. ⌜ r ≡ read-of (read-clauses (limits-of most) (header-of variables clauses (now (text .entry)))) ⌝ }
+    ensures stored { λ _. ⌜ Filled (read-clauses (limits-of most) (header-of variables clauses (now (text .entry)))) (now (store .entry)) (now (store .exit)) ⌝ }
+{
+    let mut seen = [0u32; 140002];
     let mut at = 0;
-    let mut end = 0;
     let mut done: u32 = 0;
+    let mut total: usize = 0;
+    let mut end: usize = 0;
     while done < clauses {
-        let r = load_clause(&text[at..], &mut store[end..]);
-        let n = r.count;
-        if store.len() - end <= n {
-            return;
+        let room = most.literals as usize - total;
+        let to = lesser(end, store.len());
+        match read_clause(
+            &text[at..],
+            &mut seen,
+            done + 1,
+            variables,
+            room,
+            &mut store[to..],
+        ) {
+            ClauseRead::Fault(n) => {
+                return FormulaRead::Fault(n);
+            }
+            ClauseRead::Done(next, n) => {
+                at = at + next;
+                done += 1;
+                total = total + n;
+                end = end + n + 1;
+            }
         }
-        at = at + r.next;
-        end = end + n + 1;
-        done += 1;
+    }
+    match text::next_word(text, at) {
+        Word::At(_, _) => FormulaRead::Fault(8),
+        Word::End => FormulaRead::Formula(variables, clauses, total as u32, end),
     }
 }
 
-// Loads an accepted formula into a store, clause by clause, each its length and its literals.
-pub fn load(text: &[u8], most: Limits, store: &mut [i32])
+// Reads a text as a formula within limits, and stores its clauses, each its length and its literals, from the store's start
+// on, as far as the store goes.
+pub fn read(text: &[u8], most: Limits, store: &mut [i32]) -> FormulaRead
     requires { ⌜ Countable most ⌝ }
-    ensures { λ _. ⌜ ((i : Input) → read-formula (limits-of most) (now (text .entry)) ≡ value i → now (store .exit) ≡ sets (now (store .entry)) 0 (entries (i .formula))) ⌝ }
+    ensures outcome { λ r. ⌜ r ≡ read-of (read-formula (limits-of most) (now (text .entry))) ⌝ }
+    ensures stored { λ _. ⌜ Filled (read-formula (limits-of most) (now (text .entry))) (now (store .entry)) (now (store .exit)) ⌝ }
 {
     match read_header(text, most) {
-        Header::Fault(_) => {}
-        Header::Numbers(_, c, next) => {
-            load_clauses(&text[next..], c, store);
-        }
-    }
-}
-
-// ---- the new formula read back
-
-// V, C and L of the formula read back, or the number of the refusal.
-pub enum ReadBack {
-    Read(u32, u32, u32),
-    Refused(u8),
-}
-
-// Document 01's limits for the formula.
-pub fn input_limits() -> Limits
-    ensures { λ r. ⌜ (limits-of r ≡ input-limits) × Countable r ⌝ }
-{
-    Limits {
-        variables: 8000,
-        clauses: 20000,
-        literals: 60000,
-    }
-}
-
-// Document 01's limits for the new formula read back.
-pub fn read_back_limits() -> Limits
-    ensures { λ r. ⌜ (limits-of r ≡ read-back-limits) × Countable r ⌝ }
-{
-    Limits {
-        variables: 70000,
-        clauses: 300000,
-        literals: 1000000,
-    }
-}
-
-// How many entries of workspace a formula needs.
-pub fn workspace_need(variables: u32, clauses: u32, literals: u32) -> usize
-    ensures { λ r. ⌜ r ≡ 20 * literals + 2 * clauses + 6 * variables + 8192 ⌝ }
-{
-    20 * (literals as usize) + 2 * (clauses as usize) + 6 * (variables as usize) + 8192
-}
-
-// Makes every entry 0.
-fn zero_entries(store: &mut [i32])
-    ensures { λ _. ⌜ now (store .exit) ≡ replicate (length (now (store .entry))) (pos 0) ⌝ }
-{
-    let mut i = 0;
-    while i < store.len() {
-        store[i] = 0;
-        i += 1;
-    }
-}
-
-// Reads the new formula back into a store, or makes the store zero and answers the number of the refusal.
-pub fn read_back(text: &[u8], store: &mut [i32]) -> ReadBack
-    ensures outcome { λ r. ⌜ r ≡ read-back-of (read-back (length (now (store .entry))) (now (text .entry))) ⌝ }
-    ensures buffer { λ _. ⌜ now (store .exit) ≡ buffer-after (pos 0) (read-back (length (now (store .entry))) (now (text .entry))) entries-of (now (store .entry)) ⌝ }
-{
-    let most = read_back_limits();
-    match check(text, most) {
-        Checked::Fault(n) => {
-            zero_entries(store);
-            ReadBack::Refused(n)
-        }
-        Checked::Formula(v, c, l) => {
-            if store.len() < workspace_need(v, c, l) {
-                zero_entries(store);
-                return ReadBack::Refused(11);
-            }
-            load(text, most, store);
-            ReadBack::Read(v, c, l)
-        }
+        Header::Fault(n) => FormulaRead::Fault(n),
+        Header::Numbers(v, c, next) => read_clauses(&text[next..], v, c, most, store),
     }
 }

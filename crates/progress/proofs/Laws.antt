@@ -5,7 +5,7 @@ use Prim.Native.Nat.{ℕ, _+_, _≤_}
 use native.Mathlib.Omega.{arith}
 use lib.IntN.{ℤ}
 use lib.ListN.{length, take, drop, length-append, length-drop, replicate}
-use lib.Seq.{length-take-le, take-append-le}
+use lib.Seq.{length-take-le, take-append-le, take-take}
 use Rattle.definition.specs.Lists.{for-each}
 use Rattle.definition.specs.Literals.{Formula}
 use Rattle.definition.specs.Text.{Bytes}
@@ -22,7 +22,7 @@ use Rattle.text.proofs.Output.{put-none, put-then, put-same, put-length}
 use Rattle.tables.specs.Entries.{most, tallied-all}
 use Rattle.tables.specs.Counts.{Counts}
 use Rattle.tables.proofs.Counting.{counted-table}
-use Rattle.store.specs.Store.{Formed, stored, Compacted}
+use Rattle.store.specs.Store.{Formed, stored, Counted, Compacted}
 use Rattle.store.proofs.Laws.{few-stored}
 use Rattle.progress.specs.declared.Progress.{Progress}
 use Rattle.progress.specs.Progress.{Written, Log-room, Ran, standing, Good, Runs, Slid-down}
@@ -167,6 +167,16 @@ module _ (work part : List ℤ) (end : ℕ) (b : end ≤ length work) (s : lengt
       let t : take n (part ++ drop end work) ≡ take n part = take-append-le n part (drop end work) (omega (arith, part-length)) in
       record { inside = omega (arith, part-size); formed = rw t f; stands = ap stored t ∙ e }
 
+-- a pass over those elements alone
+pub standing-part : (work : List ℤ) (p : Progress) → standing (take (p .end) work) p ≡ standing work p
+standing-part work p = ap stored (take-take (p .end) (p .end) work (omega arith))
+
+pub runs-part : {es : List Event} (work part : List ℤ) {x y : Bytes} {p q : Progress} → p .end ≤ length work → Runs es (take (p .end) work) x p part y q → Runs es work x p (part ++ drop (p .end) work) y q
+runs-part {es} work part {p = p} {q = q} b r =
+    runs-lines (part-size work part (p .end) b (r .size))
+    (part-holds work part (p .end) b (r .size) (q .end) (omega (arith, r .inside, length-take-le (p .end) work b)) (r .formed) (r .stands))
+    (ap (λ (F : Formula). after F (lines es)) (standing-part work p)) (runs-written r)
+
 -- ---- a good store
 
 -- its clauses are fewer than 2^32
@@ -177,6 +187,9 @@ good-few {work = work} {p = p} g = omega (arith, g .small, g .inside, few-stored
 pub good-counts : {h : ℕ} {es : List Event} {work : List ℤ} {p : Progress} {t : List ℕ} → Good h es work p → t ≡ tallied-all (replicate (h + h + 2) 0) (standing work p) → Counts h t (standing work p)
 good-counts {h} {work = work} {p = p} g e = rw e (counted-table h (standing work p) (g .proper) (good-few g))
 
+pub good-counted : {h : ℕ} {es : List Event} {work : List ℤ} {p : Progress} {t : List ℕ} → Good h es work p → t ≡ tallied-all (replicate (h + h + 2) 0) (standing work p) → Counted h (take (p .end) work) t
+good-counted g e = record { formed = g .formed; fits = g .fits; table = good-counts g e }
+
 -- variables up to more
 pub good-up : {h k : ℕ} {es : List Event} {work : List ℤ} {p : Progress} → h ≤ k → Good h es work p → Good k es work p
 good-up {h} {k} {work = work} {p = p} b g = record { small = g .small; inside = g .inside; formed = g .formed; proper = g .proper; fits = fits-up k h (standing work p) b (g .fits); room = g .room }
@@ -184,6 +197,12 @@ good-up {h} {k} {work = work} {p = p} b g = record { small = g .small; inside = 
 -- only the lines of the events count
 pub good-as : {h : ℕ} {es fs : List Event} {work : List ℤ} {p : Progress} → lines es ≡ lines fs → Good h es work p → Good h fs work p
 good-as e g = record { small = g .small; inside = g .inside; formed = g .formed; proper = g .proper; fits = g .fits; room = rw e at (g .room) }
+
+-- in the store's own elements
+pub good-part : {h : ℕ} {es : List Event} {work : List ℤ} {p : Progress} → Good h es work p → Good h es (take (p .end) work) p
+good-part {work = work} {p = p} g =
+    let n = length-take-le (p .end) work (g .inside) in
+    record { small = omega (arith, g .small, g .inside, n); inside = omega (arith, n); formed = rw (take-take (p .end) (p .end) work (omega arith)) (g .formed); proper = rw (standing-part work p) (g .proper); fits = rw (standing-part work p) (g .fits); room = g .room }
 
 -- for the first events
 pub good-first : {h : ℕ} (es fs : List Event) {work : List ℤ} {p : Progress} → Good h (es ++ fs) work p → Good h es work p

@@ -10,8 +10,10 @@ use lib.Seq.{sets}
 use Rattle.definition.specs.Literals.{Clause, Formula, same-set}
 use Rattle.definition.specs.Standing.{stands, take-out}
 use Rattle.definition.specs.Calls.{numbers-of}
+use Rattle.theory_base.specs.Clauses.{Fits}
 use Rattle.literals.specs.Literal.{largest, negative, header-of, flip, header-literals}
 use Rattle.tables.specs.Entries.{tallied}
+use Rattle.tables.specs.Counts.{Counts}
 use Rattle.store.specs.declared.Found.{Found}
 use Rattle.store.specs.declared.Found.the-variants.{At, Nothing}
 use Rattle.store.specs.declared.Added.{Added}
@@ -75,6 +77,12 @@ pub record Place (s : List ℤ) (at : ℕ) : Type 0 where
   pub inside : at ≤ length s
   pub before : Formed (take at s)
   pub rest : Formed (drop at s)
+
+-- a store with variables up to h, and the table of its counts
+pub record Counted (h : ℕ) (s : List ℤ) (t : List ℕ) : Type 0 where
+  pub formed : Formed s
+  pub fits : Fits h (stored s)
+  pub table : Counts h t (stored s)
 
 -- ---- the first standing clause with the same set of literals
 

@@ -22,6 +22,9 @@ pub const LOG_REACH: u32 = 70000;
 
 pub const LOG_SIZE: usize = 140002;
 
+// The largest u32.
+const LARGEST: u32 = 4294967295;
+
 // ---- entries
 
 // The entry at an index.
@@ -91,7 +94,7 @@ pub fn count_at(table: &mut [u32], i: usize)
     ensures { λ _. ⌜ now (table .exit) ≡ counted-at (now (table .entry)) i ⌝ }
 {
     let n = entry_at(table, i);
-    if n < 4294967295 {
+    if n < LARGEST {
         set_at(table, i, n + 1);
     }
 }
@@ -108,7 +111,7 @@ pub fn count_clause(table: &mut [u32], clause: &[i32])
 }
 
 // Whether a literal stands in one clause.
-pub fn is_once(counts: &[u32], l: i32) -> bool
+fn is_once(counts: &[u32], l: i32) -> bool
     ensures { λ r. ⌜ r ≡ once-in (now (counts .entry)) l ⌝ }
 {
     entry_of(counts, l) == 1
@@ -188,7 +191,7 @@ pub fn next_stamp(seen: &mut [u32], stamp: u32) -> u32
     requires { ⌜ At-most (now seen) stamp ⌝ }
     ensures { λ r. ⌜ Fresh (now (seen .exit)) r ⌝ }
 {
-    if stamp < 4294967295 {
+    if stamp < LARGEST {
         return stamp + 1;
     }
     clear(seen);

@@ -16,8 +16,9 @@ use Rattle.theory_base.proofs.Members.{all-at, all-of, holds-mem, mem-holds}
 use Rattle.theory_base.specs.Clauses.{Same, Proper}
 use Rattle.theory_base.proofs.Loops.{mem-for-each}
 use Rattle.theory_alignment.proofs.Groups.{chain-group, group-chain}
-use Rattle.theory_alignment.proofs.Sorting.{Distinct, Rising, permuted-same, permuted-length, permuted-proper, sorted-permutes, sorted-rising}
+use Rattle.theory_alignment.proofs.Sorting.{Distinct, permuted-same, permuted-length, permuted-proper, sorted-permutes, sorted-rising}
 use Rattle.theory_alignment.proofs.Numbers.{group-number-agrees}
+use Rattle.theory_alignment.specs.Groups.{Rising}
 
 -- ---- `repeated (map g c)`: two literals of c have the same g
 module _ (g : ℤ → ℤ) where

@@ -143,16 +143,20 @@ accepted most t i e =
     let eh = bind-value (read-header most t) (read-clauses most) i e in
     clauses-accepted most (eh .0) i (header-few most t (eh .0) (eh .1)) (eh .2)
 
+-- nothing is joined to the text's clauses: the highest variable is V
+pub read-highest : (most : Limits) (t : Bytes) (i : Input) → read-formula most t ≡ value i → i .highest ≡ i .variables
+unfolding read-formula read-clauses
+read-highest most t i e =
+    let h = bind-value (read-header most t) (read-clauses most) i e in
+    let r = bind-value (through (read-word most (h .0 .variables) (h .0 .clauses)) (record { done = []; here = [] }) (h .0 .after)) _ i (h .2) in
+    let f = bind-value (end-text (h .0 .clauses) (r .0)) _ i (r .2) in
+    subst (λ (j : Input). j .highest ≡ j .variables) (value-same (as-read (h .0 .variables) (h .0 .clauses) (f .0)) i (f .2)) refl
+
 -- ---- the input of a call
 pub input-accepted : (t : Bytes) (i : Input) → read-input t ≡ value i → Accepted input-limits i
 unfolding read-input
 input-accepted t i e = accepted input-limits t i e
 
--- nothing is joined: the highest variable is V
 pub input-highest : (t : Bytes) (i : Input) → read-input t ≡ value i → i .highest ≡ i .variables
-unfolding read-input read-formula read-clauses
-input-highest t i e =
-    let h = bind-value (read-header input-limits t) (read-clauses input-limits) i e in
-    let r = bind-value (through (read-word input-limits (h .0 .variables) (h .0 .clauses)) (record { done = []; here = [] }) (h .0 .after)) _ i (h .2) in
-    let f = bind-value (end-text (h .0 .clauses) (r .0)) _ i (r .2) in
-    subst (λ (j : Input). j .highest ≡ j .variables) (value-same (as-read (h .0 .variables) (h .0 .clauses) (f .0)) i (f .2)) refl
+unfolding read-input
+input-highest t i e = read-highest input-limits t i e

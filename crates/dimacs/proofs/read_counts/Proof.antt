@@ -6,7 +6,8 @@ use lib.ListN.{length}
 use Rattle.definition.specs.Text.{Bytes, bytes, fields}
 use Rattle.definition.specs.Reading.{read-header-fields}
 use Rattle.theory_base.proofs.Slices.{rest-is}
-use Rattle.dimacs.specs.HeaderLine.{limits-of, counts-of}
+use Rattle.dimacs.specs.Limits.{limits-of}
+use Rattle.dimacs.specs.HeaderLine.{counts-of}
 use Rattle.dimacs.proofs.HeaderLine.{begins-long, counts-header, counts-no}
 use borrow.Author.Needs.{needs}
 use Rattle.dimacs.proofs.read_counts.Statement.{statement}

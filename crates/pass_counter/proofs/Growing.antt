@@ -15,8 +15,9 @@ use Rattle.theory_base.proofs.Clauses.{numbers-none, numbers-first, numbers-++}
 use Rattle.theory_base.proofs.Loops.{for-each-++, for-from-around, for-from-next}
 use Rattle.theory_base.proofs.Slices.{sets-then}
 use Rattle.literals.specs.Literal.{largest}
-use Rattle.store.specs.Store.{stored, entry}
-use Rattle.store.proofs.Laws.{formed-++, stored-++, stored-none, entry-formed, entry-stored}
+use Rattle.store.specs.Store.{stored, entry, end-after, with-entry}
+use Rattle.store.specs.declared.Added.the-variants.{To, Full}
+use Rattle.store.proofs.Laws.{formed-++, stored-++, stored-none, entry-formed, entry-stored, fits-within}
 use Rattle.progress.specs.declared.Progress.{Progress}
 use Rattle.progress.specs.Progress.{Written}
 use Rattle.progress.proofs.Laws.{written-none, written-then, room-first, room-rest}
@@ -79,6 +80,23 @@ grown-one {w} {p = p} c s e n t = record {
   stands = ap stored (entries-one c) ∙ entry-stored c s;
   written = t;
 }
+
+-- by what append_clause and record_line answer
+
+clause-space : (c : Clause) {size : ℕ} {p : Progress} → Grow-room (c ∷ []) size p → p .end + (length c + 1) ≤ size
+clause-space c r = omega (arith, r .space, numbers-first c [], numbers-none)
+
+pub never-full : {P : Type 0} (c : Clause) {size : ℕ} {p : Progress} → length c ≤ 3 → Grow-room (c ∷ []) size p → end-after size (p .end) c ≡ Full → P
+never-full c {size} {p} h r e = absurd (let z : _≡_ {A = ℕ} 0 1 = cc (rw (fits-within size (p .end) c (omega arith) (clause-space c r)) at e) in omega arith)
+
+pub put-grown : {w v : List ℤ} {x y : Bytes} {p q : Progress} {end : ℕ} (c : Clause) → length c ≤ 3 → Grow-room (c ∷ []) (length w) p → end-after (length w) (p .end) c ≡ To end → v ≡ with-entry w (p .end) c →
+    Written (addition c ∷ []) x p y q → Grown (c ∷ []) w x p v y (record { end = end; at = q .at; lines = q .lines })
+put-grown {w} {v} {p = p} {end = end} c h r e f t =
+    let fit = fits-within (length w) (p .end) c (omega arith) (clause-space c r) in
+    let a : To (p .end + (length c + 1)) ≡ To end = rw fit at e in
+    let b : v ≡ sets w (p .end) (entry c) = rw fit at f in
+    let g : p .end + (length c + 1) ≡ end = cc in
+    grown-one c (omega arith) (sym g) b (record { written = t .written; counted = t .counted })
 
 -- ---- a loop that adds the clauses f j for each j from k on
 

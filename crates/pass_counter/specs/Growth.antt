@@ -3,10 +3,9 @@ use mathlib.Core.Path.{_≡_}
 use mathlib.Core.List.{List, [], _∷_, map}
 use Prim.Native.Nat.{ℕ, _+_, _-_, _≤_}
 use lib.IntN.{ℤ, negℤ}
-use lib.ListN.{length}
 use lib.Seq.{sets}
 use Rattle.definition.specs.Lists.{for-each}
-use Rattle.definition.specs.Literals.{Clause, Formula, highest}
+use Rattle.definition.specs.Literals.{Formula}
 use Rattle.definition.specs.Text.{Bytes}
 use Rattle.definition.specs.Standing.{addition}
 use Rattle.definition.specs.Events.{Choice}
@@ -46,22 +45,3 @@ link-2 k i =
 -- stage 3
 abbrev pub link-3 : Choice → ℕ → Formula
 link-3 k i = (negℤ (new k (i - 1)) ∷ negℤ (lit k i) ∷ []) ∷ []
-
--- the variables of a choice, old and new, are small
-pub record Small (l : Clause) (below : ℕ) : Type 0 where
-  pub most-literals : length l ≤ 64
-  pub reach : highest l ≤ 8_000
-  pub new-few : below + 64 ≤ 70_000
-
--- a place of a choice, from 2 on, and room for its clauses
-pub record Link-ready (l : Clause) (below i : ℕ) (f : Formula) (size : ℕ) (p : Progress) : Type 0 where
-  pub small : Small l below
-  pub second : 2 ≤ i
-  pub within : i ≤ length l
-  pub room : Grow-room f size p
-
--- a choice of two or more literals, and room for clauses
-pub record Grow-ready (l : Clause) (below : ℕ) (f : Formula) (size : ℕ) (p : Progress) : Type 0 where
-  pub small : Small l below
-  pub long : 2 ≤ length l
-  pub room : Grow-room f size p

@@ -24,5 +24,5 @@ number-of none = 0
 number-of (some i) = i
 
 -- t is the table of the literals l
-abbrev pub Places : List ℕ → Clause → Type 0
-Places t l = (m : ℤ) → place-in t m ≡ number-of (place-from 1 (negℤ m) l)
+pub record Places (t : List ℕ) (l : Clause) : Type 0 where
+  pub told : (m : ℤ) → place-in t m ≡ number-of (place-from 1 (negℤ m) l)

@@ -1,6 +1,6 @@
 use mathlib.Core.Path.{sym, _∙_}
 use denote.Ref.{now}
-use Rattle.pass_counter.proofs.Steps.{put-grown, never-full}
+use Rattle.pass_counter.proofs.Growing.{put-grown, never-full}
 use borrow.Author.Needs.{needs}
 use Rattle.pass_counter.proofs.put_clause.Statement.{statement}
 use Rattle.pass_counter.proofs.put_clause.Tie as tie

@@ -7,16 +7,17 @@ ghost use Rattle.definition.specs.Text.{bytes, same-bytes, words-by};
 ghost use Rattle.definition.specs.Assignments.{true-in, has-true};
 ghost use Rattle.definition.specs.Answer.{begins-with, space-or-tab, read-answer-word, read-answer-line, read-answer};
 ghost use Rattle.definition.specs.Calls.{answer-text};
+ghost use Rattle.theory_text.specs.TextLines.{Line-end, Trimmed};
 ghost use Rattle.text.specs.Output.{Put};
 ghost use Rattle.answer.specs.Table.{entry-of, marked, naming};
-ghost use Rattle.answer.specs.Lines.{Line-end, Trimmed, Line-says};
+ghost use Rattle.answer.specs.Lines.{Line-says};
 ghost use Rattle.answer.specs.Output.{value-text, values-text};
 ghost use Rattle.answer.specs.Reading.{open-at, read-literal, Steps, Steps-open, Read-as, Ends};
 
 // ---- lines
 
 // A line of a text without its end, and the place past it; or the text's end.
-pub enum Line {
+enum Line {
     Text {
         start: usize,
         end: usize,
@@ -55,7 +56,7 @@ fn without_cr(text: &[u8], start: usize, end: usize) -> usize
 }
 
 // The first line of the rest of a text.
-pub fn next_line(text: &[u8], at: usize) -> Line
+fn next_line(text: &[u8], at: usize) -> Line
     ensures { λ r. ⌜ Line-says (now (text .entry)) at r ⌝ }
 {
     if text.len() <= at {
@@ -151,7 +152,7 @@ pub fn make_true(marks: &mut [u8], l: i32)
 }
 
 // Whether a literal is true.
-pub fn true_literal(marks: &[u8], l: i32) -> bool
+fn true_literal(marks: &[u8], l: i32) -> bool
     ensures { λ r. ⌜ r ≡ true-in (marked (now (marks .entry))) l ⌝ }
 {
     let named_true = entry_at(marks, literals::variable(l)) == 1;

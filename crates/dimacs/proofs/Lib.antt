@@ -4,3 +4,4 @@ pub mod HeaderLine
 pub mod Clauses
 pub mod Marking
 pub mod Reading
+pub mod FormulaText

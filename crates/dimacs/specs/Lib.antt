@@ -3,3 +3,4 @@ pub mod HeaderLine
 pub mod Entries
 pub mod Clause
 pub mod Outcome
+pub mod FormulaText

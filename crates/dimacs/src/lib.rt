@@ -1,4 +1,4 @@
-// DIMACS CNF reading.
+// DIMACS CNF: a formula read into a store, and written from one.
 use tables::Marked;
 use text::Natural;
 use text::Number;
@@ -6,17 +6,22 @@ use text::Word;
 ghost use mathlib.Core.Path.{_≡_};
 ghost use mathlib.Core.Bool.{false};
 ghost use mathlib.Core.List.{[], _++_};
-ghost use Prim.Native.Nat.{suc, _+_, _*_, _≤_, min};
+ghost use Prim.Native.Nat.{suc, _+_, _*_, _-_, _≤_, _<_, _^_, min};
 ghost use lib.ListN.{length, take, drop, set};
+ghost use Rattle.definition.specs.Lists.{for-each};
 ghost use Rattle.definition.specs.Literals.{Clause};
 ghost use Rattle.definition.specs.Text.{bytes, number, past-comments, words, fields};
 ghost use Rattle.definition.specs.Answer.{begins-with};
 ghost use Rattle.definition.specs.Reading.{input-limits, read-back-limits, read-header-fields, read-header, read-clauses, read-formula};
+ghost use Rattle.definition.specs.Log.{clause-text, formula-text};
+ghost use Rattle.text.specs.Output.{Put};
+ghost use Rattle.store.specs.Store.{Formed, stored, past};
 ghost use Rattle.tables.specs.Stamps.{Marks, Fresh};
 ghost use Rattle.dimacs.specs.Limits.{limits-of, Countable};
 ghost use Rattle.dimacs.specs.HeaderLine.{until, line-until, counts-by, counts-of, Header-post};
 ghost use Rattle.dimacs.specs.Clause.{number-item, Item-post, ended, first-clause, Clause-post};
 ghost use Rattle.dimacs.specs.Outcome.{header-of, read-of, Filled};
+ghost use Rattle.dimacs.specs.FormulaText.{header-text, entry-text};
 
 // ---- limits
 
@@ -419,4 +424,60 @@ pub fn read(text: &[u8], most: Limits, store: &mut [i32]) -> FormulaRead
         Header::Fault(n) => FormulaRead::Fault(n),
         Header::Numbers(v, c, next) => read_clauses(&text[next..], v, c, most, store),
     }
+}
+
+// ---- the text of a formula
+
+// Writes the header line of a formula.
+fn put_header(buf: &mut [u8], at: usize, h: u32, m: u32) -> usize
+    requires { ⌜ at + 28 < 2 ^ 64 ⌝ }
+    ensures written { λ r. ⌜ Put (now (buf .entry)) at (header-text h m) r (now (buf .exit)) ⌝ }
+    ensures within { λ r. ⌜ r ≤ at + 28 ⌝ }
+{
+    let a = text::put_text(buf, at, b"p cnf ");
+    let b = text::put_number(buf, a, h);
+    let c = text::put_byte(buf, b, 32);
+    let d = text::put_number(buf, c, m);
+    text::put_byte(buf, d, 10)
+}
+
+// Writes the clause at a place of a store if it stands.
+fn put_entry(buf: &mut [u8], end: usize, store: &[i32], at: usize) -> usize
+    requires { ⌜ (at < length (now store)) × Formed (drop at (now store)) ⌝ }
+    requires { ⌜ end + 12 * (length (now store) - at) < 2 ^ 64 ⌝ }
+    ensures written { λ r. ⌜ Put (now (buf .entry)) end (entry-text (now (store .entry)) at) r (now (buf .exit)) ⌝ }
+    ensures within { λ r. ⌜ r ≤ end + 12 * (past (now (store .entry)) at - at) ⌝ }
+{
+    if literals::is_negative(store[at]) {
+        return end;
+    }
+    let next = store::next_at(store, at);
+    let first = at + 1;
+    text::put_clause(buf, end, &store[first..next])
+}
+
+// Writes the clauses that stand in a store, one a line.
+fn put_entries(buf: &mut [u8], from: usize, store: &[i32]) -> usize
+    requires { ⌜ Formed (now store) ⌝ }
+    requires { ⌜ from + 12 * length (now store) < 2 ^ 64 ⌝ }
+    ensures { λ r. ⌜ Put (now (buf .entry)) from (for-each (stored (now (store .entry))) clause-text) r (now (buf .exit)) ⌝ }
+{
+    let mut end = from;
+    let mut at = 0;
+    while at < store.len() {
+        end = put_entry(buf, end, store, at);
+        at = store::next_at(store, at);
+    }
+    end
+}
+
+// Writes the formula of the clauses that stand in a store, m of them.
+pub fn write_formula(buf: &mut [u8], h: u32, m: u32, store: &[i32]) -> usize
+    requires { ⌜ Formed (now store) ⌝ }
+    requires { ⌜ m ≡ length (stored (now store)) ⌝ }
+    requires { ⌜ 12 * length (now store) + 28 < 2 ^ 64 ⌝ }
+    ensures { λ r. ⌜ Put (now (buf .entry)) 0 (formula-text h (stored (now (store .entry)))) r (now (buf .exit)) ⌝ }
+{
+    let end = put_header(buf, 0, h, m);
+    put_entries(buf, end, store)
 }

@@ -1,11 +1,13 @@
-// Bytes to words and numbers, numbers to bytes.
+// Bytes to words and numbers; numbers and clauses to bytes.
 ghost use mathlib.Core.Path.{_≡_};
 ghost use mathlib.Core.Bool.{true, false};
-ghost use mathlib.Core.List.{[], _∷_};
+ghost use mathlib.Core.List.{[], _∷_, _++_};
 ghost use Prim.Native.Nat.{_+_, _*_, _-_, _≤_, _<_, _^_, min};
 ghost use lib.ListN.{length, drop, set, replicate};
-ghost use Rattle.definition.specs.Text.{blank, digit, digits, literal-text, natural, number};
+ghost use Rattle.definition.specs.Text.{bytes, blank, digit, digits, literal-text, natural, number};
 ghost use Rattle.definition.specs.Answer.{space-or-tab};
+ghost use Rattle.definition.specs.Log.{clause-text};
+ghost use Rattle.theory_text.specs.ClauseText.{literals-text};
 ghost use Rattle.text.specs.Numbers.{all-digits, natural-class, number-class, with-sign};
 ghost use Rattle.text.specs.Words.{separator, in-run, leading, word-at};
 ghost use Rattle.text.specs.Output.{Put};
@@ -288,6 +290,59 @@ pub fn put_literal(buf: &mut [u8], at: usize, l: i32) -> usize
         put_number(buf, at, v)
     }
 }
+
+// Writes bytes.
+pub fn put_text(buf: &mut [u8], at: usize, text: &[u8]) -> usize
+    requires { ⌜ at + length (now text) < 2 ^ 64 ⌝ }
+    ensures { λ r. ⌜ Put (now (buf .entry)) at (now (text .entry)) r (now (buf .exit)) ⌝ }
+{
+    let mut i = 0;
+    while i < text.len() {
+        put_byte(buf, at + i, text[i]);
+        i += 1;
+    }
+    at + i
+}
+
+// ---- clauses
+
+// Writes a literal and a blank.
+pub fn put_item(buf: &mut [u8], at: usize, l: i32) -> usize
+    requires { ⌜ at + 12 < 2 ^ 64 ⌝ }
+    ensures written { λ r. ⌜ Put (now (buf .entry)) at (literal-text l ++ bytes " ") r (now (buf .exit)) ⌝ }
+    ensures within { λ r. ⌜ r ≤ at + 12 ⌝ }
+{
+    let a = put_literal(buf, at, l);
+    put_byte(buf, a, 32)
+}
+
+// Writes literals, a blank after each.
+fn put_items(buf: &mut [u8], at: usize, clause: &[i32]) -> usize
+    requires { ⌜ at + 12 * length (now clause) < 2 ^ 64 ⌝ }
+    ensures written { λ r. ⌜ Put (now (buf .entry)) at (literals-text (now (clause .entry))) r (now (buf .exit)) ⌝ }
+    ensures within { λ r. ⌜ r ≤ at + 12 * length (now (clause .entry)) ⌝ }
+{
+    let mut end = at;
+    let mut i = 0;
+    while i < clause.len() {
+        end = put_item(buf, end, clause[i]);
+        i += 1;
+    }
+    end
+}
+
+// Writes a clause: its literals and 0, single blanks, LF after.
+pub fn put_clause(buf: &mut [u8], at: usize, clause: &[i32]) -> usize
+    requires { ⌜ at + 12 * length (now clause) + 2 < 2 ^ 64 ⌝ }
+    ensures written { λ r. ⌜ Put (now (buf .entry)) at (clause-text (now (clause .entry))) r (now (buf .exit)) ⌝ }
+    ensures within { λ r. ⌜ r ≤ at + 12 * length (now (clause .entry)) + 2 ⌝ }
+{
+    let a = put_items(buf, at, clause);
+    let b = put_byte(buf, a, 48);
+    put_byte(buf, b, 10)
+}
+
+// ---- a buffer made zero
 
 // Makes every byte 0.
 pub fn zero_all(buf: &mut [u8])

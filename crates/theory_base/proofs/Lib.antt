@@ -11,3 +11,5 @@ pub mod Outcomes
 pub mod Places
 pub mod Slices
 pub mod Digits
+pub mod Parts
+pub mod Lines

@@ -1,7 +1,10 @@
 pub mod Digits
 pub mod Accepted
 pub mod Words
+pub mod TextLines
 pub mod ClauseText
 pub mod FormulaText
+pub mod LineWords
 pub mod LogText
+pub mod LogLines
 pub mod AnswerText

@@ -1,3 +1,5 @@
 pub mod Words
 pub mod ClauseText
 pub mod Accepted
+pub mod LogLines
+pub mod TextLines

@@ -4,7 +4,7 @@ use Prim.Native.Nat.{_-_}
 use lib.ListN.{length, take, drop}
 use Rattle.definition.specs.Text.{same-bytes}
 use Rattle.definition.specs.Answer.{begins-with}
-use Rattle.answer.proofs.Lines.{begins-start, begins-step, begins-differ, begins-end, begins-short}
+use Rattle.theory_text.proofs.TextLines.{begins-start, begins-step, begins-differ, begins-end, begins-short}
 use Rattle.answer.proofs.begins.Statement.{statement}
 use Rattle.answer.proofs.begins.Tie as tie
 

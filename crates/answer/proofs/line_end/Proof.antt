@@ -4,13 +4,13 @@ use native.Mathlib.Omega.{arith}
 use lib.ListN.{length}
 use Rattle.definition.specs.Text.{is}
 use Rattle.theory_text.specs.Words.{Free}
-use Rattle.answer.specs.Lines.{part}
-use Rattle.answer.proofs.Lines.{line-end-start, line-end-step}
+use Rattle.theory_base.specs.Slices.{between}
+use Rattle.theory_text.proofs.TextLines.{line-end-start, line-end-step}
 use Rattle.answer.proofs.line_end.Statement.{statement}
 use Rattle.answer.proofs.line_end.Tie as tie
 
 abbrev Inv-loop : tie.InvT-loop
-Inv-loop text at i₀ i = (at ≤ i) × (i ≤ length text) × Free (is "\n") (part at i text)
+Inv-loop text at i₀ i = (at ≤ i) × (i ≤ length text) × Free (is "\n") (between at i text)
 
 abbrev μ-loop : tie.MeasureT-loop
 μ-loop text at i₀ i = length text - i

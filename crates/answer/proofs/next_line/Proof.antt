@@ -1,4 +1,4 @@
-use Rattle.answer.proofs.Lines.{line-last, line-ended, lines-none}
+use Rattle.theory_text.proofs.TextLines.{line-last, line-ended, lines-none}
 use native.Mathlib.Omega.{arith}
 use borrow.Author.Needs.{needs}
 use Rattle.answer.proofs.next_line.Statement.{statement}

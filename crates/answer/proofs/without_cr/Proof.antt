@@ -1,4 +1,4 @@
-use Rattle.answer.proofs.Lines.{trimmed-cr, trimmed-none, trimmed-empty}
+use Rattle.theory_text.proofs.TextLines.{trimmed-cr, trimmed-none, trimmed-empty}
 use borrow.Author.Needs.{needs}
 use Rattle.answer.proofs.without_cr.Statement.{statement}
 use Rattle.answer.proofs.without_cr.Tie as tie

@@ -107,84 +107,6 @@ returns c =
 enum-known-next : tie.Need-enum-known-next Inv-loop μ-loop
 enum-known-next c = search needs
 
-add-at : tie.Need-add-at Inv-loop μ-loop
-add-at c =
-    let back = c .before .before .before .before .before in let read-clause = back .read-clause in
-    let back = back .before .before .before .before in let lesser = back .lesser in
-    let back = back .before .before in let loop-test = back .loop-test in
-    let back = back .before in let loop = back .loop in
-    let start = back .before .before in
-    record {
-      fits = omega (
-        arith,
-        reading-on (loop .inv .0) (loop-test .taken) (rest-is (now (start .args .text)) (loop .at)) (lesser .ensures) _
-            _ _ (read-clause .ensures) (c .before .next .given .1) .inside,
-      );
-    }
-
-add-done : tie.Need-add-done Inv-loop μ-loop
-add-done c =
-    let back = c .before .before .before .before .before .before .before .before .before .before .before in let loop-test = back .loop-test in
-    let start = back .before .before .before in
-    record { fits = omega (arith, start .pre .1 .0, loop-test .taken) }
-
-add-total : tie.Need-add-total Inv-loop μ-loop
-add-total c =
-    let back = c .before .before .before .before .before in let read-clause = back .read-clause in
-    let back = back .before .before .before .before in let lesser = back .lesser in
-    let back = back .before .before in let loop-test = back .loop-test in
-    let back = back .before in let loop = back .loop in
-    let start = back .before .before in
-    record {
-      fits = omega (
-        arith,
-        start .pre .1 .1,
-        reading-on (loop .inv .0) (loop-test .taken) (rest-is (now (start .args .text)) (loop .at)) (lesser .ensures) _
-            _ _ (read-clause .ensures) (c .before .next .given .1) .low,
-      );
-    }
-
-add-end : tie.Need-add-end Inv-loop μ-loop
-add-end c =
-    let back = c .before .before .before .before .before in let read-clause = back .read-clause in
-    let back = back .before .before .before .before in let lesser = back .lesser in
-    let back = back .before .before in let loop-test = back .loop-test in
-    let back = back .before in let loop = back .loop in
-    let start = back .before .before in
-    record {
-      fits = omega (
-        arith,
-        start .pre .1,
-        reading-filled (loop .inv .0),
-        loop .inv .0 .few,
-        reading-on (loop .inv .0) (loop-test .taken) (rest-is (now (start .args .text)) (loop .at)) (lesser .ensures) _
-            _ _ (read-clause .ensures) (c .before .next .given .1) .low,
-      );
-    }
-
-add-end-2 : tie.Need-add-end-2 Inv-loop μ-loop
-add-end-2 c =
-    let back = c .before .before .before .before .before in let read-clause = back .read-clause in
-    let back = back .before .before .before .before in let lesser = back .lesser in
-    let back = back .before .before in let loop-test = back .loop-test in
-    let back = back .before in let loop = back .loop in
-    let start = back .before .before in
-    record {
-      fits = omega (
-        arith,
-        start .pre .1,
-        reading-filled (loop .inv .0),
-        loop .inv .0 .few,
-        reading-on (loop .inv .0) (loop-test .taken) (rest-is (now (start .args .text)) (loop .at)) (lesser .ensures) _
-            _ _ (read-clause .ensures) (c .before .next .given .1) .low,
-      );
-    }
-
-loop-less : tie.Need-loop-less Inv-loop μ-loop
-loop-less c =
-    let loop-test = c .before .before .before .before .before .before .before .before .before .before .before .loop-test in
-    omega (arith, loop-test .taken)
-
 loop-again : tie.Need-loop-again Inv-loop μ-loop
 loop-again c =
     let back = c .before .before .before .before .before in let read-clause = back .read-clause in
@@ -196,6 +118,29 @@ loop-again c =
           _ (read-clause .ensures) (c .before .next .given .1),
       search needs,
     )
+
+add-at : tie.Need-add-at Inv-loop μ-loop
+add-at c = record { fits = omega (arith, loop-again c .0 .inside) }
+
+add-done : tie.Need-add-done Inv-loop μ-loop
+add-done c =
+    let back = c .before .before .before .before .before .before .before .before .before .before .before in let loop-test = back .loop-test in
+    let start = back .before .before .before in
+    record { fits = omega (arith, start .pre .1 .0, loop-test .taken) }
+
+add-total : tie.Need-add-total Inv-loop μ-loop
+add-total c = record { fits = omega (arith, c .before .before .before .before .before .before .before .before .before .before .before .before .before .before .pre .1 .1, loop-again c .0 .low) }
+
+add-end : tie.Need-add-end Inv-loop μ-loop
+add-end c = record { fits = omega (arith, c .before .before .before .before .before .before .before .before .before .before .before .before .before .before .pre .1, reading-filled (loop-again c .0), loop-again c .0 .few, loop-again c .0 .low) }
+
+add-end-2 : tie.Need-add-end-2 Inv-loop μ-loop
+add-end-2 c = record { fits = omega (arith, c .before .before .before .before .before .before .before .before .before .before .before .before .before .before .pre .1, reading-filled (loop-again c .0), loop-again c .0 .few, loop-again c .0 .low) }
+
+loop-less : tie.Need-loop-less Inv-loop μ-loop
+loop-less c =
+    let loop-test = c .before .before .before .before .before .before .before .before .before .before .before .loop-test in
+    omega (arith, loop-test .taken)
 
 next-word-requires : tie.Need-next-word-requires Inv-loop μ-loop
 next-word-requires c κs = search needs

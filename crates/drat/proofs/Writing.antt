@@ -20,7 +20,7 @@ use Rattle.theory_text.specs.ClauseText.{literals-text}
 use Rattle.text.specs.Output.{Put}
 use Rattle.text.proofs.Output.{put-none, put-then, put-same, put-length, put-part, literal-length}
 use Rattle.theory_base.proofs.Slices.{sets-past}
-use Rattle.drat.specs.Lines.{line-of, header-text}
+use Rattle.drat.specs.Lines.{line-of}
 
 -- ---- a line
 

@@ -37,16 +37,6 @@ pub fn record_line(log: &mut [u8], p: Progress, is_deletion: bool, clause: &[i32
 
 // ---- a deletion with a literal first
 
-// Writes a literal and a blank.
-fn put_item(log: &mut [u8], at: usize, l: i32) -> usize
-    requires { ⌜ at + 12 < 2 ^ 64 ⌝ }
-    ensures written { λ r. ⌜ Put (now (log .entry)) at (literal-text l ++ bytes " ") r (now (log .exit)) ⌝ }
-    ensures within { λ r. ⌜ r ≤ at + 12 ⌝ }
-{
-    let a = text::put_literal(log, at, l);
-    text::put_byte(log, a, 32)
-}
-
 // Writes a literal and a blank, unless it is the first one.
 fn put_other(log: &mut [u8], at: usize, first: i32, l: i32) -> usize
     requires { ⌜ at + 12 < 2 ^ 64 ⌝ }
@@ -56,7 +46,7 @@ fn put_other(log: &mut [u8], at: usize, first: i32, l: i32) -> usize
     if literals::same(first, l) {
         return at;
     }
-    put_item(log, at, l)
+    text::put_item(log, at, l)
 }
 
 // Writes the literals of a clause without the first one, a blank after each.
@@ -82,7 +72,7 @@ fn put_first(log: &mut [u8], at: usize, first: i32) -> usize
 {
     let a = text::put_byte(log, at, 100);
     let b = text::put_byte(log, a, 32);
-    put_item(log, b, first)
+    text::put_item(log, b, first)
 }
 
 // Records the deletion of a clause with a literal first and the others in order.

@@ -1,2 +1,2 @@
 pub mod Clearing
-pub mod Choosing
+pub mod Turns

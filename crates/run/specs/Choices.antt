@@ -64,10 +64,11 @@ abbrev pub count-at : List ℤ → ℕ → ℕ
 count-at s at = cond (deleted-at s at) 0 1
 
 pub record At-ready (form : Form) (work : List ℤ) (r : Run) (chosen : List ℤ) (at : ℕ) : Type 0 where
-  pub good : Good (r .highest) [] work (r .progress)
+  pub inside : r .progress .end ≤ length work
+  pub formed : Formed (take (r .progress .end) work)
   pub at-inside : at < length chosen
   pub rest : Formed (drop at chosen)
-  pub few : r .choices + 1 < 2 ^ 32
+  pub few : r .choices < 2 ^ 31
   pub one : deleted-at chosen at ≡ false → One-ready form work (r .progress) (clause-at chosen at) (below-new (r .highest))
 
 pub record Taken-at (form : Form) (work : List ℤ) (log : Bytes) (r : Run) (chosen : List ℤ) (at : ℕ) (new-work : List ℤ) (new-log : Bytes) (q : Run) : Type 0 where
@@ -79,7 +80,7 @@ pub record Taken-at (form : Form) (work : List ℤ) (log : Bytes) (r : Run) (cho
 
 pub record All-ready (form : Form) (work : List ℤ) (p : Progress) (chosen : List ℤ) (n : ℕ) : Type 0 where
   pub good : Good n (taken-events form n (standing work p) (stored chosen)) work p
-  pub few : length chosen < 2 ^ 32
+  pub few : length chosen < 2 ^ 31
   pub chosen-formed : Formed chosen
   pub takeable : All-takeable form (length work) n (standing work p) (stored chosen)
 

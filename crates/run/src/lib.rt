@@ -9,9 +9,7 @@ ghost use Rattle.definition.specs.Events.{choice-of};
 ghost use Rattle.theory_room.specs.Choices.{clearing};
 ghost use Rattle.store.specs.Store.{stored};
 ghost use Rattle.progress.specs.Progress.{standing, Runs};
-ghost use Rattle.pass_align.specs.Aligned.{Alignable-store};
 ghost use Rattle.run.specs.Settings.{named-form, named-arrangement, settings-of};
-ghost use Rattle.run.specs.Choices.{Arranged, Choosable, Chosen};
 ghost use Rattle.run.specs.Run.{Clear-ready};
 use progress::Progress;
 
@@ -51,27 +49,12 @@ fn clear(work: &mut [i32], log: &mut [u8], p: Progress, highest: u32) -> Progres
     pass_pure::delete_pure(work, log, q)
 }
 
-// ---- choosing
+// ---- taking
 
-// Arranges the literals of the choices.
-fn arrange(store: &[i32], chosen: &mut [i32], arrangement: Arrangement)
-    requires { ⌜ Alignable-store (now store) (now chosen) ⌝ }
-    ensures { λ _. ⌜ Arranged (named-arrangement arrangement) (stored (now (store .entry))) (stored (now (chosen .entry))) (length (now (chosen .entry))) (now (chosen .exit)) ⌝ }
+// The number below the new variables of the next choice, where some variable is the highest used.
+fn next_below(highest: u32) -> u32
+    ensures { λ r. ⌜ r ≡ below-new highest ⌝ }
 {
-    match arrangement {
-        Arrangement::AsListed => {}
-        Arrangement::Alignment => pass_align::align(store, chosen),
-    }
-}
-
-// Collects the choices that stand, literals in the order in which they are taken; the result is how many elements they fill.
-fn choose(work: &[i32], p: Progress, chosen: &mut [i32], arrangement: Arrangement) -> usize
-    requires { ⌜ Choosable (now work) p (now chosen) ⌝ }
-    ensures { λ r. ⌜ Chosen (named-arrangement arrangement) (standing (now (work .entry)) p) (length (now (chosen .entry))) r (now (chosen .exit)) ⌝ }
-{
-    let end = p.end;
-    let n = pass_choose::collect(work, p, chosen);
-    arrange(&work[..end], &mut chosen[..n], arrangement);
-    n
+    highest
 }
 

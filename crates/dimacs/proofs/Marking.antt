@@ -19,7 +19,7 @@ use Rattle.literals.proofs.Laws.{header-small}
 use Rattle.text.specs.Numbers.{number-class}
 use Rattle.text.specs.declared.Number.the-variants as Number
 use Rattle.text.proofs.Numbers.{number-answer}
-use Rattle.text.proofs.Words.{First}
+use Rattle.theory_text.proofs.Runs.{First}
 use Rattle.tables.specs.Stamps.{Marks, Fresh, Mark-post}
 use Rattle.tables.specs.declared.Marked.{Marked}
 use Rattle.tables.specs.declared.Marked.the-variants as Mark

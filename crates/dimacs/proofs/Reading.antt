@@ -19,7 +19,7 @@ use Rattle.theory_base.proofs.Clauses.{literals-snoc}
 use Rattle.theory_base.proofs.Outcomes.{fault-value, value-same}
 use Rattle.theory_base.proofs.Slices.{sets-then, sets-past, sets-rest}
 use Rattle.theory_text.proofs.Accepted.{Header-few, header-few}
-use Rattle.text.proofs.Words.{words-blank}
+use Rattle.theory_text.proofs.Runs.{words-blank}
 use Rattle.tables.specs.Stamps.{At-most, Fresh}
 use Rattle.tables.proofs.Laws.{zeros-at-most, fresh-more}
 use Rattle.dimacs.specs.declared.ClauseRead.{ClauseRead}

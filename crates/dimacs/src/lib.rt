@@ -1,24 +1,26 @@
 // DIMACS CNF: a formula read into a store, and written from one.
 use tables::Marked;
+use text::Line;
 use text::Natural;
 use text::Number;
 use text::Word;
 ghost use mathlib.Core.Path.{_≡_};
 ghost use mathlib.Core.Bool.{false};
 ghost use mathlib.Core.List.{[], _++_};
-ghost use Prim.Native.Nat.{suc, _+_, _*_, _-_, _≤_, _<_, _^_, min};
-ghost use lib.ListN.{length, take, drop, set};
+ghost use Prim.Native.Nat.{_+_, _*_, _-_, _≤_, _<_, _^_};
+ghost use lib.ListN.{length, drop};
 ghost use Rattle.definition.specs.Lists.{for-each};
 ghost use Rattle.definition.specs.Literals.{Clause};
-ghost use Rattle.definition.specs.Text.{bytes, number, past-comments, words, fields};
-ghost use Rattle.definition.specs.Answer.{begins-with};
+ghost use Rattle.definition.specs.Text.{is, number, past-comments, words, fields};
 ghost use Rattle.definition.specs.Reading.{input-limits, read-back-limits, read-header-fields, read-header, read-clauses, read-formula};
 ghost use Rattle.definition.specs.Log.{clause-text, formula-text};
+ghost use Rattle.theory_text.specs.Runs.{letters};
+ghost use Rattle.theory_text.specs.HeaderLine.{marker};
 ghost use Rattle.text.specs.Output.{Put};
 ghost use Rattle.store.specs.Store.{Formed, stored, past};
 ghost use Rattle.tables.specs.Stamps.{Marks, Fresh};
 ghost use Rattle.dimacs.specs.Limits.{limits-of, Countable};
-ghost use Rattle.dimacs.specs.HeaderLine.{until, line-until, counts-by, counts-of, Header-post};
+ghost use Rattle.dimacs.specs.HeaderLine.{counts-by, counts-of, Header-post};
 ghost use Rattle.dimacs.specs.Clause.{number-item, Item-post, ended, first-clause, Clause-post};
 ghost use Rattle.dimacs.specs.Outcome.{header-of, read-of, Filled};
 ghost use Rattle.dimacs.specs.FormulaText.{header-text, entry-text};
@@ -98,61 +100,6 @@ fn skip_comments(text: &[u8]) -> usize
     at
 }
 
-// How many bytes stand before the first one with a value.
-fn find(text: &[u8], b: u8) -> usize
-    ensures { λ r. ⌜ r ≡ until b (now (text .entry)) ⌝ }
-{
-    let mut i = 0;
-    while i < text.len() {
-        if text[i] == b {
-            return i;
-        }
-        i += 1;
-    }
-    i
-}
-
-// The end of the first line's text, whose LF stands at end unless the text ends there.
-fn line_stop(text: &[u8], end: usize) -> usize
-    requires { ⌜ end ≤ length (now text) ⌝ }
-    ensures within { λ r. ⌜ r ≤ end ⌝ }
-    ensures line { λ r. ⌜ take r (now (text .entry)) ≡ line-until end (now (text .entry)) ⌝ }
-{
-    if end == text.len() {
-        return end;
-    }
-    if end == 0 {
-        return end;
-    }
-    let last = end - 1;
-    if text[last] == 13 { last } else { end }
-}
-
-// Whether a line begins with `p cnf `.
-fn is_header(line: &[u8]) -> bool
-    ensures { λ r. ⌜ r ≡ begins-with (bytes "p cnf ") (now (line .entry)) ⌝ }
-{
-    if line.len() < 6 {
-        return false;
-    }
-    if line[0] != 112 {
-        return false;
-    }
-    if line[1] != 32 {
-        return false;
-    }
-    if line[2] != 99 {
-        return false;
-    }
-    if line[3] != 110 {
-        return false;
-    }
-    if line[4] != 102 {
-        return false;
-    }
-    line[5] == 32
-}
-
 // V and C by what their words say.
 fn counts_from(v: Natural, c: Natural, most: Limits) -> Counts
     ensures { λ r. ⌜ r ≡ counts-by most v c ⌝ }
@@ -180,12 +127,26 @@ fn counts_from(v: Natural, c: Natural, most: Limits) -> Counts
     }
 }
 
+// The place of the first blank, or the text's end.
+fn first_blank(text: &[u8]) -> usize
+    ensures { λ r. ⌜ r ≡ letters (is " ") (now (text .entry)) ⌝ }
+{
+    let mut i = 0;
+    while i < text.len() {
+        if text[i] == 32 {
+            return i;
+        }
+        i += 1;
+    }
+    i
+}
+
 // V and C of a line that begins with `p cnf `, from what follows.
 fn split_counts(rest: &[u8], most: Limits) -> Counts
     requires { ⌜ Countable most ⌝ }
-    ensures { λ r. ⌜ r ≡ counts-of (read-header-fields (limits-of most) (fields (bytes "p cnf " ++ now (rest .entry))) []) ⌝ }
+    ensures { λ r. ⌜ r ≡ counts-of (read-header-fields (limits-of most) (fields (marker ++ now (rest .entry))) []) ⌝ }
 {
-    let first = find(rest, 32);
+    let first = first_blank(rest);
     if first == rest.len() {
         return Counts::Fault(1);
     }
@@ -200,29 +161,10 @@ fn read_counts(line: &[u8], most: Limits) -> Counts
     requires { ⌜ Countable most ⌝ }
     ensures { λ r. ⌜ r ≡ counts-of (read-header-fields (limits-of most) (fields (now (line .entry))) []) ⌝ }
 {
-    if is_header(line) {
+    if text::begins(line, b"p cnf ") {
         split_counts(&line[6..], most)
     } else {
         Counts::Fault(1)
-    }
-}
-
-// The header in the first line of a text.
-fn header_line(text: &[u8], most: Limits) -> Header
-    requires { ⌜ Countable most ⌝ }
-    ensures { λ r. ⌜ Header-post (now (text .entry)) (read-header-fields (limits-of most) (fields (line-until (until 10 (now (text .entry))) (now (text .entry)))) (drop (suc (until 10 (now (text .entry)))) (now (text .entry)))) r ⌝ }
-{
-    let end = find(text, 10);
-    let stop = line_stop(text, end);
-    match read_counts(&text[..stop], most) {
-        Counts::Fault(n) => Header::Fault(n),
-        Counts::Numbers(v, c) => {
-            if end < text.len() {
-                Header::Numbers(v, c, end + 1)
-            } else {
-                Header::Numbers(v, c, end)
-            }
-        }
     }
 }
 
@@ -232,9 +174,12 @@ fn read_header(text: &[u8], most: Limits) -> Header
     ensures { λ r. ⌜ Header-post (now (text .entry)) (read-header (limits-of most) (now (text .entry))) r ⌝ }
 {
     let at = skip_comments(text);
-    match header_line(&text[at..], most) {
-        Header::Fault(n) => Header::Fault(n),
-        Header::Numbers(v, c, next) => Header::Numbers(v, c, at + next),
+    match text::next_line(text, at) {
+        Line::End => Header::Fault(1),
+        Line::Text { start, end, next } => match read_counts(&text[start..end], most) {
+            Counts::Fault(n) => Header::Fault(n),
+            Counts::Numbers(v, c) => Header::Numbers(v, c, next),
+        },
     }
 }
 
@@ -297,15 +242,6 @@ fn ended(count: usize) -> u8
     if count == 0 { 8 } else { 7 }
 }
 
-// Stores an element where the store has the place.
-fn put(store: &mut [i32], at: usize, l: i32)
-    ensures { λ _. ⌜ now (store .exit) ≡ set (now (store .entry)) at l ⌝ }
-{
-    if at < store.len() {
-        store[at] = l;
-    }
-}
-
 // Reads the clause at the start of a text, of at most room literals, and stores it at the start of a store. The table seen
 // has an entry for each literal, the stamp of the clause in which it was last read.
 fn read_clause(
@@ -334,7 +270,7 @@ fn read_clause(
                     return ClauseRead::Fault(f);
                 }
                 Item::Zero => {
-                    put(store, 0, literals::header(n));
+                    store::put(store, 0, literals::header(n));
                     return ClauseRead::Done(end, n);
                 }
                 Item::Literal(l) => {
@@ -342,7 +278,7 @@ fn read_clause(
                         return ClauseRead::Fault(9);
                     }
                     n += 1;
-                    put(store, n, l);
+                    store::put(store, n, l);
                     at = end;
                 }
             },
@@ -356,13 +292,6 @@ fn read_clause(
 pub enum FormulaRead {
     Formula(u32, u32, u32, usize),
     Fault(u8),
-}
-
-// The lesser of two numbers.
-fn lesser(a: usize, b: usize) -> usize
-    ensures { λ r. ⌜ r ≡ min a b ⌝ }
-{
-    if a < b { a } else { b }
 }
 
 // Reads the clauses of a text that begins after its header into a store. What lies past the store's end is counted, but not
@@ -387,7 +316,7 @@ fn read_clauses(
     let mut end: usize = 0;
     while done < clauses {
         let room = most.literals as usize - total;
-        let to = lesser(end, store.len());
+        let to = literals::lower(end, store.len());
         match read_clause(
             &text[at..],
             &mut seen,

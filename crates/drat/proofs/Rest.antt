@@ -3,7 +3,7 @@ use mathlib.Core.Path.{_≡_, refl, sym, ap, subst, _∙_}
 use mathlib.Core.Bool.{Bool, true, false, not, cond}
 use mathlib.Core.List.{[], _∷_, _++_, append-nil}
 use mathlib.Core.Option.{Option, some, none}
-use Prim.Native.Nat.{ℕ, suc, _+_, _-_, _≤_, _<_}
+use Prim.Native.Nat.{ℕ, _+_, _-_, _≤_, _<_}
 use native.Mathlib.Omega.{arith}
 use lib.Dec.{eqb, leb}
 use lib.IntN.{ℤ, pos, negsuc, natAbs}
@@ -22,33 +22,13 @@ use Rattle.theory_text.proofs.Words.{same-length}
 use Rattle.theory_text.proofs.LineWords.{rest-high, rest-unended, rest-last, rest-more}
 use Rattle.literals.proofs.Laws.{at-arg}
 use Rattle.text.specs.Numbers.{number-class}
-use Rattle.text.specs.Words.{in-run, leading, run-end}
+use Rattle.theory_text.specs.Runs.{letters, run-end}
+use Rattle.theory_text.proofs.Runs.{letters-free, letters-stop}
 use Rattle.drat.specs.declared.LineWord.{LineWord}
 use Rattle.drat.specs.declared.LineWord.the-variants as Word
 use Rattle.drat.specs.Reading.{stops, literal-answer, last-answer, word-answer, line-word}
 
--- ---- the word at the start of a text
-
-abbrev letters : Bytes → ℕ
-letters t = leading (in-run stops false) t
-
-letters-free : (t : Bytes) → Free stops (take (letters t) t)
-unfolding leading
-letters-free [] = tt
-letters-free (b ∷ t) = go (stops b) refl (letters-free t)
-  where
-    go : (x : Bool) → stops b ≡ x → Free stops (take (letters t) t) → Free stops (take (cond (not x) (suc (letters t)) 0) (b ∷ t))
-    go true e ih = tt
-    go false e ih = (e, ih)
-
-letters-stop : (t : Bytes) (b : ℕ) (r : Bytes) → drop (letters t) t ≡ b ∷ r → stops b ≡ true
-unfolding leading
-letters-stop [] b r e = let z : _≡_ {A = ℕ} 0 1 = cc in absurd (omega arith)
-letters-stop (a ∷ t) b r e = go (stops a) refl (letters-stop t b r) e
-  where
-    go : (x : Bool) → stops a ≡ x → (drop (letters t) t ≡ b ∷ r → stops b ≡ true) → drop (cond (not x) (suc (letters t)) 0) (a ∷ t) ≡ b ∷ r → stops b ≡ true
-    go true q ih p = let same : a ≡ b = cc in ap stops (sym same) ∙ q
-    go false q ih p = ih p
+-- ---- a byte of a word
 
 free-blank : (w : Bytes) → Free stops w → Free (is " ") w
 free-blank [] f = tt
@@ -109,21 +89,21 @@ module _ (t : Bytes) (at : ℕ) where
   abbrev word : Bytes
   word = take (end - at) (drop at t)
 
-  size : end - at ≡ letters (drop at t)
+  size : end - at ≡ letters stops (drop at t)
   size = omega arith
 
   word-free : Free stops word
-  word-free = rw size (letters-free (drop at t))
+  word-free = rw size (letters-free stops (drop at t))
 
   rest-at : drop at t ≡ word ++ drop end t
   rest-at =
-      sym (take-append-drop (letters (drop at t)) (drop at t))
-      ∙ ap (λ (r : Bytes). take (letters (drop at t)) (drop at t) ++ r) (drop-drop (letters (drop at t)) at t)
+      sym (take-append-drop (letters stops (drop at t)) (drop at t))
+      ∙ ap (λ (r : Bytes). take (letters stops (drop at t)) (drop at t) ++ r) (drop-drop (letters stops (drop at t)) at t)
       ∙ ap (λ (n : ℕ). take n (drop at t) ++ drop end t) (sym size)
 
   module _ (b : ℕ) (r : Bytes) (q : drop end t ≡ b ∷ r) where
     stop : stops b ≡ true
-    stop = letters-stop (drop at t) b r (drop-drop (letters (drop at t)) at t ∙ q)
+    stop = letters-stop stops (drop at t) (drop-drop (letters stops (drop at t)) at t ∙ q)
 
     inside : end < length t
     inside = omega (arith, length-drop end t, ap length q)

@@ -9,7 +9,7 @@ use lib.Seq.{drop-cons}
 use borrow.Author.Tests.{ne-eqb}
 use Rattle.definition.specs.Text.{Bytes, bytes, is, same-bytes, number}
 use Rattle.text.specs.Numbers.{number-class}
-use Rattle.text.specs.Words.{run-end}
+use Rattle.theory_text.specs.Runs.{run-end}
 use Rattle.text.specs.declared.Number.{Number}
 use Rattle.text.specs.declared.Number.the-variants as Number
 use Rattle.drat.specs.declared.LineWord.the-variants as Word

@@ -1,15 +1,14 @@
 -- A proof line from its parts.
 use mathlib.Core.Path.{_≡_, refl}
-use mathlib.Core.Bool.{Bool, true, false, cond}
-use mathlib.Core.List.{List, [], _∷_, _++_}
-use Prim.Native.Nat.{ℕ}
-use lib.IntN.{ℤ, pos, negsuc}
+use mathlib.Core.Bool.{Bool, true, false}
+use mathlib.Core.List.{[], _∷_}
+use lib.IntN.{pos, negsuc}
 use Rattle.definition.specs.Lists as Lists
 use Rattle.definition.specs.Literals.{Clause}
-use Rattle.definition.specs.Text.{Bytes, bytes, digits}
+use Rattle.definition.specs.Text.{bytes}
 use Rattle.definition.specs.Text as Text
 use Rattle.definition.specs.Standing.{Line, addition, deletion}
-use Rattle.definition.specs.Log.{clause-text, log-line-text}
+use Rattle.definition.specs.Log.{log-line-text}
 use Rattle.definition.specs.Log as Log
 
 -- the line of a clause, by whether it is a deletion

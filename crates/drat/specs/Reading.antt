@@ -15,7 +15,7 @@ use Rattle.definition.specs.Text as Text
 use Rattle.definition.specs.Standing.{Line, literals, highest-in}
 use Rattle.definition.specs.LogReading.{numbers-in}
 use Rattle.text.specs.Numbers.{number-class}
-use Rattle.text.specs.Words.{run-end, leading}
+use Rattle.theory_text.specs.Runs.{run-end, leading}
 use Rattle.text.specs.declared.Number.{Number}
 use Rattle.text.specs.declared.Number.the-variants as Number
 use Rattle.drat.specs.declared.LineWord.{LineWord}

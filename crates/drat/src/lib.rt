@@ -3,13 +3,13 @@ use tables::Marked;
 ghost use mathlib.Core.Path.{_≡_};
 ghost use mathlib.Core.List.{[]};
 ghost use Prim.Native.Nat.{_+_, _*_, _≤_, _<_, _^_};
-ghost use lib.ListN.{length, drop, set};
+ghost use lib.ListN.{length, drop};
 ghost use mathlib.Core.Bool.{false, cond};
 ghost use Rattle.definition.specs.Text.{bytes, same-bytes, number};
 ghost use Rattle.definition.specs.LogReading.{read-log};
 ghost use Rattle.definition.specs.Log.{log-line-text};
 ghost use Rattle.text.specs.Numbers.{number-class};
-ghost use Rattle.text.specs.Words.{run-end};
+ghost use Rattle.theory_text.specs.Runs.{run-end};
 ghost use Rattle.text.specs.Output.{Put};
 ghost use Rattle.theory_text.specs.LogLines.{first-read, begins-deletion, rest-read};
 ghost use Rattle.tables.specs.Stamps.{Fresh, At-most};
@@ -129,15 +129,6 @@ enum LineRead {
     Fault,
 }
 
-// Stores a number where the store has the place.
-fn store_number(store: &mut [i32], at: usize, l: i32)
-    ensures { λ _. ⌜ now (store .exit) ≡ set (now (store .entry)) at l ⌝ }
-{
-    if at < store.len() {
-        store[at] = l;
-    }
-}
-
 // Reads the clause of a line that starts at a place, each literal looked up in a table of stamps; the literals and their number are stored.
 fn read_clause(
     text: &[u8],
@@ -160,7 +151,7 @@ fn read_clause(
         match read_word(text, at) {
             LineWord::Literal(next, l) => match tables::mark(seen, stamp, l) {
                 Marked::New => {
-                    store_number(store, to + count, l);
+                    store::put(store, to + count, l);
                     at = next;
                     count += 1;
                     highest = literals::higher_variable(highest, literals::variable(l));
@@ -173,7 +164,7 @@ fn read_clause(
                 }
             },
             LineWord::End(next) => {
-                store_number(store, to + count, literals::header(count));
+                store::put(store, to + count, literals::header(count));
                 return LineRead::Line(next, count, highest);
             }
             LineWord::Fault => {
@@ -220,7 +211,7 @@ fn read_line(text: &[u8], seen: &mut [u32], stamp: u32, store: &mut [i32], to: u
     let from = clause_start(deletes);
     match read_clause(text, from, seen, stamp, store, to + 1) {
         LineRead::Line(next, count, highest) => {
-            store_number(store, to, line_header(deletes, count));
+            store::put(store, to, line_header(deletes, count));
             LineRead::Line(next, count, highest)
         }
         LineRead::Fault => LineRead::Fault,

@@ -230,6 +230,15 @@ pub fn delete_clause(store: &mut [i32], clause: &[i32]) -> bool
 
 // ---- adding
 
+// Stores an element where the store has the place.
+pub fn put(store: &mut [i32], at: usize, l: i32)
+    ensures { λ _. ⌜ now (store .exit) ≡ set (now (store .entry)) at l ⌝ }
+{
+    if at < store.len() {
+        store[at] = l;
+    }
+}
+
 // Copies a clause's literals to a place.
 fn copy_at(work: &mut [i32], at: usize, clause: &[i32])
     requires { ⌜ at + length (now clause) ≤ length (now work) ⌝ }

@@ -15,7 +15,7 @@ use Rattle.definition.specs.Answer.{begins-with}
 use Rattle.theory_base.specs.Slices.{between}
 use Rattle.theory_base.proofs.Parts.{between-none, between-snoc, between-then}
 use Rattle.theory_base.proofs.Tests.{to-true, to-false, second-holds}
-use Rattle.theory_text.proofs.Words.{free-++, first-line, last-cr, last-line, same-length, same-turned}
+use Rattle.theory_text.proofs.Words.{free-++, first-line, past-line, last-cr, last-line, same-length, same-turned}
 use Rattle.theory_text.specs.Words.{Free}
 use Rattle.theory_text.specs.TextLines.{Line-end, Trimmed, First-line}
 
@@ -65,6 +65,7 @@ module _ (t : Bytes) (at end : ℕ) (h : at < length t) (e : Line-end t at end) 
     line = record { text = between at end t; ended = false };
     lines = ap text-lines whole ∙ last-line (between at end t) some (e .no-newline) ∙ ap (λ (r : Bytes). record { text = between at end t; ended = false } ∷ text-lines r) (sym none);
     text = refl;
+    rest = drop-of-length-le (drop at t) {i = suc (length (between at end t))} (omega (arith, ap length whole)) ∙ sym none;
     ordered = e .after;
     before = omega arith;
     forward = omega arith;
@@ -87,6 +88,7 @@ module _ (t : Bytes) (at end : ℕ) (h : at < length t) (e : Line-end t at end) 
     line = record { text = between at end t; ended = true };
     lines = ap text-lines whole ∙ first-line (between at end t) (drop (end + 1) t) (e .no-newline);
     text = sym (r .text);
+    rest = ap (drop (suc (length (between at end t)))) whole ∙ past-line (between at end t) (code "\n") (drop (end + 1) t);
     ordered = r .after;
     before = omega (arith, r .before);
     forward = omega (arith, e .after);

@@ -3,3 +3,5 @@ pub mod ClauseText
 pub mod Accepted
 pub mod LogLines
 pub mod TextLines
+pub mod Runs
+pub mod HeaderLine

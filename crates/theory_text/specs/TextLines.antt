@@ -1,7 +1,7 @@
 -- The first line of the rest of a text.
 use mathlib.Core.Path.{_≡_}
 use mathlib.Core.List.{_∷_}
-use Prim.Native.Nat.{ℕ, _≤_, _<_}
+use Prim.Native.Nat.{ℕ, suc, _≤_, _<_}
 use Prim.Native.Char.{code}
 use lib.ListN.{length, getD, drop}
 use Rattle.definition.specs.Text.{Bytes, is, TextLine, text-lines, without-last-cr, line-text}
@@ -26,6 +26,7 @@ pub record First-line (t : Bytes) (at start end next : ℕ) : Type 0 where
   pub line : TextLine
   pub lines : text-lines (drop at t) ≡ line ∷ text-lines (drop next t)
   pub text : line-text line ≡ between start end t
+  pub rest : drop (suc (length (line .text))) (drop at t) ≡ drop next t
   pub ordered : start ≤ end
   pub before : end ≤ next
   pub forward : at < next

@@ -37,8 +37,8 @@ cast-room c = search needs
 sub-room : tie.Need-sub-room Inv-loop μ-loop
 sub-room c = c .before .before .loop .inv .0 .low
 
-lesser-requires : tie.Need-lesser-requires Inv-loop μ-loop
-lesser-requires c κs = search needs
+lower-requires : tie.Need-lower-requires Inv-loop μ-loop
+lower-requires c κs = search needs
 
 sub-read-clause : tie.Need-sub-read-clause Inv-loop μ-loop
 sub-read-clause c =
@@ -68,13 +68,13 @@ mul-read-clause : tie.Need-mul-read-clause Inv-loop μ-loop
 mul-read-clause c = search needs
 
 sub-read-clause-2 : tie.Need-sub-read-clause-2 Inv-loop μ-loop
-sub-read-clause-2 c = omega (arith, c .before .before .lesser .ensures)
+sub-read-clause-2 c = omega (arith, c .before .before .lower .ensures)
 
 part-read-clause-start-2 : tie.Need-part-read-clause-start-2 Inv-loop μ-loop
-part-read-clause-start-2 c = omega (arith, c .before .before .lesser .ensures)
+part-read-clause-start-2 c = omega (arith, c .before .before .lower .ensures)
 
 part-read-clause-end-2 : tie.Need-part-read-clause-end-2 Inv-loop μ-loop
-part-read-clause-end-2 c = omega (arith, c .before .before .lesser .ensures)
+part-read-clause-end-2 c = omega (arith, c .before .before .lower .ensures)
 
 read-clause-requires : tie.Need-read-clause-requires Inv-loop μ-loop
 read-clause-requires c κs =
@@ -88,20 +88,20 @@ enum-known-n c = search needs
 same-length : tie.Need-same-length Inv-loop μ-loop
 same-length c =
     let back = c .before .before .before .before .before in let read-clause = back .read-clause in
-    let back = back .before .before .before .before in let lesser = back .lesser in
+    let back = back .before .before .before .before in let lower = back .lower in
     let loop = back .before .before .before .loop in
-    same-len-mid {X = ℤ} (lesser .result) (length (loop .store) - lesser .result) (loop .store)
+    same-len-mid {X = ℤ} (lower .result) (length (loop .store) - lower .result) (loop .store)
     (read-clause .last .1 .1 .1 .1 .1 .0) (read-clause .kept .1 .1 .1 .1 .1 .0)
     ∙ loop .inv .0 .size
 
 returns : tie.Need-returns Inv-loop μ-loop
 returns c =
     let back = c .before .before .before .before .before in let read-clause = back .read-clause in
-    let back = back .before .before .before .before in let lesser = back .lesser in
+    let back = back .before .before .before .before in let lower = back .lower in
     let back = back .before .before in let loop-test = back .loop-test in
     let back = back .before in let loop = back .loop in
     let start = back .before .before in
-    reading-fault (loop .inv .0) (loop-test .taken) (rest-is (now (start .args .text)) (loop .at)) (lesser .ensures) _ _
+    reading-fault (loop .inv .0) (loop-test .taken) (rest-is (now (start .args .text)) (loop .at)) (lower .ensures) _ _
     _ (read-clause .ensures) (c .before .n .given .1)
 
 enum-known-next : tie.Need-enum-known-next Inv-loop μ-loop
@@ -110,11 +110,11 @@ enum-known-next c = search needs
 loop-again : tie.Need-loop-again Inv-loop μ-loop
 loop-again c =
     let back = c .before .before .before .before .before in let read-clause = back .read-clause in
-    let back = back .before .before .before .before in let lesser = back .lesser in
+    let back = back .before .before .before .before in let lower = back .lower in
     let back = back .before .before in let loop-test = back .loop-test in
     let back = back .before in let loop = back .loop in
     let start = back .before .before in (
-      reading-on (loop .inv .0) (loop-test .taken) (rest-is (now (start .args .text)) (loop .at)) (lesser .ensures) _ _
+      reading-on (loop .inv .0) (loop-test .taken) (rest-is (now (start .args .text)) (loop .at)) (lower .ensures) _ _
           _ (read-clause .ensures) (c .before .next .given .1),
       search needs,
     )
@@ -129,13 +129,23 @@ add-done c =
     record { fits = omega (arith, start .pre .1 .0, loop-test .taken) }
 
 add-total : tie.Need-add-total Inv-loop μ-loop
-add-total c = record { fits = omega (arith, c .before .before .before .before .before .before .before .before .before .before .before .before .before .before .pre .1 .1, loop-again c .0 .low) }
+add-total c =
+    let start = c .before .before .before .before .before .before .before .before .before .before .before .before .before .before in
+    record { fits = omega (arith, start .pre .1 .1, loop-again c .0 .low) }
 
 add-end : tie.Need-add-end Inv-loop μ-loop
-add-end c = record { fits = omega (arith, c .before .before .before .before .before .before .before .before .before .before .before .before .before .before .pre .1, reading-filled (loop-again c .0), loop-again c .0 .few, loop-again c .0 .low) }
+add-end c =
+    let start = c .before .before .before .before .before .before .before .before .before .before .before .before .before .before in
+    record {
+      fits = omega (arith, start .pre .1, reading-filled (loop-again c .0), loop-again c .0 .few, loop-again c .0 .low);
+    }
 
 add-end-2 : tie.Need-add-end-2 Inv-loop μ-loop
-add-end-2 c = record { fits = omega (arith, c .before .before .before .before .before .before .before .before .before .before .before .before .before .before .pre .1, reading-filled (loop-again c .0), loop-again c .0 .few, loop-again c .0 .low) }
+add-end-2 c =
+    let start = c .before .before .before .before .before .before .before .before .before .before .before .before .before .before in
+    record {
+      fits = omega (arith, start .pre .1, reading-filled (loop-again c .0), loop-again c .0 .few, loop-again c .0 .low);
+    }
 
 loop-less : tie.Need-loop-less Inv-loop μ-loop
 loop-less c =
@@ -192,7 +202,7 @@ read-clauses-spec =
     loop-holds
     cast-room
     sub-room
-    lesser-requires
+    lower-requires
     sub-read-clause
     part-read-clause-start
     part-read-clause-end

@@ -44,8 +44,8 @@ mark-requires c κs =
 enum-told : tie.Need-enum-told Inv-loop μ-loop
 enum-told c = search needs
 
-add-store-number : tie.Need-add-store-number Inv-loop μ-loop
-add-store-number c =
+add-put : tie.Need-add-put Inv-loop μ-loop
+add-put c =
     let back = c .before .before .before .before .before .before .before .before in let next = back .next in
     let back = back .before .before in let read-word = back .read-word in
     let back = back .before in let loop = back .loop in
@@ -53,8 +53,8 @@ add-store-number c =
     let m = word-literal (start .args .text .now) (loop .at) (sym (read-word .ensures) ∙ next .given .1) in
     record { fits = omega (arith, loop .inv .1 .room, m .after, m .within, start .pre .1 .1) }
 
-store-number-requires : tie.Need-store-number-requires Inv-loop μ-loop
-store-number-requires c κs = search needs
+put-requires : tie.Need-put-requires Inv-loop μ-loop
+put-requires c κs = search needs
 
 add-count : tie.Need-add-count Inv-loop μ-loop
 add-count c =
@@ -82,7 +82,7 @@ loop-less c =
 
 loop-again : tie.Need-loop-again Inv-loop μ-loop
 loop-again c =
-    let back = c .before .before .before in let store-number = back .store-number in
+    let back = c .before .before .before in let put = back .put in
     let back = back .before .before in let the-enum-told = back .enum-told in
     let back = back .before .before .before .before in let mark = back .mark in
     let back = back .before .before .before in let next = back .next in
@@ -92,7 +92,7 @@ loop-again c =
     let m = word-argument (start .args .text .now) (loop .at) (sym (read-word .ensures) ∙ next .given .1) in (
       mark .kept .0 ∙ loop .inv .0,
       reading-step (loop .inv .1) m _ _ (mark .ensures (loop .inv .1 .c) (loop .inv .1 .marks))
-          (the-enum-told .given .1) (c .before .variable .ensures) (c .higher-variable .ensures) (store-number .ensures),
+          (the-enum-told .given .1) (c .before .variable .ensures) (c .higher-variable .ensures) (put .ensures),
     )
 
 enum-told-2 : tie.Need-enum-told-2 Inv-loop μ-loop
@@ -142,8 +142,8 @@ returns-2 c =
 enum-known-next-2 : tie.Need-enum-known-next-2 Inv-loop μ-loop
 enum-known-next-2 c = search needs
 
-add-store-number-2 : tie.Need-add-store-number-2 Inv-loop μ-loop
-add-store-number-2 c =
+add-put-2 : tie.Need-add-put-2 Inv-loop μ-loop
+add-put-2 c =
     let back = c .before .before .before .before in let read-word = back .read-word in
     let back = back .before in let loop = back .loop in
     let start = back .before .before .before in
@@ -154,8 +154,8 @@ add-store-number-2 c =
 header-requires : tie.Need-header-requires Inv-loop μ-loop
 header-requires c κs = search needs
 
-store-number-requires-2 : tie.Need-store-number-requires-2 Inv-loop μ-loop
-store-number-requires-2 c κs = search needs
+put-requires-2 : tie.Need-put-requires-2 Inv-loop μ-loop
+put-requires-2 c κs = search needs
 
 same-length-5 : tie.Need-same-length-5 Inv-loop μ-loop
 same-length-5 c = search needs
@@ -163,7 +163,7 @@ same-length-5 c = search needs
 same-length-6 : tie.Need-same-length-6 Inv-loop μ-loop
 same-length-6 c =
     let loop = c .before .before .before .before .before .before .before .before .loop in
-    ap length (c .before .store-number2 .ensures) ∙ simp length-set (store-length (loop .inv .1))
+    ap length (c .before .put2 .ensures) ∙ simp length-set (store-length (loop .inv .1))
 
 returns-3 : tie.Need-returns-3 Inv-loop μ-loop
 returns-3 c =
@@ -174,7 +174,7 @@ returns-3 c =
     let start = back .before .before .before in (
       reading-last (loop .inv .1) (word-last _ _ (sym (read-word .ensures) ∙ next2 .given .1))
           (answer (λ (z : ℤ). set (loop .store) (start .args .to + loop .count) z) (header .result)
-          (sfits-of (header .ok)) (c .before .store-number2 .ensures)
+          (sfits-of (header .ok)) (c .before .put2 .ensures)
           ∙ ap (λ (z : ℤ). set (loop .store) (start .args .to + loop .count) z) (header .ensures)),
       loop .inv .1 .marks .below,
     )
@@ -209,8 +209,8 @@ read-clause-spec =
     enum-known-next
     mark-requires
     enum-told
-    add-store-number
-    store-number-requires
+    add-put
+    put-requires
     add-count
     variable-requires
     higher-variable-requires
@@ -225,9 +225,9 @@ read-clause-spec =
     same-length-4
     returns-2
     enum-known-next-2
-    add-store-number-2
+    add-put-2
     header-requires
-    store-number-requires-2
+    put-requires-2
     same-length-5
     same-length-6
     returns-3

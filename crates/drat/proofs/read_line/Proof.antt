@@ -30,8 +30,8 @@ enum-known-next c = search needs
 line-header-requires : tie.Need-line-header-requires
 line-header-requires c κs = search needs
 
-store-number-requires : tie.Need-store-number-requires
-store-number-requires c κs = search needs
+put-requires : tie.Need-put-requires
+put-requires c κs = search needs
 
 enum-told : tie.Need-enum-told
 enum-told c = search needs
@@ -54,7 +54,7 @@ returns c =
           (now (start .args .store)) _ (start .args .to) (read-clause .ensures .0) (next .given .1) _
           (line-header .result) (line-header .ensures)
           (answer (set (read-clause .last .1 .1 .1 .1 .0) (start .args .to)) (line-header .result)
-          (sfits-of (line-header .ok)) (c .before .store-number .ensures)),
+          (sfits-of (line-header .ok)) (c .before .put .ensures)),
       read-clause .ensures .1,
     )
 
@@ -86,7 +86,7 @@ read-line-spec =
     read-clause-requires
     enum-known-next
     line-header-requires
-    store-number-requires
+    put-requires
     enum-told
     same-length
     same-length-2

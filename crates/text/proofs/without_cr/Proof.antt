@@ -1,7 +1,7 @@
 use Rattle.theory_text.proofs.TextLines.{trimmed-cr, trimmed-none, trimmed-empty}
 use borrow.Author.Needs.{needs}
-use Rattle.answer.proofs.without_cr.Statement.{statement}
-use Rattle.answer.proofs.without_cr.Tie as tie
+use Rattle.text.proofs.without_cr.Statement.{statement}
+use Rattle.text.proofs.without_cr.Tie as tie
 
 returns : tie.Need-returns
 returns c =

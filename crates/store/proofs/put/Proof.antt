@@ -2,8 +2,8 @@ use mathlib.Core.Path.{sym}
 use lib.Seq.{set-out}
 use denote.Ref.{now}
 use borrow.Author.Needs.{needs}
-use Rattle.dimacs.proofs.put.Statement.{statement}
-use Rattle.dimacs.proofs.put.Tie as tie
+use Rattle.store.proofs.put.Statement.{statement}
+use Rattle.store.proofs.put.Tie as tie
 
 mul-l : tie.Need-mul-l
 mul-l c = search needs

@@ -8,8 +8,8 @@ use lib.ListN.{drop}
 use Rattle.definition.specs.Text.{Bytes, bytes, text-lines}
 use Rattle.definition.specs.Text as Text
 use Rattle.theory_text.specs.TextLines.{First-line}
-use Rattle.answer.specs.declared.Line.{Line}
-use Rattle.answer.specs.declared.Line.the-variants.{Text, End}
+use Rattle.text.specs.declared.Line.{Line}
+use Rattle.text.specs.declared.Line.the-variants.{Text, End}
 
 abbrev pub Line-says : Bytes → ℕ → Line → Type 0
 Line-says t at (Text start end next) = First-line t at start end next
@@ -21,6 +21,7 @@ example = record {
   line = record { text = bytes "c\r"; ended = true };
   lines = refl;
   text = refl;
+  rest = refl;
   ordered = omega arith;
   before = omega arith;
   forward = omega arith;

@@ -5,8 +5,8 @@ use lib.ListN.{length, take, drop}
 use Rattle.definition.specs.Text.{same-bytes}
 use Rattle.definition.specs.Answer.{begins-with}
 use Rattle.theory_text.proofs.TextLines.{begins-start, begins-step, begins-differ, begins-end, begins-short}
-use Rattle.answer.proofs.begins.Statement.{statement}
-use Rattle.answer.proofs.begins.Tie as tie
+use Rattle.text.proofs.begins.Statement.{statement}
+use Rattle.text.proofs.begins.Tie as tie
 
 abbrev Inv-loop : tie.InvT-loop
 Inv-loop line prefix i₀ i = begins-with prefix line ≡ same-bytes (drop i prefix) (take (length prefix - i) (drop i line))

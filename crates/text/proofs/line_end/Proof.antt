@@ -6,8 +6,8 @@ use Rattle.definition.specs.Text.{is}
 use Rattle.theory_text.specs.Words.{Free}
 use Rattle.theory_base.specs.Slices.{between}
 use Rattle.theory_text.proofs.TextLines.{line-end-start, line-end-step}
-use Rattle.answer.proofs.line_end.Statement.{statement}
-use Rattle.answer.proofs.line_end.Tie as tie
+use Rattle.text.proofs.line_end.Statement.{statement}
+use Rattle.text.proofs.line_end.Tie as tie
 
 abbrev Inv-loop : tie.InvT-loop
 Inv-loop text at i₀ i = (at ≤ i) × (i ≤ length text) × Free (is "\n") (between at i text)

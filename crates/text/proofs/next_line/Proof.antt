@@ -1,8 +1,8 @@
 use Rattle.theory_text.proofs.TextLines.{line-last, line-ended, lines-none}
 use native.Mathlib.Omega.{arith}
 use borrow.Author.Needs.{needs}
-use Rattle.answer.proofs.next_line.Statement.{statement}
-use Rattle.answer.proofs.next_line.Tie as tie
+use Rattle.text.proofs.next_line.Statement.{statement}
+use Rattle.text.proofs.next_line.Tie as tie
 
 returns : tie.Need-returns
 returns c =

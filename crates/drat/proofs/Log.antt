@@ -2,7 +2,7 @@
 use mathlib.Core.Path.{_≡_, refl, sym, ap, _∙_}
 use mathlib.Core.Bool.{Bool, true, false, cond}
 use mathlib.Core.List.{List, [], _∷_, _++_}
-use Prim.Native.Nat.{ℕ, suc, _+_, _-_, _≤_, _<_, max}
+use Prim.Native.Nat.{ℕ, suc, _+_, _-_, _≤_, _<_, min, max}
 use native.Mathlib.Omega.{arith}
 use native.Mathlib.Nat.{zero-add}
 use native.Mathlib.Numerals.{add-one}
@@ -17,6 +17,7 @@ use Rattle.definition.specs.Literals.{Clause}
 use Rattle.definition.specs.Text.{Bytes}
 use Rattle.definition.specs.Standing.{Line, literals, highest-in}
 use Rattle.definition.specs.LogReading.{read-log}
+use Rattle.theory_base.proofs.Parts.{sets-capped}
 use Rattle.theory_base.proofs.Slices.{rest-is, sets-then, sets-first}
 use Rattle.theory_base.proofs.Fitting.{highest-snoc}
 use Rattle.theory_text.specs.LogLines.{first-read, begins-deletion, rest-read}
@@ -24,7 +25,9 @@ use Rattle.theory_text.proofs.LogLines.{as-line, deletion-read, addition-read, 
 use Rattle.tables.specs.Stamps.{Fresh}
 use Rattle.drat.specs.Lines.{line-of}
 use Rattle.drat.specs.Loaded.{line-header, closed, line-entry, line-entries}
-use Rattle.drat.specs.Reading.{Stored-read, Clause-reads, Line-reads, Kept}
+use Rattle.drat.specs.Reading.{Stored-read, Clause-reads, Line-reads, Kept, Log-reads}
+use Rattle.drat.specs.declared.LogRead.{LogRead}
+use Rattle.drat.specs.declared.LogRead.the-variants as Log
 use Rattle.drat.specs.declared.LineRead.{LineRead}
 use Rattle.drat.specs.declared.LineRead.the-variants as Read
 use Rattle.drat.proofs.Loaded.{line-literals, entries-size, entry-size, entries-snoc}
@@ -113,7 +116,7 @@ module _ {log : Bytes} {kept stamp at n filled top : ℕ} {seen : List ℕ} {old
   pub log-counted : n ≤ filled
   log-counted = omega (arith, s .count, s .size, entries-size (s .ss))
 
-  pub log-end : kept ≤ n → Kept (read-log kept log) (filled - kept) top filled old store
+  pub log-end : kept ≤ n → Kept (read-log kept log) (filled - kept) top filled old 0 store
   unfolding read-log _>>=_ refuse-if through
   log-end h =
       let z : kept - n ≡ 0 = omega arith in record {
@@ -177,3 +180,16 @@ module _ {log : Bytes} {kept stamp at n filled top : ℕ} {seen : List ℕ} {old
             ∙ rw (s .stored, s .size, ← zero-add (length (line-entries (s .ss)))) (sets-then (line-entries (s .ss)) (line-entry (f .s)) old 0)
             ∙ ap (sets old 0) (entries-snoc (s .ss) (f .s));
       }
+
+-- ---- behind a place
+
+pub log-behind : (o : Checked (List Line)) (r : LogRead) (s rest : List ℤ) (to start : ℕ) → start ≡ min to (length s) → Log-reads o r (take (length s - start) (drop start s)) 0 rest → Log-reads o r s to (take start s ++ (rest ++ drop (length s - start) (drop start s)))
+log-behind o (Log.Kept g top filled) s rest to start m k = record {
+  ss = k .ss;
+  read = k .read;
+  sum = k .sum;
+  high = k .high;
+  size = k .size;
+  stored = sets-capped (line-entries (k .ss)) s rest to start m (k .stored);
+}
+log-behind o (Log.Fault n) s rest to start m k = k

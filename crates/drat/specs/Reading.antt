@@ -72,19 +72,19 @@ abbrev pub Line-reads : Checked (ℕ × Line) → LineRead → List ℤ → ℕ 
 Line-reads o (Read.Line next count top) old to new = Stored-read literals line-entry o next count top old to new
 Line-reads o Read.Fault old to new = o ≡ fault 31
 
--- ---- a log: G, the highest variable and how many elements the lines' entries fill, which are stored from the start on
+-- ---- a log: G, the highest variable and how many elements the lines' entries fill, which are stored from a place on
 
-pub record Kept (o : Checked (List Line)) (numbers top filled : ℕ) (old new : List ℤ) : Type 0 where
+pub record Kept (o : Checked (List Line)) (numbers top filled : ℕ) (old : List ℤ) (to : ℕ) (new : List ℤ) : Type 0 where
   pub ss : List Line
   pub read : o ≡ value ss
   pub sum : numbers ≡ numbers-in ss
   pub high : top ≡ highest-in ss
   pub size : filled ≡ length (line-entries ss)
-  pub stored : new ≡ sets old 0 (line-entries ss)
+  pub stored : new ≡ sets old to (line-entries ss)
 
-abbrev pub Log-reads : Checked (List Line) → LogRead → List ℤ → List ℤ → Type 0
-Log-reads o (Log.Kept numbers top filled) old new = Kept o numbers top filled old new
-Log-reads o (Log.Fault n) old new = o ≡ fault n
+abbrev pub Log-reads : Checked (List Line) → LogRead → List ℤ → ℕ → List ℤ → Type 0
+Log-reads o (Log.Kept numbers top filled) old to new = Kept o numbers top filled old to new
+Log-reads o (Log.Fault n) old to new = o ≡ fault n
 
 examples : (line-word (bytes "d -12 0\n") 2 ≡ Word.Literal 6 (negsuc 11)) × (line-word (bytes "d -12 0\n") 6 ≡ Word.End 8) × (line-word (bytes "1  0\n") 2 ≡ Word.Fault)
 unfolding line-word leading Text.computing Lists.computing

@@ -227,7 +227,7 @@ pub enum LogRead {
 
 // Reads the kept lines of a log, each with a stamp of its own; their entries are stored from the store's start on, as far as it reaches.
 pub fn read_log(log: &[u8], kept: usize, store: &mut [i32]) -> LogRead
-    ensures { λ r. ⌜ Log-reads (read-log kept (now (log .entry))) r (now (store .entry)) (now (store .exit)) ⌝ }
+    ensures { λ r. ⌜ Log-reads (read-log kept (now (log .entry))) r (now (store .entry)) 0 (now (store .exit)) ⌝ }
 {
     let mut seen = [0u32; 140002];
     let mut stamp: u32 = 1;
@@ -253,4 +253,12 @@ pub fn read_log(log: &[u8], kept: usize, store: &mut [i32]) -> LogRead
         }
     }
     LogRead::Kept(filled - kept, highest, filled)
+}
+
+// Reads the kept lines of a log; their entries are stored behind what fills the store up to a place, which may lie past its end.
+pub fn read_log_behind(log: &[u8], kept: usize, store: &mut [i32], to: usize) -> LogRead
+    ensures { λ r. ⌜ Log-reads (read-log kept (now (log .entry))) r (now (store .entry)) to (now (store .exit)) ⌝ }
+{
+    let start = literals::lower(to, store.len());
+    read_log(log, kept, &mut store[start..])
 }

@@ -1,13 +1,16 @@
 -- Parts of a list: their elements, one element more, what follows them, and what a change of the list leaves of them.
 use mathlib.Core.Path.{_≡_, sym, ap, _∙_}
 use mathlib.Core.List.{List, [], _∷_, _++_}
-use Prim.Native.Nat.{ℕ, zero, suc, _+_, _-_, _≤_, _<_}
+use Prim.Native.Nat.{ℕ, zero, suc, _+_, _-_, _≤_, _<_, min}
 use native.Mathlib.Nat.{sub-zero}
 use native.Mathlib.Omega.{arith}
+use lib.Dec.{ltb}
+use borrow.Author.Tests.{ltb-true, ltb-false}
 use lib.ListN.{length, getD, set, take, drop, length-drop, take-append-drop}
 use lib.Seq.{sets, take-nil, length-take-le, take-set-lt, drop-set-add, drop-append-le, getD-take, getD-drop, take-take, take-suc, drop-drop}
 use Rattle.theory_base.specs.Slices.{between}
-use Rattle.theory_base.proofs.Slices.{taken-sets}
+use Rattle.theory_base.proofs.Slices.{taken-sets, sets-past, sets-rest}
+use Rattle.theory_base.proofs.Tests.{by-test}
 
 module _ {A : Type 0} where
   pub drop-take : (a b : ℕ) (s : List A) → drop a (take b s) ≡ between a b s
@@ -49,6 +52,14 @@ module _ {A : Type 0} where
         ∙ ap (drop a) (taken-sets xs s b l)
         ∙ drop-append-le a (take b s) xs (omega (arith, length-take-le b s (omega arith)))
         ∙ ap (λ (r : List A). r ++ xs) (drop-take a b s)
+
+  -- a run written into the rest from a place on, which may lie past the end: a call with `&mut s[to..]` leaves s so
+  pub sets-capped : (xs s rest : List A) (at to : ℕ) → to ≡ min at (length s) → rest ≡ sets (take (length s - to) (drop to s)) 0 xs → take to s ++ (rest ++ drop (length s - to) (drop to s)) ≡ sets s at xs
+  sets-capped xs s rest at to m e =
+      let z : to + 0 ≡ to = omega arith in
+      sets-rest xs s rest to 0 e ∙ ap (λ (k : ℕ). sets s k xs) z ∙ by-test (ltb at (length s))
+      (λ l. ap (λ (k : ℕ). sets s k xs) (omega (arith, ltb-true at (length s) l)))
+      (λ l. sets-past xs s to (omega (arith, ltb-false at (length s) l)) ∙ sym (sets-past xs s at (ltb-false at (length s) l)))
 
   -- a part of what two lists share at their start
   pub between-same : (a b m : ℕ) (s t : List A) → b ≤ m → take m s ≡ take m t → between a b s ≡ between a b t

@@ -23,17 +23,12 @@ use Rattle.run.specs.declared.Run.{Run}
 
 -- ---- chosen
 
--- the choices stand in the order in which they are taken
-pub record Arranged (a : Arrangement) (F : Formula) (cs : List Clause) (size : ℕ) (chosen : List ℤ) : Type 0 where
-  pub same-size : length chosen ≡ size
-  pub formed : Formed chosen
-  pub stands : stored chosen ≡ map (arranged a F cs) cs
-
 -- a good store, of whose choices no two have a variable in common, and room for them
 pub record Choosable (work : List ℤ) (p : Progress) (chosen : List ℤ) : Type 0 where
   pub good : Good input-reach [] work p
   pub parted : Parted (choices (standing work p))
   pub space : numbers-of (choices (standing work p)) ≤ length chosen
+  pub few : length chosen < 2 ^ 31
 
 -- the choices of F fill the first r elements
 pub record Chosen (a : Arrangement) (F : Formula) (size r : ℕ) (chosen : List ℤ) : Type 0 where

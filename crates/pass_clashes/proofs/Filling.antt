@@ -1,4 +1,4 @@
--- Filling the table of places. Assumes nothing.
+-- Filling the table of places: before each entry, the table says where the unique literal clauses passed so far stand. Assumes nothing.
 use mathlib.Core.Path.{_≡_, refl, sym, ap, _∙_}
 use mathlib.Core.Bool.{Bool, true, false, cond, _&&_, _||_}
 use mathlib.Core.List.{List, [], _∷_, _++_, List·Memᴰ, List·Memᴰ·head as here, Memᴰ·append-right}
@@ -7,7 +7,7 @@ use Prim.Native.Nat.{ℕ, _+_, _-_, _≤_, _<_}
 use native.Mathlib.Omega.{arith}
 use lib.Dec.{T}
 use lib.IntN.{ℤ, pos, natAbs}
-use lib.ListN.{length, getD, set, take, drop, length-set}
+use lib.ListN.{length, getD, set, take, drop, length-set, replicate, getD-replicate, length-replicate}
 use lib.Seq.{take-all}
 use Rattle.definition.specs.Lists.{bit, any, first}
 use Rattle.definition.specs.Literals.{Clause, Formula, same, holds}
@@ -19,14 +19,14 @@ use Rattle.theory_base.proofs.Loops.{first-some}
 use Rattle.literals.specs.Literal.{index-of}
 use Rattle.literals.proofs.Laws.{index-within}
 use Rattle.theory_soundness.proofs.Times.{times-++, times-cons, times-at, holds-yes, unique-at}
-use Rattle.store.specs.Store.{stored, deleted-at, clause-at, past, Place}
+use Rattle.store.specs.Store.{Formed, stored, deleted-at, clause-at, past, Place}
 use Rattle.theory_base.proofs.Slices.{drop-step, drop-end}
 use Rattle.store.proofs.Marking.{set-at}
 use Rattle.store.proofs.Laws.{stored-none, place-start, place-next, stored-around, prefix-deleted, prefix-stands, part-there}
 use Rattle.pass_pure.specs.Table.{Counts, unique-by}
 use Rattle.pass_pure.specs.Pass.{reach}
 use Rattle.pass_pure.proofs.Tests.{unique-is}
-use Rattle.pass_clashes.specs.Places.{with-places, placed-at, Tells, Placed, Countable}
+use Rattle.pass_clashes.specs.Places.{with-places, placed-at, Tells, Placed}
 
 -- ---- the literals of a clause
 
@@ -80,16 +80,20 @@ module _ {A : Type 0} (p : A → Bool) where
 -- ---- the walk over the store
 
 -- the clauses before `at` have their places
-pub record Filling (s : List ℤ) (counts : List ℕ) (at : ℕ) (t : List ℕ) : Type 0 where
+pub record Filling (s : List ℤ) (at : ℕ) (t : List ℕ) : Type 0 where
   pub place : Place s at
   pub size : reach + reach + 2 ≤ length t
   pub said : Placed (stored s) (stored (take at s)) s t
 
-pub filling-start : {s : List ℤ} {counts t : List ℕ} → Countable s counts t → Filling s counts 0 t
+pub filling-start : {s : List ℤ} (t : List ℕ) → Formed s → t ≡ replicate (reach + reach + 2) 0 → Filling s 0 t
 unfolding first
-filling-start k = record { place = place-start (k .formed); size = k .size; said = λ l b. rw stored-none (k .none-yet l b) }
+filling-start t f e = record {
+  place = place-start f;
+  size = omega (arith, ap length e, length-replicate {A = ℕ} (reach + reach + 2) 0);
+  said = λ l b. rw stored-none (rw e (getD-replicate {A = ℕ} (reach + reach + 2) (index-of l) 0 0 (omega (arith, index-within l))));
+}
 
-module _ {s : List ℤ} {counts : List ℕ} {at : ℕ} {t : List ℕ} (f : Fits reach (stored s)) (k : Counts reach counts (stored s)) (i : Filling s counts at t) (h : at < length s) where
+module _ (counts : List ℕ) {s : List ℤ} {at : ℕ} {t : List ℕ} (f : Fits reach (stored s)) (k : Counts reach counts (stored s)) (i : Filling s at t) (h : at < length s) where
   abbrev F : Formula
   F = stored s
 
@@ -99,7 +103,7 @@ module _ {s : List ℤ} {counts : List ℕ} {at : ℕ} {t : List ℕ} (f : Fits 
   abbrev c : Clause
   c = clause-at s at
 
-  filling-deleted : deleted-at s at ≡ true → Filling s counts (past s at) t
+  filling-deleted : deleted-at s at ≡ true → Filling s (past s at) t
   filling-deleted d = record { place = place-next s at h (i .place); size = i .size; said = rw (prefix-deleted s at h (i .place) d) (i .said) }
 
   module _ (d : deleted-at s at ≡ false) where
@@ -122,7 +126,7 @@ module _ {s : List ℤ} {counts : List ℕ} {at : ℕ} {t : List ℕ} (f : Fits 
         twice : (a b m n z : ℕ) → 1 ≤ a → n ≡ a + b → n ≡ 1 → b ≡ m + z → m ≡ 1 → ⊥
         twice a b m n z p q r u v = omega arith
 
-    filling-other : unique F c ≡ false → Filling s counts (past s at) t
+    filling-other : unique F c ≡ false → Filling s (past s at) t
     filling-other u = record {
       place = place-next s at h (i .place);
       size = i .size;
@@ -136,23 +140,23 @@ module _ {s : List ℤ} {counts : List ℕ} {at : ℕ} {t : List ℕ} (f : Fits 
     said-new : unique F c ≡ true → (l : ℤ) → natAbs l ≤ reach → (a : Bool) → holds l c ≡ a → Tells s (first (λ b. holds l b && unique F b) (G ++ (c ∷ []))) (cond a (at + 1) (getD t (index-of l) 0))
     said-new u l b true e =
         rw (first-new (λ b. holds l b && unique F b) G c (rw (e, u) refl) (not-before (of-true u) l (holds-mem l c (of-true e)) (first (λ b. holds l b && unique F b) G) refl))
-        (record { at = at; next = refl; inside = h; place = i .place; stands = d; clause = refl })
+        (at, refl, record { inside = h; place = i .place; stands = d }, refl)
     said-new u l b false e = rw (first-miss (λ b. holds l b && unique F b) G c (rw e refl)) (i .said l b)
 
-    filling-unique : unique F c ≡ true → Filling s counts (past s at) (with-places t c (at + 1))
+    filling-unique : unique F c ≡ true → Filling s (past s at) (with-places t c (at + 1))
     filling-unique u = record {
       place = place-next s at h (i .place);
       size = omega (arith, i .size, length-places t c (at + 1));
       said = λ l b. rw (prefix-stands s at h (i .place) d, place-of-literal l c t (at + 1) (omega (arith, i .size, index-within l))) (said-new u l b (holds l c) refl);
     }
 
-  pub filling-step : Filling s counts (past s at) (placed-at t counts s at)
+  pub filling-step : Filling s (past s at) (placed-at t counts s at)
   filling-step =
       by-test (deleted-at s at) (λ d. rw d (filling-deleted d))
       (λ d. rw (d, same-test d) (by-test (unique F c) (λ u. rw u (filling-unique d u)) (λ u. rw u (filling-other d u))))
 
-pub filling-end : {s : List ℤ} {counts : List ℕ} {at : ℕ} {t : List ℕ} → Filling s counts at t → length s ≤ at → Placed (stored s) (stored s) s t
-filling-end {s} {at = at} i h = rw (take-all at s h) at (i .said)
+pub filling-end : {s : List ℤ} {at : ℕ} {t : List ℕ} → Filling s at t → length s ≤ at → Placed (stored s) (stored s) s t
+filling-end {s} {at} i h = rw (take-all at s h) at (i .said)
 
 -- ---- one entry, by what the functions answer there
 module _ (t counts : List ℕ) (s : List ℤ) (at : ℕ) where

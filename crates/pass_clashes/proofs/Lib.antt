@@ -1,8 +1,9 @@
+pub mod Running
 pub mod Filling
 pub mod Search
 pub mod Resolving
 pub mod Opposed
 pub mod Parents
-pub mod Scanning
 pub mod Adding
 pub mod Resolved
+pub mod Scanning

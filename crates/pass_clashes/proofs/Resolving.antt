@@ -102,12 +102,11 @@ module _ {old work : List ℤ} {to from n i end : ℕ} {out : ℤ} (s : Copying 
     copied = f ∙ ap (λ (k : List ℤ). sets k end one) (s .copied) ∙ ap (λ (k : ℕ). sets (sets old to front) k one) (s .next) ∙ sets-then front one old to ∙ ap (sets old to) (sym chunk);
   }
 
-pub copying-end : {old work : List ℤ} {to from n i end : ℕ} (out : ℤ) → SFits w32 out → Copying old to from n (toZ w32 (ofZ w32 out)) i end work → n ≤ i →
+pub copying-end : {old work : List ℤ} {to from n i end : ℕ} {out : ℤ} → Copying old to from n out i end work → n ≤ i →
     (end ≡ to + length (without out (take n (drop from old)))) × (work ≡ sets old to (without out (take n (drop from old))))
-copying-end {old} {work} {to} {from} {n} {i} out f s h =
+copying-end {old} {to = to} {from = from} {n = n} {i = i} {out = out} s h =
     let k : i ≡ n = omega (arith, s .inside) in
-    let e = at-arg (λ (z : ℤ). without z (take n (drop from old))) out f in
-    let g : without (toZ w32 (ofZ w32 out)) (take i (drop from old)) ≡ without out (take n (drop from old)) = ap (λ (j : ℕ). without (toZ w32 (ofZ w32 out)) (take j (drop from old))) k ∙ e in
+    let g : without out (take i (drop from old)) ≡ without out (take n (drop from old)) = ap (λ (j : ℕ). without out (take j (drop from old))) k in
     (s .next ∙ ap (λ (c : Clause). to + length c) g, s .copied ∙ ap (sets old to) g)
 
 -- ---- the entry of the resolvent

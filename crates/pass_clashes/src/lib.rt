@@ -1,33 +1,36 @@
 // Clearing clashes: a variable stands in one unique literal clause and its negation in another.
 ghost use mathlib.Core.Path.{_≡_};
-ghost use Prim.Native.Nat.{_+_, _<_, _≤_, _^_, ℕ, _-_};
-ghost use lib.ListN.{length, take, drop, set, getD, replicate};
-ghost use Rattle.literals.specs.Literal.{index-of, signed-of};
-ghost use Rattle.store.specs.Store.{Formed, stored, entry, marked, clause-at};
-ghost use Rattle.pass_clashes.specs.Places.{with-places, placed-at, Countable, Placed};
 ghost use mathlib.Core.Bool.{true, false};
-ghost use Rattle.pass_clashes.specs.Clashes.{both, Searchable, Next, Clash-ready};
 ghost use mathlib.Core.List.{[], _∷_};
+ghost use Prim.Native.Nat.{ℕ, _+_, _-_, _≤_, _<_, _^_};
 ghost use lib.IntN.{pos};
+ghost use lib.ListN.{length, take, drop, set, getD, replicate};
 ghost use lib.Seq.{sets};
 ghost use Rattle.definition.specs.Lists.{any};
 ghost use Rattle.definition.specs.Literals.{without, with-first};
-ghost use Rattle.store.specs.Tally.{tallied};
-ghost use Rattle.pass_clashes.specs.Resolving.{opposite-in, joined, clash-there, Parents, parent-lines, Parents-gone, Resolvable, Resolvent-added};
 ghost use Rattle.definition.specs.Standing.{deletion, addition};
-ghost use Rattle.progress.specs.Progress.{Written, Log-room, Ran};
 ghost use Rattle.definition.specs.Events.{clash-cleared};
 ghost use Rattle.definition.specs.Clearing.{clear-clashes};
-ghost use Rattle.pass_clashes.specs.Scan.{Slid-down, Scan-ready, Scanned};
+ghost use Rattle.theory_base.specs.Clauses.{Fits};
+ghost use Rattle.literals.specs.Literal.{index-of, signed-of};
+ghost use Rattle.store.specs.Store.{Formed, stored, entry, marked, clause-at};
+ghost use Rattle.store.specs.Tally.{tallied};
+ghost use Rattle.progress.specs.Progress.{Written, Log-room, Runs, standing};
+ghost use Rattle.pass_pure.specs.Table.{Counts};
+ghost use Rattle.pass_pure.specs.Pass.{reach};
+ghost use Rattle.pass_clashes.specs.Places.{with-places, placed-at, Placed};
+ghost use Rattle.pass_clashes.specs.Clashes.{both, Next, clash-there, Clash-ready};
+ghost use Rattle.pass_clashes.specs.Resolving.{opposite-in, joined, parent-lines, Resolvable, Resolvent-added, Parents, Parents-gone};
+ghost use Rattle.pass_clashes.specs.Scan.{events-from, events-left, Scanned};
 use progress::Progress;
 
-// The next variable with a clash, and where the literals of its two clauses begin.
+// The next variable with a clash, and the places of its two clauses.
 pub enum NextClash {
     At(u32, usize, usize),
     Nothing,
 }
 
-// ---- the place of the unique literal clause that holds a literal, at the literal's index; 0 where there is none
+// ---- where the unique literal clause that holds a literal stands: the place past its header, 0 where there is none
 
 // Sets a literal's place, where the table reaches.
 fn set_place(places: &mut [usize], l: i32, place: usize)
@@ -67,7 +70,8 @@ fn place_entry(places: &mut [usize], counts: &[u32], store: &[i32], at: usize)
 
 // Sets the places of the literals of all unique literal clauses.
 fn place_all(places: &mut [usize], counts: &[u32], store: &[i32])
-    requires { ⌜ Countable (now store) (now counts) (now places) ⌝ }
+    requires { ⌜ Formed (now store) × Fits reach (stored (now store)) × Counts reach (now counts) (stored (now store)) ⌝ }
+    requires { ⌜ now places ≡ replicate 16002 0 ⌝ }
     ensures { λ _. ⌜ Placed (stored (now (store .entry))) (stored (now (store .entry))) (now (store .entry)) (now (places .exit)) ⌝ }
 {
     let mut at = 0;
@@ -115,22 +119,23 @@ fn find_clash(places: &[usize], from: u32, to: u32) -> u32
     v
 }
 
-// The next clash of a store, in a range of variables.
-fn next_clash(store: &[i32], from: u32, to: u32) -> NextClash
-    requires { ⌜ Searchable (now store) from to ⌝ }
-    ensures { λ r. ⌜ Next (now (store .entry)) from to r ⌝ }
+// The next clash of the store in a workspace, in a range of variables.
+fn next_clash(work: &[i32], p: Progress, from: u32, to: u32) -> NextClash
+    requires { ⌜ (from ≤ to) × Clash-ready (events-from from to (standing (now work) p)) (now work) p to ⌝ }
+    ensures { λ r. ⌜ Next (take (p .end) (now (work .entry))) from to r ⌝ }
 {
+    let end = p.end;
     let mut counts = [0u32; 16002];
     let mut places = [0usize; 16002];
-    store::count_all(&mut counts, store);
-    place_all(&mut places, &counts, store);
+    store::count_all(&mut counts, &work[..end]);
+    place_all(&mut places, &counts, &work[..end]);
     let v = find_clash(&places, from, to);
     if to < v {
         return NextClash::Nothing;
     }
     let a = place_of(&places, literals::signed(false, v));
     let b = place_of(&places, literals::signed(true, v));
-    NextClash::At(v, a, b)
+    NextClash::At(v, a - 1, b - 1)
 }
 
 // ---- the resolvent
@@ -159,13 +164,13 @@ fn any_opposite(table: &[u32], gone: i32, clause: &[i32]) -> bool
     false
 }
 
-// Whether a clause, without one literal, has a literal whose negation is in another clause.
-fn is_opposed(one: &[i32], gone: i32, other: &[i32]) -> bool
-    ensures { λ r. ⌜ r ≡ any (opposite-in (tallied (replicate 16002 0) (now (one .entry))) gone) (now (other .entry)) ⌝ }
+// Whether a clause, without -v, has a literal whose negation is in another clause.
+fn is_opposed(one: &[i32], v: u32, other: &[i32]) -> bool
+    ensures { λ r. ⌜ r ≡ any (opposite-in (tallied (replicate 16002 0) (now (one .entry))) (signed-of true v)) (now (other .entry)) ⌝ }
 {
     let mut table = [0u32; 16002];
     store::count_clause(&mut table, one);
-    any_opposite(&table, gone, other)
+    any_opposite(&table, literals::signed(true, v), other)
 }
 
 // Copies an element down the list unless it is the literal left out; the result is the place past it.
@@ -182,12 +187,20 @@ fn copy_one(work: &mut [i32], to: usize, from: usize, gone: i32) -> usize
     to + 1
 }
 
-// Copies n elements further on, without one literal; the result is the place past them.
-fn copy_without(work: &mut [i32], to: usize, from: usize, n: usize, gone: i32) -> usize
-    requires { ⌜ (from + n ≤ to) × (to + length (without gone (take n (drop from (now work)))) ≤ length (now work)) ⌝ }
-    ensures next { λ r. ⌜ r ≡ to + length (without gone (take n (drop from (now (work .entry))))) ⌝ }
-    ensures copied { λ _. ⌜ now (work .exit) ≡ sets (now (work .entry)) to (without gone (take n (drop from (now (work .entry))))) ⌝ }
+// Copies n elements further on, without a variable or its negation; the result is the place past them.
+fn copy_without(
+    work: &mut [i32],
+    to: usize,
+    from: usize,
+    n: usize,
+    is_negative: bool,
+    v: u32,
+) -> usize
+    requires { ⌜ (from + n ≤ to) × (to + length (without (signed-of «is_negative» v) (take n (drop from (now work)))) ≤ length (now work)) ⌝ }
+    ensures next { λ r. ⌜ r ≡ to + length (without (signed-of «is_negative» v) (take n (drop from (now (work .entry))))) ⌝ }
+    ensures copied { λ _. ⌜ now (work .exit) ≡ sets (now (work .entry)) to (without (signed-of «is_negative» v) (take n (drop from (now (work .entry))))) ⌝ }
 {
+    let gone = literals::signed(is_negative, v);
     let mut end = to;
     let mut i = 0;
     while i < n {
@@ -212,8 +225,8 @@ fn append_resolvent(
     ensures written { λ _. ⌜ now (work .exit) ≡ sets (now (work .entry)) end (entry (joined (now (work .entry)) a na b nb v)) ⌝ }
 {
     let first = end + 1;
-    let c = copy_without(work, first, a, na, literals::signed(false, v));
-    let d = copy_without(work, c, b, nb, literals::signed(true, v));
+    let c = copy_without(work, first, a, na, false, v);
+    let d = copy_without(work, c, b, nb, true, v);
     work[end] = literals::header(d - first);
     d
 }
@@ -252,25 +265,23 @@ fn record_added(work: &[i32], log: &mut [u8], p: Progress, next: usize) -> Progr
     }
 }
 
-// Adds the resolvent of the clauses whose literals begin at a and b, and records it, unless it has a literal and its negation.
+// Adds the resolvent of the clauses at x and y, and records it, unless it has a literal and its negation.
 fn add_resolvent(
     work: &mut [i32],
     log: &mut [u8],
     p: Progress,
     v: u32,
-    a: usize,
-    b: usize,
+    x: usize,
+    y: usize,
 ) -> Progress
-    requires { ⌜ Resolvable (now work) p v a b ⌝ }
-    ensures { λ r. ⌜ Resolvent-added (now (work .entry)) (clash-there (take (p .end) (now (work .entry))) v a b) (now (log .entry)) p (now (work .exit)) (now (log .exit)) r ⌝ }
+    requires { ⌜ Resolvable (now work) p v x y ⌝ }
+    ensures { λ r. ⌜ Resolvent-added (clash-there (take (p .end) (now (work .entry))) v x y) (now (work .entry)) (now (log .entry)) p (now (work .exit)) (now (log .exit)) r ⌝ }
 {
-    let past_a = store::next_at(work, a - 1);
-    let past_b = store::next_at(work, b - 1);
-    if is_opposed(
-        &work[a..past_a],
-        literals::signed(true, v),
-        &work[b..past_b],
-    ) {
+    let a = x + 1;
+    let b = y + 1;
+    let past_a = store::next_at(work, x);
+    let past_b = store::next_at(work, y);
+    if is_opposed(&work[a..past_a], v, &work[b..past_b]) {
         return p;
     }
     let end = p.end;
@@ -278,31 +289,31 @@ fn add_resolvent(
     record_added(work, log, p, next)
 }
 
-// Deletes the two clauses of a clash: the literals of that with v begin at a, of that with -v at b.
+// Deletes the two clauses of a clash: that with v at x, that with -v at y.
 fn delete_parents(
     store: &mut [i32],
     log: &mut [u8],
     p: Progress,
     v: u32,
-    a: usize,
-    b: usize,
+    x: usize,
+    y: usize,
 ) -> Progress
-    requires { ⌜ Parents (now store) v a b ⌝ }
-    requires { ⌜ Log-room (parent-lines (clash-there (now store) v a b)) p ⌝ }
-    ensures { λ r. ⌜ Parents-gone (now (store .entry)) (clash-there (now (store .entry)) v a b) (now (log .entry)) p (now (store .exit)) (now (log .exit)) r ⌝ }
+    requires { ⌜ Parents (now store) v x y ⌝ }
+    requires { ⌜ Log-room (parent-lines (clash-there (now store) v x y)) p ⌝ }
+    ensures { λ r. ⌜ Parents-gone (clash-there (now (store .entry)) v x y) (now (store .entry)) (now (log .entry)) p (now (store .exit)) (now (log .exit)) r ⌝ }
 {
-    let q = delete_first(store, a - 1, log, p, literals::signed(false, v));
-    delete_first(store, b - 1, log, q, literals::signed(true, v))
+    let q = delete_first(store, x, log, p, literals::signed(false, v));
+    delete_first(store, y, log, q, literals::signed(true, v))
 }
 
-// Clears the clash of v whose clauses' literals begin at a and b.
-fn resolve(work: &mut [i32], log: &mut [u8], p: Progress, v: u32, a: usize, b: usize) -> Progress
-    requires { ⌜ Resolvable (now work) p v a b ⌝ }
-    ensures { λ r. ⌜ Ran (stored (take (p .end) (now (work .entry)))) (clash-cleared (clash-there (take (p .end) (now (work .entry))) v a b) ∷ []) (length (now (work .entry))) (now (log .entry)) p (now (work .exit)) (now (log .exit)) r ⌝ }
+// Clears the clash of v whose clauses are at x and y.
+fn resolve(work: &mut [i32], log: &mut [u8], p: Progress, v: u32, x: usize, y: usize) -> Progress
+    requires { ⌜ Resolvable (now work) p v x y ⌝ }
+    ensures { λ r. ⌜ Runs (clash-cleared (clash-there (take (p .end) (now (work .entry))) v x y) ∷ []) (now (work .entry)) (now (log .entry)) p (now (work .exit)) (now (log .exit)) r ⌝ }
 {
-    let q = add_resolvent(work, log, p, v, a, b);
+    let q = add_resolvent(work, log, p, v, x, y);
     let end = q.end;
-    delete_parents(&mut work[..end], log, q, v, a, b)
+    delete_parents(&mut work[..end], log, q, v, x, y)
 }
 
 // ---- all clashes
@@ -313,30 +324,16 @@ pub struct Scan {
     pub next: u32,
 }
 
-// Slides the standing clauses of the store down.
-fn slide_down(work: &mut [i32], p: Progress) -> Progress
-    requires { ⌜ (p .end ≤ length (now work)) × Formed (take (p .end) (now work)) ⌝ }
-    ensures { λ r. ⌜ Slid-down (now (work .entry)) p (now (work .exit)) r ⌝ }
-{
-    let end = p.end;
-    let n = store::compact(&mut work[..end]);
-    Progress {
-        end: n,
-        at: p.at,
-        lines: p.lines,
-    }
-}
-
 // Clears the next clash, if there is one.
 fn clear_next(work: &mut [i32], log: &mut [u8], s: Scan, variables: u32) -> Scan
-    requires { ⌜ Scan-ready (now work) s variables ⌝ }
-    ensures { λ r. ⌜ Scanned (stored (take (s .progress .end) (now (work .entry)))) (length (now (work .entry))) (now (log .entry)) s variables (now (work .exit)) (now (log .exit)) r ⌝ }
+    requires { ⌜ (s .next ≤ variables) × Clash-ready (events-left (now work) s variables) (now work) (s .progress) variables ⌝ }
+    ensures scanned { λ r. ⌜ Scanned variables (now (work .entry)) (now (log .entry)) s (now (work .exit)) (now (log .exit)) r ⌝ }
+    ensures later { λ r. ⌜ s .next < r .next ⌝ }
 {
-    let p = slide_down(work, s.progress);
-    let end = p.end;
-    match next_clash(&work[..end], s.next, variables) {
-        NextClash::At(v, a, b) => {
-            let q = resolve(work, log, p, v, a, b);
+    let p = progress::compact(work, s.progress);
+    match next_clash(work, p, s.next, variables) {
+        NextClash::At(v, x, y) => {
+            let q = resolve(work, log, p, v, x, y);
             Scan {
                 progress: q,
                 next: v + 1,
@@ -351,8 +348,8 @@ fn clear_next(work: &mut [i32], log: &mut [u8], s: Scan, variables: u32) -> Scan
 
 // Clears all clashes of the store, the lowest variable first.
 pub fn clear_clashes(work: &mut [i32], log: &mut [u8], p: Progress, variables: u32) -> Progress
-    requires { ⌜ Clash-ready (now work) p variables ⌝ }
-    ensures { λ r. ⌜ Ran (stored (take (p .end) (now (work .entry)))) (clear-clashes (stored (take (p .end) (now (work .entry))))) (length (now (work .entry))) (now (log .entry)) p (now (work .exit)) (now (log .exit)) r ⌝ }
+    requires { ⌜ Clash-ready (clear-clashes (standing (now work) p)) (now work) p variables ⌝ }
+    ensures { λ r. ⌜ Runs (clear-clashes (standing (now (work .entry)) p)) (now (work .entry)) (now (log .entry)) p (now (work .exit)) (now (log .exit)) r ⌝ }
 {
     let mut s = Scan {
         progress: p,

@@ -22,12 +22,12 @@ use Rattle.literals.specs.Literal.{header-literals, signed-of}
 use Rattle.literals.proofs.Laws.{signed-small}
 use Rattle.store.specs.Store.{stored, entry, size-at, clause-at, past}
 use Rattle.store.specs.declared.Added.the-variants.{To}
-use Rattle.store.specs.Tally.{tallied}
+use Rattle.tables.specs.Entries.{tallied}
 use Rattle.store.proofs.Laws.{formed-next, prefix-header, prefix-clause, entry-clause, entry-size, Appended, appended, fits-within, part-there}
 use Rattle.progress.specs.declared.Progress.{Progress}
 use Rattle.progress.specs.Progress.{Written}
 use Rattle.progress.proofs.Laws.{written-none}
-use Rattle.pass_pure.specs.Pass.{reach}
+use Rattle.tables.specs.Sizes.{input-reach, input-size}
 use Rattle.pass_clashes.specs.Places.{Stands-at}
 use Rattle.pass_clashes.specs.Clashes.{clash-there}
 use Rattle.pass_clashes.specs.Resolving.{opposite-in, joined, Resolvable, Resolvent-added, Parents}
@@ -74,7 +74,7 @@ module _ {work : List ℤ} {p : Progress} {v x y : ℕ} (r : Resolvable work p v
   pub is-clash : Is-clash (stored s) c
   is-clash = clash-at-some (stored s) v c (r .clash .clash) .1
 
-  pub variable-small : v ≤ reach
+  pub variable-small : v ≤ input-reach
   variable-small = r .good .fits (c .one) (is-clash .one-stands) (pos v) (is-clash .one-holds) .1
 
   pub parents : Parents s v x y
@@ -89,10 +89,10 @@ module _ {work : List ℤ} {p : Progress} {v x y : ℕ} (r : Resolvable work p v
     small = variable-small;
   }
 
-  short : (d : Clause) → List·Memᴰ d (stored s) → length d ≤ reach
-  short d i = proper-length reach d (proper-fits reach (stored s) (r .good .proper) (r .good .fits) d i)
+  short : (d : Clause) → List·Memᴰ d (stored s) → length d ≤ input-reach
+  short d i = proper-length input-reach d (proper-fits input-reach (stored s) (r .good .proper) (r .good .fits) d i)
 
-  resolvent-short : length (resolvent c) ≤ reach + reach
+  resolvent-short : length (resolvent c) ≤ input-reach + input-reach
   unfolding resolvent
   resolvent-short =
       omega (
@@ -143,11 +143,11 @@ module _ {work : List ℤ} {p : Progress} {v x y : ℕ} (r : Resolvable work p v
     other-part = part-clause work (p .end) y (r .clash .other-stands) (r .good .inside) j
 
     -- the test by a table of the one part
-    pub parts-opposed : {t : Bool} → t ≡ any (opposite-in (tallied (replicate (reach + reach + 2) 0) (take na (drop a work))) (signed-of true v)) (take nb (drop b work)) → t ≡ opposed (resolvent c)
+    pub parts-opposed : {t : Bool} → t ≡ any (opposite-in (tallied (replicate input-size 0) (take na (drop a work))) (signed-of true v)) (take nb (drop b work)) → t ≡ opposed (resolvent c)
     unfolding resolvent
     parts-opposed h =
-        h ∙ ap (λ (z : ℤ). any (opposite-in (tallied (replicate (reach + reach + 2) 0) (take na (drop a work))) z) (take nb (drop b work))) (signed-small true v (omega (arith, variable-small)))
-        ∙ ap₂ (λ (x y : Clause). any (opposite-in (tallied (replicate (reach + reach + 2) 0) x) (negℤ (pos v))) y) one-part other-part
+        h ∙ ap (λ (z : ℤ). any (opposite-in (tallied (replicate input-size 0) (take na (drop a work))) z) (take nb (drop b work))) (signed-small true v (omega (arith, variable-small)))
+        ∙ ap₂ (λ (x y : Clause). any (opposite-in (tallied (replicate input-size 0) x) (negℤ (pos v))) y) one-part other-part
         ∙ opposed-is (c .one) (c .other) (pos v) (r .good .proper (c .one) (is-clash .one-stands)) (r .good .proper (c .other) (is-clash .other-stands)) (λ x i. r .good .fits (c .other) (is-clash .other-stands) x i .1)
 
     joined-is : joined work a na b nb v ≡ resolvent c

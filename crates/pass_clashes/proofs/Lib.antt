@@ -1,4 +1,3 @@
-pub mod Running
 pub mod Filling
 pub mod Search
 pub mod Resolving

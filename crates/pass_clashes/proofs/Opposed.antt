@@ -7,36 +7,35 @@ use Prim.Native.Nat.{ℕ, _+_, _≤_}
 use native.Mathlib.Omega.{arith}
 use lib.Dec.{T, eqb}
 use lib.IntN.{ℤ, negℤ, negℤ-negℤ, natAbs}
-use lib.ListN.{getD, replicate}
+use lib.ListN.{replicate}
 use Rattle.definition.specs.Lists.{bit, any}
 use Rattle.definition.specs.Literals.{Clause, same, holds, without, opposed}
 use Rattle.theory_base.proofs.Tests.{of-true, to-true, not-true, of-false, and-l, and-r, and-i, each-way}
 use Rattle.theory_base.proofs.Members.{any-mem, mem-any, unlike, unlike-false, holds-mem, mem-holds, opposes-mem, mem-opposes, proper-unopposed, natAbs-neg}
 use Rattle.theory_base.specs.Clauses.{Proper}
-use Rattle.literals.specs.Literal.{index-of}
 use Rattle.literals.proofs.Laws.{negation-small}
 use Rattle.theory_soundness.proofs.Times.{times-nil, times-cons}
 use Rattle.theory_soundness.proofs.Without.{without-mem, mem-without}
-use Rattle.store.specs.Tally.{tallied, tallied-all}
-use Rattle.pass_pure.specs.Table.{Counts, pure-in}
-use Rattle.pass_pure.specs.Pass.{reach}
-use Rattle.pass_pure.proofs.Tests.{counted-table}
+use Rattle.tables.specs.Entries.{entry-of, tallied, tallied-all}
+use Rattle.tables.specs.Counts.{Counts, pure-in}
+use Rattle.tables.specs.Sizes.{input-reach, input-size}
+use Rattle.tables.proofs.Counting.{counted-table}
 use Rattle.pass_clashes.specs.Resolving.{opposite-in}
 
-module _ (A B : Clause) (v : ℤ) (p : Proper A) (q : Proper B) (f : (x : ℤ) → List·Memᴰ x B → natAbs x ≤ reach) where
+module _ (A B : Clause) (v : ℤ) (p : Proper A) (q : Proper B) (f : (x : ℤ) → List·Memᴰ x B → natAbs x ≤ input-reach) where
   abbrev t : List ℕ
-  t = tallied (replicate (reach + reach + 2) 0) A
+  t = tallied (replicate input-size 0) A
 
-  table : Counts reach t (A ∷ [])
+  table : Counts input-reach t (A ∷ [])
   unfolding tallied-all
-  table = counted-table reach (A ∷ []) (λ d i. Proper-of d (List·Memᴰ·eq-of-singleton i)) (omega arith)
+  table = counted-table input-reach (A ∷ []) (λ d i. Proper-of d (List·Memᴰ·eq-of-singleton i)) (omega arith)
     where
       Proper-of : (d : Clause) → d ≡ A → Proper d
       Proper-of d e = rw e p
 
-  counted : (l : ℤ) → natAbs l ≤ reach → not (pure-in t l) ≡ holds (negℤ l) A
+  counted : (l : ℤ) → natAbs l ≤ input-reach → not (pure-in t l) ≡ holds (negℤ l) A
   counted l b =
-      ap (λ (n : ℕ). not (eqb n 0)) (ap (λ (z : ℤ). getD t (index-of z) 0) (negation-small l (omega arith)) ∙ table (negℤ l) (rw natAbs-neg b) ∙ times-cons (negℤ l) A [] ∙ ap (λ (n : ℕ). bit (holds (negℤ l) A) + n) (times-nil (negℤ l)))
+      ap (λ (n : ℕ). not (eqb n 0)) (ap (λ (z : ℤ). entry-of t z) (negation-small l (omega arith)) ∙ table (negℤ l) (rw natAbs-neg b) ∙ times-cons (negℤ l) A [] ∙ ap (λ (n : ℕ). bit (holds (negℤ l) A) + n) (times-nil (negℤ l)))
       ∙ go (holds (negℤ l) A)
     where
       go : (r : Bool) → not (eqb (bit r + 0) 0) ≡ r

@@ -15,7 +15,7 @@ use Rattle.definition.specs.Literals.{Clause, same, without, with-first}
 use Rattle.literals.proofs.Laws.{at-arg, at-arg2, literals-within}
 use Rattle.theory_base.proofs.Slices.{sets-then, sets-first, sets-before, getD-before, part-before}
 use Rattle.progress.proofs.Writing.{without-++}
-use Rattle.pass_pure.specs.Table.{pure-in}
+use Rattle.tables.specs.Counts.{pure-in}
 use Rattle.pass_clashes.specs.Resolving.{opposite-in, joined}
 use Rattle.literals.specs.Literal.{signed-of, header-of}
 use Rattle.store.specs.Store.{entry, header-at, size-at, clause-at, past}

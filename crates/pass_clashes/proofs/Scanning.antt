@@ -23,13 +23,12 @@ use Rattle.theory_clearing.proofs.Clashes.{clash-at-some}
 use Rattle.theory_clearing.proofs.Scan.{scan-clashes}
 use Rattle.progress.specs.declared.Progress.{Progress}
 use Rattle.progress.specs.Progress.{standing, Runs}
-use Rattle.pass_pure.specs.Pass.{reach}
+use Rattle.progress.proofs.Laws.{lines-none, lines-one, runs-nothing, runs-join, good-up, good-first, good-rest}
 use Rattle.pass_clashes.specs.Clashes.{Free, clash-there, Next, Clash-ready}
 use Rattle.pass_clashes.specs.Resolving.{Resolvable}
 use Rattle.pass_clashes.specs.Scan.{events-from, events-left, Scanned}
 use Rattle.pass_clashes.specs.declared.NextClash.the-variants.{At, Nothing}
 use Rattle.pass_clashes.specs.declared.Scan.{Scan}
-use Rattle.pass_clashes.proofs.Running.{runs-none, runs-then, after-none, runs-same, runs-one, good-first, good-rest, good-up}
 
 -- ---- the events of the variables from one on
 
@@ -64,8 +63,8 @@ events-clash v variables F c h e =
     ap (λ (k : ℕ). scan-from v k F) n ∙ rw e (ap (λ (k : ℕ). clash-cleared c ∷ scan-from k (variables + 1 - (v + 1)) (after F (clash-lines c))) (sym (add-one v)))
 
 -- ---- what the other events need where the first ran
-pub ready-rest : (xs ys : List Event) {work new : List ℤ} {log new-log : Bytes} {p r : Progress} {variables : ℕ} → Clash-ready (xs ++ ys) work p variables → Runs xs work log p new new-log r
-    → Proper-all (standing new r) → Fits variables (standing new r) → Clash-ready ys new r variables
+ready-rest : (xs ys : List Event) {work new : List ℤ} {log new-log : Bytes} {p r : Progress} {variables : ℕ} → Clash-ready (xs ++ ys) work p variables → Runs xs work log p new new-log r
+    → Proper-all (after (standing work p) (lines xs)) → Fits variables (after (standing work p) (lines xs)) → Clash-ready ys new r variables
 ready-rest xs ys {work} {new} {p = p} {r = r} k g a b = record {
   good = good-rest xs ys (k .good) g a b;
   within = k .within;
@@ -81,7 +80,16 @@ ready-rest xs ys {work} {new} {p = p} {r = r} k g a b = record {
     after-more : (us : List Event) → after (standing new r) (lines us) ≡ after (standing work p) (lines (xs ++ us))
     after-more us = ap (λ (F : Formula). after F (lines us)) (g .stands) ∙ sym (after-++ (standing work p) (lines xs) (lines us)) ∙ ap (after (standing work p)) (sym (lines-++ xs us))
 
--- ---- a turn of the scan: the store compacted, then the next clash cleared
+-- what stands after no event, and after one clash
+after-none : (F : Formula) → after F (lines []) ≡ F
+unfolding after
+after-none F = ap (after F) lines-none
+
+after-clash : (F : Formula) (c : Clash) → after F (lines (clash-cleared c ∷ [])) ≡ after F (clash-lines c)
+unfolding lines-of
+after-clash F c = ap (after F) (lines-one (clash-cleared c))
+
+-- ---- a turn of the scan: the store slid down, then the next clash cleared
 module _ {work mid : List ℤ} {log : Bytes} {z : Scan} {q : Progress} {variables : ℕ} (order : z .next ≤ variables) (r : Clash-ready (events-left work z variables) work (z .progress) variables)
     (k : Runs [] work log (z .progress) mid log q) where
   abbrev F : Formula
@@ -90,19 +98,21 @@ module _ {work mid : List ℤ} {log : Bytes} {z : Scan} {q : Progress} {variable
   abbrev t : List ℤ
   t = take (q .end) mid
 
-  compacted-ready : {es : List Event} → events-left work z variables ≡ es → Clash-ready es mid q variables
-  compacted-ready {es} e =
-      ready-rest [] es (subst (λ (ds : List Event). Clash-ready ds work (z .progress) variables) e r) k (rw (runs-same k) (r .good .proper)) (rw (runs-same k) (r .good .fits))
+  same : standing mid q ≡ F
+  same = k .stands ∙ after-none F
+
+  slid-ready : {es : List Event} → events-left work z variables ≡ es → Clash-ready es mid q variables
+  slid-ready {es} e =
+      ready-rest [] es (subst (λ (ds : List Event). Clash-ready ds work (z .progress) variables) e r) k (rw (after-none F) (r .good .proper)) (rw (after-none F) (r .good .fits))
 
   pub search-ready : Clash-ready (events-from (z .next) variables (standing mid q)) mid q variables
-  search-ready = compacted-ready (ap (events-from (z .next) variables) (sym (runs-same k)))
+  search-ready = slid-ready (ap (events-from (z .next) variables) (sym same))
 
   -- there is none
   pub scanned-none : Next t (z .next) variables Nothing → Scanned variables work log z mid log (record { progress = q; next = variables + 1 })
   scanned-none f =
-      let e : events-from (variables + 1) variables (standing mid q) ≡ [] = events-none (variables + 1) variables (standing mid q) (omega arith) in
-      let l : events-left work z variables ≡ events-from (variables + 1) variables (standing mid q) = ap (events-from (z .next) variables) (sym (runs-same k)) ∙ events-free (z .next) (variables + 1) variables (standing mid q) (omega arith) (omega arith) f in
-      record { events = []; runs = k; rest = sym l; ready = compacted-ready l; order = omega arith }
+      let l : events-left work z variables ≡ events-from (variables + 1) variables (standing mid q) = ap (events-from (z .next) variables) (sym same) ∙ events-free (z .next) (variables + 1) variables (standing mid q) (omega arith) (omega arith) f in
+      record { events = []; runs = k; rest = sym l; ready = slid-ready l; order = omega arith }
 
   -- there is one
   module _ {v x y : ℕ} (f : Next t (z .next) variables (At v x y)) where
@@ -113,33 +123,32 @@ module _ {work mid : List ℤ} {log : Bytes} {z : Scan} {q : Progress} {variable
     others = events-from (v + 1) variables (after F (clash-lines c))
 
     clash-here : clash-at F v ≡ some c
-    clash-here = ap (λ (G : Formula). clash-at G v) (sym (runs-same k)) ∙ f .3 .clash
+    clash-here = ap (λ (G : Formula). clash-at G v) (sym same) ∙ f .3 .clash
 
     left-are : events-left work z variables ≡ clash-cleared c ∷ others
-    left-are = events-free (z .next) v variables F (f .0) (omega (arith, f .1)) (λ j lo hi. ap (λ (G : Formula). clash-at G j) (sym (runs-same k)) ∙ f .2 j lo hi) ∙ events-clash v variables F c (f .1) clash-here
+    left-are = events-free (z .next) v variables F (f .0) (omega (arith, f .1)) (λ j lo hi. ap (λ (G : Formula). clash-at G j) (sym same) ∙ f .2 j lo hi) ∙ events-clash v variables F c (f .1) clash-here
 
     pub resolvable : q .end ≡ numbers-of F → Resolvable mid q v x y
     resolvable n =
-        let m = compacted-ready left-are in
-        record { good = good-up reach (r .within) (good-first (clash-cleared c ∷ []) others (m .good)); clash = f .3; space = λ o. omega (arith, n, ap numbers-of same, m .space [] others c refl o) }
-      where
-        same : after (standing mid q) (lines []) ≡ F
-        same = after-none (standing mid q) ∙ runs-same k
+        let m = slid-ready left-are in
+        record {
+          good = good-up (r .within) (good-first (clash-cleared c ∷ []) others (m .good));
+          clash = f .3;
+          space = λ o. omega (arith, n, ap numbers-of (after-none (standing mid q) ∙ same), m .space [] others c refl o);
+        }
 
     pub scanned-clash : {new : List ℤ} {new-log : Bytes} {w : Progress} → Runs (clash-cleared c ∷ []) mid log q new new-log w → Scanned variables work log z new new-log (record { progress = w; next = v + 1 })
-    unfolding lines-of
     scanned-clash {new} {new-log} {w} g =
-        let e : standing new w ≡ after F (clash-lines c) = runs-one g ∙ ap (λ (G : Formula). after G (clash-lines c)) (runs-same k) in
+        let all = runs-join {es = []} k g in
         let i = clash-at-some F v c clash-here .1 in
-        let all = runs-then {es = []} k g in
+        let e : clash-cleared c ∷ events-from (v + 1) variables (standing new w) ≡ events-left work z variables = ap (λ (G : Formula). clash-cleared c ∷ events-from (v + 1) variables G) (all .stands ∙ after-clash F c) ∙ sym left-are in
         record {
           events = clash-cleared c ∷ [];
           runs = all;
-          rest = ap (λ (G : Formula). clash-cleared c ∷ events-from (v + 1) variables G) e ∙ sym left-are;
+          rest = e;
           ready =
-              ready-rest (clash-cleared c ∷ []) (events-from (v + 1) variables (standing new w))
-              (subst (λ (es : List Event). Clash-ready es work (z .progress) variables) (left-are ∙ ap (λ (G : Formula). clash-cleared c ∷ events-from (v + 1) variables G) (sym e)) r) all
-              (rw e (after-proper F c (r .good .proper) i)) (rw e (after-fits F c (r .good .proper) i variables (r .good .fits)));
+              ready-rest (clash-cleared c ∷ []) (events-from (v + 1) variables (standing new w)) (subst (λ (es : List Event). Clash-ready es work (z .progress) variables) (sym e) r) all
+              (rw (after-clash F c) (after-proper F c (r .good .proper) i)) (rw (after-clash F c) (after-fits F c (r .good .proper) i variables (r .good .fits)));
           order = omega (arith, f .1);
         }
 
@@ -148,7 +157,7 @@ module _ {work mid : List ℤ} {log : Bytes} {z : Scan} {q : Progress} {variable
 pub scanned-then : {variables : ℕ} {a b c : List ℤ} {l m n : Bytes} {x y z : Scan} → Scanned variables a l x b m y → Scanned variables b m y c n z → Scanned variables a l x c n z
 scanned-then {variables} {c = c} {z = z} s t = record {
   events = s .events ++ t .events;
-  runs = runs-then (s .runs) (t .runs);
+  runs = runs-join (s .runs) (t .runs);
   rest = append-assoc (s .events) (t .events) (events-left c z variables) ∙ ap (λ (es : List Event). s .events ++ es) (t .rest) ∙ s .rest;
   ready = t .ready;
   order = t .order;
@@ -166,7 +175,7 @@ module _ {work : List ℤ} {p : Progress} {variables : ℕ} (r : Clash-ready (cl
   pub scanned-start : (log : Bytes) → Scanned variables work log (record { progress = p; next = 1 }) work log (record { progress = p; next = 1 })
   scanned-start log = record {
     events = [];
-    runs = runs-none log (r .good .inside) (r .good .formed);
+    runs = runs-nothing log p p refl (record { inside = r .good .inside; formed = r .good .formed; stands = refl }) refl refl;
     rest = refl;
     ready = subst (λ (es : List Event). Clash-ready es work p variables) all-left r;
     order = omega arith;

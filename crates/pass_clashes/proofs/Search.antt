@@ -7,8 +7,7 @@ use Prim.Native.Nat.{ℕ, _+_, _-_, _≤_, _<_}
 use native.Mathlib.Omega.{arith}
 use lib.Dec.{T, ltb}
 use lib.IntN.{ℤ, pos, negℤ}
-use lib.ListN.{getD, take, replicate}
-use lib.Seq.{length-take-le}
+use lib.ListN.{take}
 use borrow.Author.Tests.{lt-ltb, le-ltb, ltb-true}
 use Rattle.definition.specs.Lists.{first}
 use Rattle.definition.specs.Literals.{Clause, Formula, holds}
@@ -17,43 +16,40 @@ use Rattle.theory_base.proofs.Tests.{of-true, to-true, differ, to-false, and-l,
 use Rattle.theory_base.proofs.Loops.{first-some, by-order}
 use Rattle.theory_base.proofs.Members.{holds-mem, proper-unopposed, natAbs-neg}
 use Rattle.theory_base.specs.Clauses.{Proper-all}
-use Rattle.literals.specs.Literal.{index-of, signed-of}
+use Rattle.literals.specs.Literal.{signed-of}
 use Rattle.literals.proofs.Laws.{signed-small}
 use Rattle.store.specs.Store.{stored, clause-at}
-use Rattle.store.specs.Tally.{tallied-all}
-use Rattle.store.proofs.Laws.{stored-few}
 use Rattle.definition.specs.Events.{Event}
 use Rattle.progress.specs.declared.Progress.{Progress}
 use Rattle.progress.specs.Progress.{standing}
-use Rattle.pass_pure.specs.Table.{Counts}
-use Rattle.pass_pure.specs.Pass.{reach}
-use Rattle.pass_pure.proofs.Tests.{counted-table}
+use Rattle.tables.specs.Sizes.{input-reach}
+use Rattle.tables.specs.Entries.{entry-of}
 use Rattle.pass_clashes.specs.Places.{Stands-at, Tells, Placed}
 use Rattle.pass_clashes.specs.Clashes.{both, Clashing, Next, Clash-ready}
 use Rattle.pass_clashes.specs.declared.NextClash.the-variants.{At, Nothing}
 
 -- ---- the test of one variable
-pub both-first : {r : Bool} (t : List ℕ) (v : ℕ) → 0 < getD t (index-of (signed-of false v)) 0 → r ≡ ltb 0 (getD t (index-of (signed-of true v)) 0) → r ≡ both t v
-both-first t v h e = rw (lt-ltb 0 (getD t (index-of (signed-of false v)) 0) h) e
+pub both-first : {r : Bool} (t : List ℕ) (v : ℕ) → 0 < entry-of t (signed-of false v) → r ≡ ltb 0 (entry-of t (signed-of true v)) → r ≡ both t v
+both-first t v h e = rw (lt-ltb 0 (entry-of t (signed-of false v)) h) e
 
-pub both-none : (t : List ℕ) (v : ℕ) → getD t (index-of (signed-of false v)) 0 ≤ 0 → false ≡ both t v
-both-none t v h = rw (le-ltb 0 (getD t (index-of (signed-of false v)) 0) h) refl
+pub both-none : (t : List ℕ) (v : ℕ) → entry-of t (signed-of false v) ≤ 0 → false ≡ both t v
+both-none t v h = rw (le-ltb 0 (entry-of t (signed-of false v)) h) refl
 
-pub both-some : (t : List ℕ) (v : ℕ) → both t v ≡ true → (0 < getD t (index-of (signed-of false v)) 0) × (0 < getD t (index-of (signed-of true v)) 0)
-both-some t v e = (ltb-true 0 _ (to-true (and-l (ltb 0 (getD t (index-of (signed-of false v)) 0)) _ (of-true e))), ltb-true 0 _ (to-true (and-r (ltb 0 (getD t (index-of (signed-of false v)) 0)) _ (of-true e))))
+pub both-some : (t : List ℕ) (v : ℕ) → both t v ≡ true → (0 < entry-of t (signed-of false v)) × (0 < entry-of t (signed-of true v))
+both-some t v e = (ltb-true 0 _ (to-true (and-l (ltb 0 (entry-of t (signed-of false v))) _ (of-true e))), ltb-true 0 _ (to-true (and-r (ltb 0 (entry-of t (signed-of false v))) _ (of-true e))))
 
 -- ---- its meaning
-module _ (s : List ℤ) (t : List ℕ) (p : Proper-all (stored s)) (k : Placed (stored s) (stored s) s t) (v : ℕ) (w : v ≤ reach) where
+module _ (s : List ℤ) (t : List ℕ) (p : Proper-all (stored s)) (k : Placed (stored s) (stored s) s t) (v : ℕ) (w : v ≤ input-reach) where
   abbrev F : Formula
   F = stored s
 
-  one-tells : Tells s (ulc-with F (pos v)) (getD t (index-of (signed-of false v)) 0)
+  one-tells : Tells s (ulc-with F (pos v)) (entry-of t (signed-of false v))
   unfolding ulc-with
-  one-tells = subst (λ (z : ℤ). Tells s (first (λ c. holds (pos v) c && unique F c) F) (getD t (index-of z) 0)) (sym (signed-small false v (omega arith))) (k (pos v) w)
+  one-tells = subst (λ (z : ℤ). Tells s (first (λ c. holds (pos v) c && unique F c) F) (entry-of t z)) (sym (signed-small false v (omega arith))) (k (pos v) w)
 
-  other-tells : Tells s (ulc-with F (negℤ (pos v))) (getD t (index-of (signed-of true v)) 0)
+  other-tells : Tells s (ulc-with F (negℤ (pos v))) (entry-of t (signed-of true v))
   unfolding ulc-with
-  other-tells = subst (λ (z : ℤ). Tells s (first (λ c. holds (negℤ (pos v)) c && unique F c) F) (getD t (index-of z) 0)) (sym (signed-small true v (omega arith))) (k (negℤ (pos v)) (rw (natAbs-neg (pos v)) w))
+  other-tells = subst (λ (z : ℤ). Tells s (first (λ c. holds (negℤ (pos v)) c && unique F c) F) (entry-of t z)) (sym (signed-small true v (omega arith))) (k (negℤ (pos v)) (rw (natAbs-neg (pos v)) w))
 
   -- the other clause does not hold v
   apart : (b : Clause) → ulc-with F (negℤ (pos v)) ≡ some b → holds (pos v) b ≡ false
@@ -69,16 +65,16 @@ module _ (s : List ℤ) (t : List ℕ) (p : Proper-all (stored s)) (k : Placed (
       yes : {a b : ℕ} (x y : ℕ) → a ≡ x + 1 → b ≡ y + 1 → T (ltb 0 a && ltb 0 b)
       yes x y e f = rw (e, f, lt-ltb 0 (x + 1) (omega arith), lt-ltb 0 (y + 1) (omega arith)) tt
 
-      go : (a b : Option Clause) → Tells s a (getD t (index-of (signed-of false v)) 0) → Tells s b (getD t (index-of (signed-of true v)) 0) → clash-of (pos v) a b ≡ none
+      go : (a b : Option Clause) → Tells s a (entry-of t (signed-of false v)) → Tells s b (entry-of t (signed-of true v)) → clash-of (pos v) a b ≡ none
       go none b m n = refl
       go (some a) none m n = refl
       go (some a) (some b) m n = differ (yes (m .0) (n .0) (m .1) (n .1)) e
 
   abbrev k₁ : ℕ
-  k₁ = getD t (index-of (signed-of false v)) 0
+  k₁ = entry-of t (signed-of false v)
 
   abbrev k₂ : ℕ
-  k₂ = getD t (index-of (signed-of true v)) 0
+  k₂ = entry-of t (signed-of true v)
 
   is-both : both t v ≡ true → Clashing s v (k₁ - 1) (k₂ - 1)
   unfolding clash-at clash-of
@@ -97,12 +93,6 @@ module _ (s : List ℤ) (t : List ℕ) (p : Proper-all (stored s)) (k : Placed (
       go (some a) x none y m n = absurd (omega (arith, n, both-some t v e .1))
       go (some a) x (some b) y m n = found a b x y m n
 
--- ---- the tables of a store
-pub count-table : {es : List Event} {work : List ℤ} {p : Progress} {variables : ℕ} {counts : List ℕ} → Clash-ready es work p variables → counts ≡ tallied-all (replicate (reach + reach + 2) 0) (standing work p) → Counts reach counts (standing work p)
-count-table {work = work} {p = p} r e =
-    let few = stored-few (take (p .end) work) in
-    rw e (counted-table reach (standing work p) (r .good .proper) (omega (arith, few, r .good .small, length-take-le (p .end) work (r .good .inside), r .good .inside)))
-
 -- ---- what the search finds
 module _ {es : List Event} {work : List ℤ} {p : Progress} {from to v : ℕ} (r : Clash-ready es work p to) (t : List ℕ) (k : Placed (standing work p) (standing work p) (take (p .end) work) t) (f : (k : ℕ) → from ≤ k → k < v → both t k ≡ false) where
   free-before : (i : ℕ) → from ≤ i → i < v → i ≤ to → clash-at (standing work p) i ≡ none
@@ -111,7 +101,7 @@ module _ {es : List Event} {work : List ℤ} {p : Progress} {from to v : ℕ} (r
   pub next-none : to < v → v ≤ to + 1 → Next (take (p .end) work) from to Nothing
   next-none a b i lo hi = free-before i lo (omega arith) (omega arith)
 
-  pub next-some : from ≤ v → v ≤ to → both t v ≡ true → {a b : ℕ} → a ≡ getD t (index-of (signed-of false v)) 0 → b ≡ getD t (index-of (signed-of true v)) 0 → Next (take (p .end) work) from to (At v (a - 1) (b - 1))
+  pub next-some : from ≤ v → v ≤ to → both t v ≡ true → {a b : ℕ} → a ≡ entry-of t (signed-of false v) → b ≡ entry-of t (signed-of true v) → Next (take (p .end) work) from to (At v (a - 1) (b - 1))
   next-some m n e g h = (m, n, λ i lo hi. free-before i lo hi (omega arith), rw (g, h) (is-both (take (p .end) work) t (r .good .proper) k v (omega (arith, r .within)) e))
 
 -- ---- the loop over a range

@@ -6,25 +6,26 @@ use mathlib.Core.Option.{some, none}
 use Prim.Native.Nat.{ℕ, _+_, _≤_, _<_}
 use lib.Dec.{ltb}
 use lib.IntN.{ℤ, pos}
-use lib.ListN.{length, getD}
+use lib.ListN.{length}
 use Rattle.definition.specs.Literals.{Formula, opposed}
 use Rattle.definition.specs.Standing.{after}
 use Rattle.definition.specs.Events.{Clash, Event, clash-cleared}
 use Rattle.definition.specs.Clearing.{clash-at, resolvent}
 use Rattle.definition.specs.Reencoding.{lines}
 use Rattle.definition.specs.Calls.{numbers-of}
-use Rattle.literals.specs.Literal.{index-of, signed-of}
+use Rattle.literals.specs.Literal.{signed-of}
 use Rattle.store.specs.Store.{stored, clause-at}
 use Rattle.progress.specs.declared.Progress.{Progress}
 use Rattle.progress.specs.Progress.{standing, Good}
-use Rattle.pass_pure.specs.Pass.{reach}
+use Rattle.tables.specs.Sizes.{input-reach}
+use Rattle.tables.specs.Entries.{entry-of}
 use Rattle.pass_clashes.specs.Places.{Stands-at}
 use Rattle.pass_clashes.specs.declared.NextClash.{NextClash}
 use Rattle.pass_clashes.specs.declared.NextClash.the-variants.{At, Nothing}
 
 -- a variable and its negation have places
 abbrev pub both : List ℕ → ℕ → Bool
-both t v = ltb 0 (getD t (index-of (signed-of false v)) 0) && ltb 0 (getD t (index-of (signed-of true v)) 0)
+both t v = ltb 0 (entry-of t (signed-of false v)) && ltb 0 (entry-of t (signed-of true v))
 
 -- no variable of a range clashes
 abbrev pub Free : Formula → ℕ → ℕ → Type 0
@@ -47,7 +48,7 @@ Next s from to (At v x y) = (from ≤ v) × (v ≤ to) × Free (stored s) from v
 -- what clearing the clashes of the events es needs
 pub record Clash-ready (es : List Event) (work : List ℤ) (p : Progress) (variables : ℕ) : Type 0 where
   pub good : Good variables es work p
-  pub within : variables ≤ reach
+  pub within : variables ≤ input-reach
   -- an added resolvent fits beside what stands
   pub space : (xs ys : List Event) (c : Clash) → es ≡ xs ++ (clash-cleared c ∷ ys) → opposed (resolvent c) ≡ false
       → numbers-of (after (standing work p) (lines xs)) + (length (resolvent c) + 1) ≤ length work

@@ -15,8 +15,8 @@ use Rattle.literals.specs.Literal.{signed-of}
 use Rattle.store.specs.Store.{Formed, stored, clause-at}
 use Rattle.progress.specs.declared.Progress.{Progress}
 use Rattle.progress.specs.Progress.{Written, standing, Good}
-use Rattle.pass_pure.specs.Table.{pure-in}
-use Rattle.pass_pure.specs.Pass.{reach}
+use Rattle.tables.specs.Sizes.{input-reach}
+use Rattle.tables.specs.Counts.{pure-in}
 use Rattle.pass_clashes.specs.Places.{Stands-at}
 use Rattle.pass_clashes.specs.Clashes.{clash-there, Clashing}
 
@@ -38,7 +38,7 @@ parent-lines c = deletion (with-first (c .v) (c .one)) ∷ deletion (with-first 
 
 -- what clearing the clash of v at x and y needs
 pub record Resolvable (work : List ℤ) (p : Progress) (v x y : ℕ) : Type 0 where
-  pub good : Good reach (clash-cleared (clash-there (take (p .end) work) v x y) ∷ []) work p
+  pub good : Good input-reach (clash-cleared (clash-there (take (p .end) work) v x y) ∷ []) work p
   pub clash : Clashing (take (p .end) work) v x y
   pub space : opposed (resolvent (clash-there (take (p .end) work) v x y)) ≡ false → p .end + (length (resolvent (clash-there (take (p .end) work) v x y)) + 1) ≤ length work
 
@@ -60,7 +60,7 @@ pub record Parents (s : List ℤ) (v x y : ℕ) : Type 0 where
   pub other-holds : List·Memᴰ (negℤ (pos v)) (clause-at s y)
   pub other-once : times (negℤ (pos v)) (stored s) ≡ 1
   pub apart : List·Memᴰ (negℤ (pos v)) (clause-at s x) → ⊥
-  pub small : v ≤ reach
+  pub small : v ≤ input-reach
 
 -- the clauses of the clash c are deleted
 pub record Parents-gone (c : Clash) (s : List ℤ) (log : Bytes) (p : Progress) (new : List ℤ) (new-log : Bytes) (r : Progress) : Type 0 where

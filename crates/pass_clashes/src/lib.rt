@@ -4,21 +4,19 @@ ghost use mathlib.Core.Bool.{true, false};
 ghost use mathlib.Core.List.{[], _∷_};
 ghost use Prim.Native.Nat.{ℕ, _+_, _-_, _≤_, _<_, _^_};
 ghost use lib.IntN.{pos};
-ghost use lib.ListN.{length, take, drop, set, getD, replicate};
+ghost use lib.ListN.{length, take, drop, getD, replicate};
 ghost use lib.Seq.{sets};
 ghost use Rattle.definition.specs.Lists.{any};
 ghost use Rattle.definition.specs.Literals.{without, with-first};
 ghost use Rattle.definition.specs.Standing.{deletion, addition};
 ghost use Rattle.definition.specs.Events.{clash-cleared};
 ghost use Rattle.definition.specs.Clearing.{clear-clashes};
-ghost use Rattle.theory_base.specs.Clauses.{Fits};
-ghost use Rattle.literals.specs.Literal.{index-of, signed-of};
-ghost use Rattle.store.specs.Store.{Formed, stored, entry, marked, clause-at};
-ghost use Rattle.store.specs.Tally.{tallied};
+ghost use Rattle.literals.specs.Literal.{signed-of};
+ghost use Rattle.tables.specs.Sizes.{input-reach, input-size};
+ghost use Rattle.tables.specs.Entries.{entry-of, tallied};
+ghost use Rattle.store.specs.Store.{Formed, stored, entry, marked, clause-at, Counted};
 ghost use Rattle.progress.specs.Progress.{Written, Log-room, Runs, standing};
-ghost use Rattle.pass_pure.specs.Table.{Counts};
-ghost use Rattle.pass_pure.specs.Pass.{reach};
-ghost use Rattle.pass_clashes.specs.Places.{with-places, placed-at, Placed};
+ghost use Rattle.pass_clashes.specs.Places.{placed-at, Placed};
 ghost use Rattle.pass_clashes.specs.Clashes.{both, Next, clash-there, Clash-ready};
 ghost use Rattle.pass_clashes.specs.Resolving.{opposite-in, joined, parent-lines, Resolvable, Resolvent-added, Parents, Parents-gone};
 ghost use Rattle.pass_clashes.specs.Scan.{events-from, events-left, Scanned};
@@ -30,32 +28,11 @@ pub enum NextClash {
     Nothing,
 }
 
-// ---- where the unique literal clause that holds a literal stands: the place past its header, 0 where there is none
+// ---- the places of unique literal clauses: a table with an entry for each literal, one more than the place of the one that holds it, 0 where there is none
 
-// Sets a literal's place, where the table reaches.
-fn set_place(places: &mut [usize], l: i32, place: usize)
-    ensures { λ _. ⌜ now (places .exit) ≡ set (now (places .entry)) (index-of l) place ⌝ }
-{
-    let i = literals::literal_index(l);
-    if i < places.len() {
-        places[i] = place;
-    }
-}
-
-// Sets the place of each literal of a clause.
-fn set_places(places: &mut [usize], clause: &[i32], place: usize)
-    ensures { λ _. ⌜ now (places .exit) ≡ with-places (now (places .entry)) (now (clause .entry)) place ⌝ }
-{
-    let mut i = 0;
-    while i < clause.len() {
-        set_place(places, clause[i], place);
-        i += 1;
-    }
-}
-
-// Sets the place of the literals of the clause at a place, if it stands and is a unique literal clause.
-fn place_entry(places: &mut [usize], counts: &[u32], store: &[i32], at: usize)
-    requires { ⌜ (at < length (now store)) × Formed (drop at (now store)) ⌝ }
+// Sets the entries of the clause at a place, if it stands and is a unique literal clause.
+fn place_entry(places: &mut [u32], counts: &[u32], store: &[i32], at: usize)
+    requires { ⌜ (at < length (now store)) × Formed (drop at (now store)) × (length (now store) < 2 ^ 31) ⌝ }
     ensures { λ _. ⌜ now (places .exit) ≡ placed-at (now (places .entry)) (now (counts .entry)) (now (store .entry)) at ⌝ }
 {
     if literals::is_negative(store[at]) {
@@ -63,15 +40,15 @@ fn place_entry(places: &mut [usize], counts: &[u32], store: &[i32], at: usize)
     }
     let next = store::next_at(store, at);
     let first = at + 1;
-    if pass_pure::is_unique(counts, &store[first..next]) {
-        set_places(places, &store[first..next], first);
+    if tables::is_unique(counts, &store[first..next]) {
+        tables::set_entries(places, &store[first..next], first as u32);
     }
 }
 
-// Sets the places of the literals of all unique literal clauses.
-fn place_all(places: &mut [usize], counts: &[u32], store: &[i32])
-    requires { ⌜ Formed (now store) × Fits reach (stored (now store)) × Counts reach (now counts) (stored (now store)) ⌝ }
-    requires { ⌜ now places ≡ replicate 16002 0 ⌝ }
+// Sets the entries of all unique literal clauses.
+fn place_all(places: &mut [u32], counts: &[u32], store: &[i32])
+    requires { ⌜ Counted input-reach (now store) (now counts) × (length (now store) < 2 ^ 31) ⌝ }
+    requires { ⌜ now places ≡ replicate input-size 0 ⌝ }
     ensures { λ _. ⌜ Placed (stored (now (store .entry))) (stored (now (store .entry))) (now (store .entry)) (now (places .exit)) ⌝ }
 {
     let mut at = 0;
@@ -83,27 +60,26 @@ fn place_all(places: &mut [usize], counts: &[u32], store: &[i32])
 
 // ---- the next clash
 
-// The place of a literal's unique literal clause; 0 past the table's reach.
-fn place_of(places: &[usize], l: i32) -> usize
-    ensures { λ r. ⌜ r ≡ getD (now (places .entry)) (index-of l) 0 ⌝ }
+// The entry of a variable or its negation.
+fn place_of(places: &[u32], is_negative: bool, v: u32) -> u32
+    ensures { λ r. ⌜ r ≡ entry-of (now (places .entry)) (signed-of «is_negative» v) ⌝ }
 {
-    let i = literals::literal_index(l);
-    if i < places.len() { places[i] } else { 0 }
+    tables::entry_of(places, literals::signed(is_negative, v))
 }
 
 // Whether a variable and its negation stand in unique literal clauses.
-fn clashes(places: &[usize], v: u32) -> bool
+fn clashes(places: &[u32], v: u32) -> bool
     ensures { λ r. ⌜ r ≡ both (now (places .entry)) v ⌝ }
 {
-    if 0 < place_of(places, literals::signed(false, v)) {
-        0 < place_of(places, literals::signed(true, v))
+    if 0 < place_of(places, false, v) {
+        0 < place_of(places, true, v)
     } else {
         false
     }
 }
 
 // The first variable of a range that clashes, or the one past the range.
-fn find_clash(places: &[usize], from: u32, to: u32) -> u32
+fn find_clash(places: &[u32], from: u32, to: u32) -> u32
     requires { ⌜ (from ≤ to + 1) × (to < 2 ^ 31) ⌝ }
     ensures within { λ r. ⌜ (from ≤ r) × (r ≤ to + 1) ⌝ }
     ensures before { λ r. ⌜ ((k : ℕ) → from ≤ k → k < r → both (now (places .entry)) k ≡ false) ⌝ }
@@ -125,16 +101,16 @@ fn next_clash(work: &[i32], p: Progress, from: u32, to: u32) -> NextClash
     ensures { λ r. ⌜ Next (take (p .end) (now (work .entry))) from to r ⌝ }
 {
     let end = p.end;
-    let mut counts = [0u32; 16002];
-    let mut places = [0usize; 16002];
+    let mut counts = [0u32; tables::INPUT_SIZE];
+    let mut places = [0u32; tables::INPUT_SIZE];
     store::count_all(&mut counts, &work[..end]);
     place_all(&mut places, &counts, &work[..end]);
     let v = find_clash(&places, from, to);
     if to < v {
         return NextClash::Nothing;
     }
-    let a = place_of(&places, literals::signed(false, v));
-    let b = place_of(&places, literals::signed(true, v));
+    let a = place_of(&places, false, v) as usize;
+    let b = place_of(&places, true, v) as usize;
     NextClash::At(v, a - 1, b - 1)
 }
 
@@ -147,7 +123,7 @@ fn is_opposite(table: &[u32], gone: i32, l: i32) -> bool
     if literals::same(gone, l) {
         return false;
     }
-    !pass_pure::is_pure(table, l)
+    !tables::is_pure(table, l)
 }
 
 // Whether the negation of a literal of a clause, without one literal, is counted.
@@ -166,10 +142,10 @@ fn any_opposite(table: &[u32], gone: i32, clause: &[i32]) -> bool
 
 // Whether a clause, without -v, has a literal whose negation is in another clause.
 fn is_opposed(one: &[i32], v: u32, other: &[i32]) -> bool
-    ensures { λ r. ⌜ r ≡ any (opposite-in (tallied (replicate 16002 0) (now (one .entry))) (signed-of true v)) (now (other .entry)) ⌝ }
+    ensures { λ r. ⌜ r ≡ any (opposite-in (tallied (replicate input-size 0) (now (one .entry))) (signed-of true v)) (now (other .entry)) ⌝ }
 {
-    let mut table = [0u32; 16002];
-    store::count_clause(&mut table, one);
+    let mut table = [0u32; tables::INPUT_SIZE];
+    tables::count_clause(&mut table, one);
     any_opposite(&table, literals::signed(true, v), other)
 }
 
@@ -330,7 +306,7 @@ fn clear_next(work: &mut [i32], log: &mut [u8], s: Scan, variables: u32) -> Scan
     ensures scanned { λ r. ⌜ Scanned variables (now (work .entry)) (now (log .entry)) s (now (work .exit)) (now (log .exit)) r ⌝ }
     ensures later { λ r. ⌜ s .next < r .next ⌝ }
 {
-    let p = progress::compact(work, s.progress);
+    let p = progress::slide_down(work, s.progress);
     match next_clash(work, p, s.next, variables) {
         NextClash::At(v, x, y) => {
             let q = resolve(work, log, p, v, x, y);

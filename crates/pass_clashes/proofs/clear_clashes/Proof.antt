@@ -1,9 +1,8 @@
 use Prim.Native.Nat.{_+_, _-_}
 use native.Mathlib.Omega.{arith}
 use denote.Ref.{now}
-use Rattle.progress.proofs.Laws.{written-length}
+use Rattle.progress.proofs.Laws.{written-length, runs-written}
 use Rattle.pass_clashes.specs.Scan.{Scanned}
-use Rattle.pass_clashes.proofs.Running.{runs-written}
 use Rattle.pass_clashes.proofs.Scanning.{scanned-start, scanned-then, scanned-end}
 use Rattle.pass_clashes.proofs.clear_clashes.Statement.{statement}
 use Rattle.pass_clashes.proofs.clear_clashes.Tie as tie

@@ -1,18 +1,19 @@
+use borrow.Author.Needs.{needs}
 use native.Mathlib.Omega.{arith}
 use denote.Ref.{now}
 use Rattle.pass_clashes.proofs.Scanning.{search-ready, resolvable, scanned-none, scanned-clash}
-use borrow.Author.Needs.{needs}
 use Rattle.pass_clashes.proofs.clear_next.Statement.{statement}
 use Rattle.pass_clashes.proofs.clear_next.Tie as tie
 
-compact-requires : tie.Need-compact-requires
-compact-requires c κs = search needs
+slide-down-requires : tie.Need-slide-down-requires
+slide-down-requires c κs = search needs
 
 next-clash-requires : tie.Need-next-clash-requires
 next-clash-requires c κs =
     let start = c .before .before .before .before .before in (
       start .pre .0,
-      search-ready (start .pre .0) (start .pre .1) (c .before .before .compact .ensures .0 (now (start .args .log))),
+      search-ready (start .pre .0) (start .pre .1)
+          (c .before .before .slide-down .ensures .runs (now (start .args .log))),
     )
 
 enum-known-v : tie.Need-enum-known-v
@@ -22,10 +23,10 @@ resolve-requires : tie.Need-resolve-requires
 resolve-requires c κs =
     let back = c .before .before .before in let v = back .v in
     let back = back .before .before in let next-clash = back .next-clash in
-    let back = back .before .before .before in let compact = back .compact in
+    let back = back .before .before .before in let slide-down = back .slide-down in
     let start = back .before .before .before in
-    resolvable (start .pre .0) (start .pre .1) (compact .ensures .0 (now (start .args .log)))
-    (rw (v .given .1) at (next-clash .ensures)) (compact .ensures .1)
+    resolvable (start .pre .0) (start .pre .1) (slide-down .ensures .runs (now (start .args .log)))
+    (rw (v .given .1) at (next-clash .ensures)) (slide-down .ensures .end-is)
 
 add-t20 : tie.Need-add-t20
 add-t20 c =
@@ -51,10 +52,11 @@ returns c =
     let back = c .before .before .before in let resolve = back .resolve in
     let back = back .before .before .before .before in let v = back .v in
     let back = back .before .before in let next-clash = back .next-clash in
-    let back = back .before .before .before in let compact = back .compact in
+    let back = back .before .before .before in let slide-down = back .slide-down in
     let start = back .before .before .before in
     let f = rw (v .given .1) at (next-clash .ensures) in (
-      scanned-clash (start .pre .0) (start .pre .1) (compact .ensures .0 (now (start .args .log))) f (resolve .ensures),
+      scanned-clash (start .pre .0) (start .pre .1) (slide-down .ensures .runs (now (start .args .log))) f
+          (resolve .ensures),
       omega (arith, f .0),
     )
 
@@ -63,9 +65,9 @@ same-length-3 c = search needs
 
 returns-2 : tie.Need-returns-2
 returns-2 c =
-    let back = c .before .before .before .before .before in let compact = back .compact in
+    let back = c .before .before .before .before .before in let slide-down = back .slide-down in
     let start = back .before .before .before in (
-      scanned-none (start .pre .0) (start .pre .1) (compact .ensures .0 (now (start .args .log)))
+      scanned-none (start .pre .0) (start .pre .1) (slide-down .ensures .runs (now (start .args .log)))
           (rw (c .enum-told .given .1) at (c .before .before .next-clash .ensures)),
       omega (arith, start .pre .0),
     )
@@ -74,7 +76,7 @@ pub clear-next-spec : {M : Type 1} → statement M
 clear-next-spec =
     tie.close
     (tie.spec
-    compact-requires
+    slide-down-requires
     next-clash-requires
     enum-known-v
     resolve-requires

@@ -9,7 +9,8 @@ use mir.Val.{ofZ, toZ}
 use lib.ListN.{replicate}
 use Rattle.definition.specs.Lists.{any}
 use Rattle.literals.specs.Literal.{signed-of}
-use Rattle.store.specs.Tally.{tallied}
+use Rattle.tables.specs.Sizes.{input-size}
+use Rattle.tables.specs.Entries.{tallied}
 use Rattle.pass_clashes.specs.Resolving.{opposite-in}
 use borrow.Author.Needs.{sfits-of}
 use Rattle.pass_clashes.proofs.Resolving.{arg-is}
@@ -41,7 +42,7 @@ returns c =
     ∙ ap (λ (t : List ℕ). any (opposite-in t (toZ w32 (ofZ w32 (signed .result)))) (now (start .args .other)))
     (count-clause .ensures)
     ∙ arg-is
-    (λ (z : ℤ). any (opposite-in (tallied (replicate {A = ℕ} 16002 0) (now (start .args .one))) z)
+    (λ (z : ℤ). any (opposite-in (tallied (replicate {A = ℕ} input-size 0) (now (start .args .one))) z)
     (now (start .args .other))) (signed .result) (signed-of true (start .args .v)) (sfits-of (signed .ok))
     (signed .ensures)
 

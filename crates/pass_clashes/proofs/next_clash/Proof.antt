@@ -1,18 +1,10 @@
+use borrow.Author.Needs.{needs}
 use native.Mathlib.Omega.{arith}
-use mathlib.Core.Path.{refl, sym, _∙_}
-use mathlib.Core.Bool.{true, false}
-use lib.IntN.{ℤ}
-use lib.ListN.{getD}
+use mathlib.Core.Path.{refl, sym}
 use lib.Seq.{length-take-le}
 use denote.Ref.{now}
-use borrow.Author.Needs.{sfits-of}
-use Rattle.theory_base.proofs.Fitting.{fits-up}
-use Rattle.literals.specs.Literal.{index-of, signed-of}
-use Rattle.pass_pure.specs.Pass.{reach}
-use Rattle.progress.specs.Progress.{standing}
-use Rattle.pass_clashes.proofs.Resolving.{arg-is}
-use Rattle.pass_clashes.proofs.Search.{count-table, both-some, next-none, next-some}
-use borrow.Author.Needs.{needs}
+use Rattle.progress.proofs.Laws.{good-up, good-counted}
+use Rattle.pass_clashes.proofs.Search.{both-some, next-none, next-some}
 use Rattle.pass_clashes.proofs.next_clash.Statement.{statement}
 use Rattle.pass_clashes.proofs.next_clash.Tie as tie
 
@@ -42,10 +34,8 @@ place-all-requires c κs =
     let start = back .before .before .before in
     let g = start .pre .1 in (
       (
-        g .good .formed,
-        fits-up reach (start .args .to) (standing (now (start .args .work)) (start .args .p)) (g .within)
-            (g .good .fits),
-        count-table g (count-all .ensures),
+        good-counted (good-up (g .within) (g .good)) (count-all .ensures),
+        omega (arith, g .good .small, length-take-le (start .args .p .end) (now (start .args .work)) (g .good .inside)),
       ),
       refl,
     )
@@ -67,64 +57,52 @@ returns c =
 slice-aggregate-place-of : tie.Need-slice-aggregate-place-of
 slice-aggregate-place-of c = search needs
 
-signed-requires : tie.Need-signed-requires
-signed-requires c κs = search needs
-
 place-of-requires : tie.Need-place-of-requires
 place-of-requires c κs = search needs
+
+cast-a : tie.Need-cast-a
+cast-a c = search needs
 
 slice-aggregate-place-of-2 : tie.Need-slice-aggregate-place-of-2
 slice-aggregate-place-of-2 c = search needs
 
-signed-requires-2 : tie.Need-signed-requires-2
-signed-requires-2 c κs = search needs
-
 place-of-requires-2 : tie.Need-place-of-requires-2
 place-of-requires-2 c κs = search needs
 
+cast-b : tie.Need-cast-b
+cast-b c = search needs
+
 sub-t30 : tie.Need-sub-t30
 sub-t30 c =
-    let back = c .before .before .before in let place-of = back .place-of in
-    let back = back .before in let signed = back .signed in
-    let back = back .before .before in let if1 = back .if1 in
+    let back = c .before .before .before .before in let if1 = back .if1 in
     let back = back .before in let find-clash = back .find-clash in
     let place-all = back .before .before .before .place-all in
-    let t = place-all .last .0 in
-    let e = place-of .ensures
-    ∙ arg-is (λ (z : ℤ). getD t (index-of z) 0) (signed .result) (signed-of false (find-clash .result))
-    (sfits-of (signed .ok)) (signed .ensures) in
-    omega (arith, e, both-some t (find-clash .result) (find-clash .ensures .1 .1 (if1 .left)) .0)
+    omega (
+      arith,
+      c .before .before .place-of .ensures,
+      both-some (place-all .last .0) (find-clash .result) (find-clash .ensures .1 .1 (if1 .left)) .0,
+    )
 
 sub-t31 : tie.Need-sub-t31
 sub-t31 c =
-    let back = c .before in let signed2 = back .signed2 in
-    let back = back .before .before .before .before .before in let if1 = back .if1 in
+    let back = c .before .before .before .before in let if1 = back .if1 in
     let back = back .before in let find-clash = back .find-clash in
     let place-all = back .before .before .before .place-all in
-    let t = place-all .last .0 in
-    let f = c .place-of2 .ensures
-    ∙ arg-is (λ (z : ℤ). getD t (index-of z) 0) (signed2 .result) (signed-of true (find-clash .result))
-    (sfits-of (signed2 .ok)) (signed2 .ensures) in
-    omega (arith, f, both-some t (find-clash .result) (find-clash .ensures .1 .1 (if1 .left)) .1)
+    omega (
+      arith,
+      c .place-of2 .ensures,
+      both-some (place-all .last .0) (find-clash .result) (find-clash .ensures .1 .1 (if1 .left)) .1,
+    )
 
 returns-2 : tie.Need-returns-2
 returns-2 c =
-    let back = c .before in let signed2 = back .signed2 in
-    let back = back .before .before in let place-of = back .place-of in
-    let back = back .before in let signed = back .signed in
-    let back = back .before .before in let if1 = back .if1 in
+    let back = c .before .before .before .before in let if1 = back .if1 in
     let back = back .before in let find-clash = back .find-clash in
     let back = back .before .before .before in let place-all = back .place-all in
     let start = back .before .before .before .before .before .before .before .before in
-    let t = place-all .last .0 in
-    let e = place-of .ensures
-    ∙ arg-is (λ (z : ℤ). getD t (index-of z) 0) (signed .result) (signed-of false (find-clash .result))
-    (sfits-of (signed .ok)) (signed .ensures) in
-    let f = c .place-of2 .ensures
-    ∙ arg-is (λ (z : ℤ). getD t (index-of z) 0) (signed2 .result) (signed-of true (find-clash .result))
-    (sfits-of (signed2 .ok)) (signed2 .ensures) in
-    next-some (start .pre .1) t (place-all .ensures) (find-clash .ensures .1 .0) (find-clash .ensures .0 .0) (if1 .left)
-    (find-clash .ensures .1 .1 (if1 .left)) e f
+    next-some (start .pre .1) (place-all .last .0) (place-all .ensures) (find-clash .ensures .1 .0)
+    (find-clash .ensures .0 .0) (if1 .left) (find-clash .ensures .1 .1 (if1 .left))
+    (c .before .before .place-of .ensures) (c .place-of2 .ensures)
 
 pub next-clash-spec : {M : Type 1} → statement M
 next-clash-spec =
@@ -141,11 +119,11 @@ next-clash-spec =
     find-clash-requires
     returns
     slice-aggregate-place-of
-    signed-requires
     place-of-requires
+    cast-a
     slice-aggregate-place-of-2
-    signed-requires-2
     place-of-requires-2
+    cast-b
     sub-t30
     sub-t31
     returns-2)

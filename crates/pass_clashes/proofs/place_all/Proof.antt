@@ -16,10 +16,13 @@ abbrev μ-loop : tie.MeasureT-loop
 loop-holds : tie.Need-loop-holds Inv-loop μ-loop
 loop-holds c =
     let start = c .before .before in
-    (refl, filling-start (now (start .args .places)) (start .pre .0 .0) (start .pre .1))
+    (refl, filling-start (now (start .args .places)) (start .pre .0 .0 .formed) (start .pre .1))
 
 place-entry-requires : tie.Need-place-entry-requires Inv-loop μ-loop
-place-entry-requires c κs = (c .before .loop-test .taken, c .before .before .loop .inv .1 .place .rest)
+place-entry-requires c κs =
+    let back = c .before .before in let loop = back .loop in
+    let start = back .before .before .before in
+    (c .before .loop-test .taken, loop .inv .1 .place .rest, start .pre .0 .1)
 
 next-at-requires : tie.Need-next-at-requires Inv-loop μ-loop
 next-at-requires c κs =
@@ -39,7 +42,7 @@ loop-again c =
     let start = back .before .before .before in
     rw (c .next-at .ensures) (
       place-entry .kept .0 ∙ loop .inv .0,
-      rw (place-entry .ensures) (filling-step (now (start .args .counts)) (start .pre .0 .1) (start .pre .0 .2) (loop .inv .1) (loop-test .taken)),
+      rw (place-entry .ensures) (filling-step (start .pre .0 .0) (loop .inv .1) (loop-test .taken)),
     )
 
 same-length : tie.Need-same-length Inv-loop μ-loop

@@ -6,7 +6,7 @@ use Prim.Native.Nat.{ℕ, _+_, _-_, _≤_, _<_, _^_}
 use native.Mathlib.Omega.{arith}
 use lib.IntN.{ℤ, pos, negℤ}
 use lib.ListN.{length, take, drop, length-append, replicate, take-append-drop}
-use lib.Seq.{length-take-le, drop-at, sets}
+use lib.Seq.{length-take-le, drop-at, sets, length-sets}
 use Rattle.definition.specs.Lists.{any, only-if, those}
 use Rattle.definition.specs.Literals.{Clause, same, without, opposed}
 use Rattle.definition.specs.Text.{Bytes}
@@ -74,7 +74,7 @@ module _ {work : List ℤ} {p : Progress} {v x y : ℕ} (r : Resolvable work p v
   pub is-clash : Is-clash (stored s) c
   is-clash = clash-at-some (stored s) v c (r .clash .clash) .1
 
-  pub variable-small : v ≤ input-reach
+  variable-small : v ≤ input-reach
   variable-small = r .good .fits (c .one) (is-clash .one-stands) (pos v) (is-clash .one-holds) .1
 
   pub parents : Parents s v x y
@@ -168,8 +168,8 @@ module _ {work : List ℤ} {p : Progress} {v x y : ℕ} (r : Resolvable work p v
           (rw f (ap To (omega (arith, d, ap length joined-is))))
           (rw f (w ∙ ap (λ (x : Clause). sets work (p .end) (entry x)) joined-is))
 
-      pub added-within : (p .end < n) × (n ≤ length new) × (n ≤ p .end + 2 ^ 32)
-      added-within = (omega (arith, d), resolvent-appended .within, omega (arith, resolvent-appended .next, resolvent-short))
+      pub added-within : (p .end < n) × (n ≤ length new) × (length new < 2 ^ 31)
+      added-within = (omega (arith, d), resolvent-appended .within, omega (arith, r .good .small, ap length w, length-sets work (p .end) (entry (joined work a na b nb v))))
 
       written-entry : drop (p .end) new ≡ entry (resolvent c) ++ drop n work
       written-entry =

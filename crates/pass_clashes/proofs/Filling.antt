@@ -27,19 +27,19 @@ use Rattle.pass_clashes.specs.Places.{placed-at, Tells, Placed}
 
 -- ---- the first that passes, with one more at the end
 module _ {A : Type 0} (p : A → Bool) where
-  first-miss : (xs : List A) (y : A) → p y ≡ false → first p (xs ++ (y ∷ [])) ≡ first p xs
+  first-snoc-fails : (xs : List A) (y : A) → p y ≡ false → first p (xs ++ (y ∷ [])) ≡ first p xs
   unfolding first
-  first-miss [] y e = rw e refl
-  first-miss (x ∷ xs) y e = go (p x) (first-miss xs y e)
+  first-snoc-fails [] y e = rw e refl
+  first-snoc-fails (x ∷ xs) y e = go (p x) (first-snoc-fails xs y e)
     where
       go : (b : Bool) → first p (xs ++ (y ∷ [])) ≡ first p xs → cond b (some x) (first p (xs ++ (y ∷ []))) ≡ cond b (some x) (first p xs)
       go true f = refl
       go false f = f
 
-  first-new : (xs : List A) (y : A) → p y ≡ true → first p xs ≡ none → first p (xs ++ (y ∷ [])) ≡ some y
+  first-snoc-holds : (xs : List A) (y : A) → p y ≡ true → first p xs ≡ none → first p (xs ++ (y ∷ [])) ≡ some y
   unfolding first
-  first-new [] y e n = rw e refl
-  first-new (x ∷ xs) y e n = go (p x) n (first-new xs y e)
+  first-snoc-holds [] y e n = rw e refl
+  first-snoc-holds (x ∷ xs) y e n = go (p x) n (first-snoc-holds xs y e)
     where
       go : (b : Bool) → cond b (some x) (first p xs) ≡ none → (first p xs ≡ none → first p (xs ++ (y ∷ [])) ≡ some y) → cond b (some x) (first p (xs ++ (y ∷ []))) ≡ some y
       go true n f = absurd (let z : _≡_ {A = ℕ} 0 1 = cc in omega arith)
@@ -98,7 +98,7 @@ module _ {counts : List ℕ} {s : List ℤ} {at : ℕ} {t : List ℕ} (k : Count
     filling-other u = record {
       place = place-next s at h (i .place);
       size = i .size;
-      said = λ l b. rw (prefix-stands s at h (i .place) d) (rw (first-miss (λ b. holds l b && unique F b) G c (never (holds l c) u)) (i .said l b));
+      said = λ l b. rw (prefix-stands s at h (i .place) d) (rw (first-snoc-fails (λ b. holds l b && unique F b) G c (never (holds l c) u)) (i .said l b));
     }
       where
         never : (a : Bool) → unique F c ≡ false → (a && unique F c) ≡ false
@@ -107,9 +107,9 @@ module _ {counts : List ℕ} {s : List ℤ} {at : ℕ} {t : List ℕ} (k : Count
 
     said-new : unique F c ≡ true → (l : ℤ) → natAbs l ≤ input-reach → (a : Bool) → holds l c ≡ a → Tells s (first (λ b. holds l b && unique F b) (G ++ (c ∷ []))) (cond a (at + 1) (entry-of t l))
     said-new u l b true e =
-        rw (first-new (λ b. holds l b && unique F b) G c (rw (e, u) refl) (not-before (of-true u) l (holds-mem l c (of-true e)) (first (λ b. holds l b && unique F b) G) refl))
+        rw (first-snoc-holds (λ b. holds l b && unique F b) G c (rw (e, u) refl) (not-before (of-true u) l (holds-mem l c (of-true e)) (first (λ b. holds l b && unique F b) G) refl))
         (at, refl, record { inside = h; place = i .place; stands = d }, refl)
-    said-new u l b false e = rw (first-miss (λ b. holds l b && unique F b) G c (rw e refl)) (i .said l b)
+    said-new u l b false e = rw (first-snoc-fails (λ b. holds l b && unique F b) G c (rw e refl)) (i .said l b)
 
     filling-unique : unique F c ≡ true → Filling s (past s at) (with-entries t c (at + 1))
     filling-unique u = record {
@@ -128,8 +128,8 @@ filling-end {s} {at} i h = rw (take-all at s h) at (i .said)
 
 -- ---- one entry, by what the functions answer there
 module _ (t counts : List ℕ) (s : List ℤ) (at : ℕ) where
-  pub entry-deleted : deleted-at s at ≡ true → t ≡ placed-at t counts s at
-  entry-deleted d = rw d refl
+  pub placed-deleted : deleted-at s at ≡ true → t ≡ placed-at t counts s at
+  placed-deleted d = rw d refl
 
   module _ (next : ℕ) (e : next ≡ past s at) (d : deleted-at s at ≡ false) where
     part : take (next - (at + 1)) (drop (at + 1) s) ≡ clause-at s at
@@ -138,8 +138,8 @@ module _ (t counts : List ℕ) (s : List ℤ) (at : ℕ) where
     test : {r : Bool} (v : Bool) → r ≡ unique-by counts (take (next - (at + 1)) (drop (at + 1) s)) → r ≡ v → unique-by counts (clause-at s at) ≡ v
     test v a b = ap (unique-by counts) (sym part) ∙ sym a ∙ b
 
-    pub entry-unique : {r : Bool} {new : List ℕ} → r ≡ unique-by counts (take (next - (at + 1)) (drop (at + 1) s)) → r ≡ true → new ≡ with-entries t (take (next - (at + 1)) (drop (at + 1) s)) (at + 1) → new ≡ placed-at t counts s at
-    entry-unique a b n = rw (d, test true a b) (n ∙ ap (λ (c : Clause). with-entries t c (at + 1)) part)
+    pub placed-unique : {r : Bool} {new : List ℕ} → r ≡ unique-by counts (take (next - (at + 1)) (drop (at + 1) s)) → r ≡ true → new ≡ with-entries t (take (next - (at + 1)) (drop (at + 1) s)) (at + 1) → new ≡ placed-at t counts s at
+    placed-unique a b n = rw (d, test true a b) (n ∙ ap (λ (c : Clause). with-entries t c (at + 1)) part)
 
-    pub entry-other : {r : Bool} → r ≡ unique-by counts (take (next - (at + 1)) (drop (at + 1) s)) → r ≡ false → t ≡ placed-at t counts s at
-    entry-other a b = rw (d, test false a b) refl
+    pub placed-other : {r : Bool} → r ≡ unique-by counts (take (next - (at + 1)) (drop (at + 1) s)) → r ≡ false → t ≡ placed-at t counts s at
+    placed-other a b = rw (d, test false a b) refl

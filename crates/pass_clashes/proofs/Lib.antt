@@ -1,6 +1,6 @@
 pub mod Filling
 pub mod Search
-pub mod Resolving
+pub mod Copying
 pub mod Opposed
 pub mod Parents
 pub mod Adding

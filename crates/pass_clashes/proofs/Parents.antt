@@ -2,7 +2,7 @@
 use mathlib.Core.Path.{_≡_, refl, sym, ap, ap₂, subst, _∙_}
 use mathlib.Core.Logic.{_≢_}
 use mathlib.Core.List.{List, [], _∷_, List·Memᴰ, List·Memᴰ·head as here, Memᴰ·append-right}
-use Prim.Native.Nat.{ℕ, _+_, _≤_, _<_, _^_}
+use Prim.Native.Nat.{ℕ, _+_, _≤_, _<_, _^_, _-_}
 use native.Mathlib.Omega.{arith}
 use lib.Dec.{ltb}
 use lib.IntN.{ℤ, pos, negℤ}
@@ -20,7 +20,10 @@ use Rattle.theory_soundness.proofs.Times.{times-at, times-removed}
 use Rattle.theory_soundness.proofs.Without.{only-removed}
 use Rattle.literals.specs.Literal.{negative, header-literals, flip}
 use Rattle.store.specs.Store.{Formed, stored, header-at, clause-at, past, marked}
-use Rattle.store.proofs.Laws.{place-within, place-formed, place-prefix, prefix-header, stored-around, marked-stored, marked-place, marked-before, marked-behind, kept-clause, past-within}
+use mir.Syntax.{w32}
+use mir.Val.{SFits, ofZ, toZ}
+use mir.ValLaws.{toZ-ofZ}
+use Rattle.store.proofs.Laws.{part-there, place-within, place-formed, place-prefix, prefix-header, stored-around, marked-stored, marked-place, marked-before, marked-behind, kept-clause, past-within}
 use Rattle.progress.specs.declared.Progress.{Progress}
 use Rattle.progress.specs.Progress.{Written, Log-room}
 use Rattle.progress.proofs.Laws.{written-then, room-rest}
@@ -31,7 +34,7 @@ use Rattle.pass_clashes.specs.Resolving.{parent-lines, Parents, Parents-
 -- ---- two places
 
 -- the clause at y stays where the one at x is deleted
-pub record Stays (s : List ℤ) (x y : ℕ) : Type 0 where
+record Stays (s : List ℤ) (x y : ℕ) : Type 0 where
   pub standing : Stands-at (marked s x) y
   pub clause : clause-at (marked s x) y ≡ clause-at s y
 
@@ -84,7 +87,7 @@ module _ {s : List ℤ} {x y : ℕ} (p : Stands-at s x) (q : Stands-at s y) wher
       apart : y ≡ x → ⊥
       apart e = omega arith
 
-  pub stays : y ≢ x → Stays s x y
+  stays : y ≢ x → Stays s x y
   stays n = by-test (ltb x y) (λ e. stays-behind (ltb-true x y e)) (λ e. stays-before (less (ltb-false x y e)))
     where
       less : y ≤ x → y < x
@@ -92,14 +95,21 @@ module _ {s : List ℤ} {x y : ℕ} (p : Stands-at s x) (q : Stands-at s y) wher
 
 -- ---- the only clause with a literal is deleted
 
-pub once-removed : {s : List ℤ} {at : ℕ} (l : ℤ) → Stands-at s at → List·Memᴰ l (clause-at s at) → times l (stored s) ≡ 1 → Removed (with-first l (clause-at s at)) (stored s) (stored (marked s at))
+once-removed : {s : List ℤ} {at : ℕ} (l : ℤ) → Stands-at s at → List·Memᴰ l (clause-at s at) → times l (stored s) ≡ 1 → Removed (with-first l (clause-at s at)) (stored s) (stored (marked s at))
 once-removed {s} {at} l p i e =
     let around = stored-around s at (p .inside) (p .place) (p .stands) in
     rw (around, marked-stored s at (p .inside) (p .place) (p .stands)) (only-removed l (clause-at s at) (stored (take at s)) (stored (drop (past s at) s)) i (sym (ap (times l) around) ∙ e))
 
 -- the clause stands in the list
-pub standing-mem : {s : List ℤ} {at : ℕ} → Stands-at s at → List·Memᴰ (clause-at s at) (stored s)
+standing-mem : {s : List ℤ} {at : ℕ} → Stands-at s at → List·Memᴰ (clause-at s at) (stored s)
 standing-mem {s} {at} p = rw (stored-around s at (p .inside) (p .place) (p .stands)) (Memᴰ·append-right (stored (take at s)) (here refl))
+
+-- the line of the clause, written from its part of the store
+pub clause-written : {x y : Bytes} {p q : Progress} (l : ℤ) (s : List ℤ) (at next : ℕ) → SFits w32 l → next ≡ past s at → Written (deletion (with-first (toZ w32 (ofZ w32 l)) (take (next - (at + 1)) (drop (at + 1) s))) ∷ []) x p y q
+    → Written (deletion (with-first l (clause-at s at)) ∷ []) x p y q
+clause-written {x} {y} {p} {q} l s at next f e w =
+    subst (λ (c : Clause). Written (deletion (with-first l c) ∷ []) x p y q) (part-there s at next e)
+    (subst (λ (z : ℤ). Written (deletion (with-first z (take (next - (at + 1)) (drop (at + 1) s))) ∷ []) x p y q) (toZ-ofZ w32 l f) w)
 
 -- ---- both are deleted
 module _ {s : List ℤ} {v x y : ℕ} (p : Parents s v x y) where
@@ -112,20 +122,26 @@ module _ {s : List ℤ} {v x y : ℕ} (p : Parents s v x y) where
   first-removed : Removed (with-first (pos v) (clause-at s x)) (stored s) (stored mid)
   first-removed = once-removed (pos v) (p .one-stands) (p .one-holds) (p .one-once)
 
-  pub second-stays : Stays s x y
+  second-stays : Stays s x y
   second-stays = stays (p .one-stands) (p .other-stands) (λ e. p .apart (ap-mem e))
     where
       ap-mem : y ≡ x → List·Memᴰ n (clause-at s x)
       ap-mem e = subst (λ (k : ℕ). List·Memᴰ n (clause-at s k)) e (p .other-holds)
 
+  pub second-standing : Stands-at mid y
+  second-standing = second-stays .standing
+
+  pub marked-short : length s < 2 ^ 31 → length mid < 2 ^ 31
+  marked-short h = omega (arith, length-set s x (flip (header-at s x)))
+
   second-holds : List·Memᴰ n (clause-at mid y)
   second-holds = rw (second-stays .clause) (p .other-holds)
 
   second-once : times n (stored mid) ≡ 1
-  second-once = omega (arith, times-removed n first-removed, p .other-once, times-at n (standing-mem (second-stays .standing)) second-holds)
+  second-once = omega (arith, times-removed n first-removed, p .other-once, times-at n (standing-mem second-standing) second-holds)
 
   second-removed : Removed (with-first n (clause-at mid y)) (stored mid) (stored (marked mid y))
-  second-removed = once-removed n (second-stays .standing) second-holds second-once
+  second-removed = once-removed n second-standing second-holds second-once
 
   both-after : stored (marked mid y) ≡ after (stored s) (parent-lines (clash-there s v x y))
   unfolding after changed
@@ -135,7 +151,7 @@ module _ {s : List ℤ} {v x y : ℕ} (p : Parents s v x y) where
       ∙ ap (take-out (with-first n (clause-at s y))) (sym (removed-take-out first-removed))
 
   both-formed : Formed (marked mid y)
-  both-formed = place-formed (marked-place mid y (second-stays .standing .inside) (second-stays .standing .place))
+  both-formed = place-formed (marked-place mid y (second-standing .inside) (second-standing .place))
 
   -- by what the calls answer
   pub parents-gone : {t u : List ℤ} {f g h : Bytes} {i j k : Progress} (l m : ℤ) → l ≡ pos v → m ≡ negℤ (pos v)

@@ -105,8 +105,8 @@ module _ {es : List Event} {work : List ℤ} {p : Progress} {from to v : ℕ} (r
   next-some m n e g h = (m, n, λ i lo hi. free-before i lo hi (omega arith), rw (g, h) (is-both (take (p .end) work) t (r .good .proper) k v (omega (arith, r .within)) e))
 
 -- ---- the loop over a range
-pub none-passed : (t : List ℕ) (from k : ℕ) → from ≤ k → k < from → both t k ≡ false
-none-passed t from k lo hi = absurd (no lo hi)
+pub none-before-start : (t : List ℕ) (from k : ℕ) → from ≤ k → k < from → both t k ≡ false
+none-before-start t from k lo hi = absurd (no lo hi)
   where
     no : from ≤ k → k < from → ⊥
     no a b = omega arith

@@ -209,15 +209,14 @@ fn append_resolvent(
 
 // Deletes the clause at a place, recorded with a literal first.
 fn delete_first(work: &mut [i32], at: usize, log: &mut [u8], p: Progress, l: i32) -> Progress
-    requires { ⌜ (at < length (now work)) × Formed (drop at (now work)) ⌝ }
+    requires { ⌜ (at < length (now work)) × Formed (drop at (now work)) × (length (now work) < 2 ^ 31) ⌝ }
     requires { ⌜ (p .at < 2 ^ 63) × (p .lines < 2 ^ 63) ⌝ }
     ensures written { λ r. ⌜ Written (deletion (with-first l (clause-at (now (work .entry)) at)) ∷ []) (now (log .entry)) p (now (log .exit)) r ⌝ }
     ensures kept { λ r. ⌜ r .end ≡ p .end ⌝ }
     ensures marked { λ _. ⌜ now (work .exit) ≡ marked (now (work .entry)) at ⌝ }
 {
-    let n = literals::header_length(work[at]);
+    let next = store::next_at(work, at);
     let first = at + 1;
-    let next = first + n;
     let q = progress::record_first(log, p, l, &work[first..next]);
     store::mark_deleted(work, at);
     q
@@ -227,7 +226,7 @@ fn delete_first(work: &mut [i32], at: usize, log: &mut [u8], p: Progress, l: i32
 
 // Records the clause whose entry was written from the store's end up to another place as added.
 fn record_added(work: &[i32], log: &mut [u8], p: Progress, next: usize) -> Progress
-    requires { ⌜ (p .end < next) × (next ≤ length (now work)) × (next ≤ p .end + 2 ^ 32) ⌝ }
+    requires { ⌜ (p .end < next) × (next ≤ length (now work)) × (length (now work) < 2 ^ 31) ⌝ }
     requires { ⌜ (p .at < 2 ^ 63) × (p .lines < 2 ^ 63) ⌝ }
     ensures written { λ r. ⌜ Written (addition (take (next - (p .end + 1)) (drop (p .end + 1) (now (work .entry)))) ∷ []) (now (log .entry)) p (now (log .exit)) r ⌝ }
     ensures end { λ r. ⌜ r .end ≡ next ⌝ }
@@ -274,7 +273,7 @@ fn delete_parents(
     x: usize,
     y: usize,
 ) -> Progress
-    requires { ⌜ Parents (now store) v x y ⌝ }
+    requires { ⌜ Parents (now store) v x y × (length (now store) < 2 ^ 31) ⌝ }
     requires { ⌜ Log-room (parent-lines (clash-there (now store) v x y)) p ⌝ }
     ensures { λ r. ⌜ Parents-gone (clash-there (now (store .entry)) v x y) (now (store .entry)) (now (log .entry)) p (now (store .exit)) (now (log .exit)) r ⌝ }
 {

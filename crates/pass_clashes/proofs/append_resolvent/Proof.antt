@@ -8,7 +8,7 @@ use borrow.Author.Needs.{sfits-of}
 use Rattle.definition.specs.Literals.{without}
 use Rattle.literals.specs.Literal.{signed-of}
 use Rattle.literals.proofs.Laws.{at-arg}
-use Rattle.pass_clashes.proofs.Resolving.{second-room, entry-next, entry-written, entry-length}
+use Rattle.pass_clashes.proofs.Copying.{second-room, entry-next, entry-written, entry-length}
 use borrow.Author.Needs.{needs}
 use Rattle.pass_clashes.proofs.append_resolvent.Statement.{statement}
 use Rattle.pass_clashes.proofs.append_resolvent.Tie as tie

@@ -1,11 +1,13 @@
 use borrow.Author.Needs.{needs}
 use native.Mathlib.Omega.{arith}
 use Prim.Native.Nat.{_-_}
-use lib.IntN.{ℤ}
 use denote.Ref.{now}
 use borrow.Author.Needs.{sfits-of}
 use Rattle.literals.specs.Literal.{signed-of}
-use Rattle.pass_clashes.proofs.Resolving.{arg-is, Copying, copying-start, copying-room, copying-step, copying-end}
+use mathlib.Core.Path.{_∙_}
+use mir.Syntax.{w32}
+use mir.ValLaws.{toZ-ofZ}
+use Rattle.pass_clashes.proofs.Copying.{Copying, copying-start, copying-room, copying-step, copying-end}
 use Rattle.pass_clashes.proofs.copy_without.Statement.{statement}
 use Rattle.pass_clashes.proofs.copy_without.Tie as tie
 
@@ -33,8 +35,7 @@ copy-one-requires c κs =
     let back = back .before in let loop = back .loop in
     let back = back .before in let signed = back .signed in
     let start = back .before in
-    let e = arg-is (λ (z : ℤ). z) (signed .result) (signed-of (start .args .is-negative) (start .args .v))
-    (sfits-of (signed .ok)) (signed .ensures) in (
+    let e = toZ-ofZ w32 (signed .result) (sfits-of (signed .ok)) ∙ signed .ensures in (
       omega (arith, loop .inv .size, start .pre .0, start .pre .1, loop-test .taken),
       rw e (copying-room (loop .inv) (loop-test .taken) (start .pre .0) (omega (arith, start .pre .1)) (start .pre .1)),
     )
@@ -52,8 +53,7 @@ loop-again c =
     let back = back .before in let loop = back .loop in
     let back = back .before in let signed = back .signed in
     let start = back .before in
-    let e = arg-is (λ (z : ℤ). z) (signed .result) (signed-of (start .args .is-negative) (start .args .v))
-    (sfits-of (signed .ok)) (signed .ensures) in
+    let e = toZ-ofZ w32 (signed .result) (sfits-of (signed .ok)) ∙ signed .ensures in
     copying-step (loop .inv) (loop-test .taken) (start .pre .0) (omega (arith, start .pre .1))
     (rw e at (copy-one .ensures .0)) (rw e at (copy-one .ensures .1))
 

@@ -1,11 +1,11 @@
 use native.Mathlib.Omega.{arith}
 use mathlib.Core.Path.{_∙_}
 use mathlib.Core.Bool.{true, false}
-use lib.IntN.{ℤ, pos, negℤ}
 use borrow.Author.Needs.{sfits-of}
 use Rattle.literals.proofs.Laws.{signed-small}
-use Rattle.pass_clashes.proofs.Resolving.{arg-is}
-use Rattle.pass_clashes.proofs.Parents.{second-stays, parents-room, parents-gone}
+use mir.Syntax.{w32}
+use mir.ValLaws.{toZ-ofZ}
+use Rattle.pass_clashes.proofs.Parents.{second-standing, marked-short, parents-room, parents-gone}
 use borrow.Author.Needs.{needs}
 use Rattle.pass_clashes.proofs.delete_parents.Statement.{statement}
 use Rattle.pass_clashes.proofs.delete_parents.Tie as tie
@@ -24,12 +24,13 @@ delete-first-requires-2 c κs =
     let back = c .before .before .before .before .before .before in let delete-first = back .delete-first in
     let back = back .before in let signed = back .signed in
     let start = back .before .before .before .before in
-    let p = start .pre .0 in
+    let p = start .pre .0 .0 in
     let v = start .args .v in
-    let e = arg-is (λ (z : ℤ). z) (signed .result) (pos v) (sfits-of (signed .ok))
-    (signed .ensures ∙ signed-small false v (omega (arith, p .small))) in
-    let s = second-stays p .standing in (
-      rw (delete-first .ensures .1 .1) (s .inside, s .place .rest),
+    let e = toZ-ofZ w32 (signed .result) (sfits-of (signed .ok))
+    ∙ signed .ensures
+    ∙ signed-small false v (omega (arith, p .small)) in
+    let s = second-standing p in (
+      rw (delete-first .ensures .1 .1) (s .inside, s .place .rest, marked-short p (start .pre .0 .1)),
       parents-room p _ e (start .pre .1) (delete-first .ensures .0),
     )
 
@@ -46,12 +47,14 @@ returns c =
     let back = back .before .before .before .before .before .before in let delete-first = back .delete-first in
     let back = back .before in let signed = back .signed in
     let start = back .before .before .before .before in
-    let p = start .pre .0 in
+    let p = start .pre .0 .0 in
     let v = start .args .v in
-    let e = arg-is (λ (z : ℤ). z) (signed .result) (pos v) (sfits-of (signed .ok))
-    (signed .ensures ∙ signed-small false v (omega (arith, p .small))) in
-    let f = arg-is (λ (z : ℤ). z) (signed2 .result) (negℤ (pos v)) (sfits-of (signed2 .ok))
-    (signed2 .ensures ∙ signed-small true v (omega (arith, p .small))) in
+    let e = toZ-ofZ w32 (signed .result) (sfits-of (signed .ok))
+    ∙ signed .ensures
+    ∙ signed-small false v (omega (arith, p .small)) in
+    let f = toZ-ofZ w32 (signed2 .result) (sfits-of (signed2 .ok))
+    ∙ signed2 .ensures
+    ∙ signed-small true v (omega (arith, p .small)) in
     parents-gone p _ _ e f (delete-first .ensures .0) (delete-first .ensures .1 .0) (delete-first .ensures .1 .1)
     (delete-first2 .ensures .0) (delete-first2 .ensures .1 .0) (delete-first2 .ensures .1 .1)
 

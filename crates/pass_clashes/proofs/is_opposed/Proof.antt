@@ -1,5 +1,4 @@
 use mathlib.Core.Path.{_∙_, ap}
-use mathlib.Core.Bool.{true}
 use mathlib.Core.List.{List}
 use Prim.Native.Nat.{ℕ}
 use lib.IntN.{ℤ}
@@ -8,12 +7,11 @@ use mir.Syntax.{w32}
 use mir.Val.{ofZ, toZ}
 use lib.ListN.{replicate}
 use Rattle.definition.specs.Lists.{any}
-use Rattle.literals.specs.Literal.{signed-of}
 use Rattle.tables.specs.Sizes.{input-size}
 use Rattle.tables.specs.Entries.{tallied}
 use Rattle.pass_clashes.specs.Resolving.{opposite-in}
 use borrow.Author.Needs.{sfits-of}
-use Rattle.pass_clashes.proofs.Resolving.{arg-is}
+use mir.ValLaws.{toZ-ofZ}
 use borrow.Author.Needs.{needs}
 use Rattle.pass_clashes.proofs.is_opposed.Statement.{statement}
 use Rattle.pass_clashes.proofs.is_opposed.Tie as tie
@@ -41,10 +39,9 @@ returns c =
     c .any-opposite .ensures
     ∙ ap (λ (t : List ℕ). any (opposite-in t (toZ w32 (ofZ w32 (signed .result)))) (now (start .args .other)))
     (count-clause .ensures)
-    ∙ arg-is
+    ∙ ap
     (λ (z : ℤ). any (opposite-in (tallied (replicate {A = ℕ} input-size 0) (now (start .args .one))) z)
-    (now (start .args .other))) (signed .result) (signed-of true (start .args .v)) (sfits-of (signed .ok))
-    (signed .ensures)
+    (now (start .args .other))) (toZ-ofZ w32 (signed .result) (sfits-of (signed .ok)) ∙ signed .ensures)
 
 pub is-opposed-spec : {M : Type 1} → statement M
 is-opposed-spec =

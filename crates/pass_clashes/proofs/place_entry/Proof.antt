@@ -5,7 +5,7 @@ use Rattle.literals.specs.Literal.{negative}
 use Rattle.literals.proofs.Laws.{answered}
 use Rattle.store.specs.Store.{header-at}
 use Rattle.store.proofs.Laws.{formed-next}
-use Rattle.pass_clashes.proofs.Filling.{entry-deleted, entry-unique, entry-other}
+use Rattle.pass_clashes.proofs.Filling.{placed-deleted, placed-unique, placed-other}
 use borrow.Author.Needs.{needs}
 use Rattle.pass_clashes.proofs.place_entry.Statement.{statement}
 use Rattle.pass_clashes.proofs.place_entry.Tie as tie
@@ -23,7 +23,7 @@ returns : tie.Need-returns
 returns c =
     let start = c .before .before .before .before .before in
     let s = now (start .args .store) in
-    entry-deleted (now (start .args .places)) (now (start .args .counts)) s (start .args .at)
+    placed-deleted (now (start .args .places)) (now (start .args .counts)) s (start .args .at)
     (answered negative (header-at s (start .args .at)) (sfits-of (c .before .before .is-negative-arg .given))
     (c .before .is-negative .ensures) (c .if1 .taken))
 
@@ -92,7 +92,7 @@ returns-2 c =
     let back = back .before in let is-negative-arg = back .is-negative-arg in
     let start = back .before .before .before in
     let s = now (start .args .store) in
-    entry-unique (now (start .args .places)) (now (start .args .counts)) s (start .args .at) (next-at .result)
+    placed-unique (now (start .args .places)) (now (start .args .counts)) s (start .args .at) (next-at .result)
     (next-at .ensures)
     (answered negative (header-at s (start .args .at)) (sfits-of (is-negative-arg .given)) (is-negative .ensures)
     (if1 .left)) (is-unique .ensures) (if2 .taken) (c .before .before .set-entries .ensures)
@@ -105,7 +105,7 @@ returns-3 c =
     let back = back .before in let is-negative-arg = back .is-negative-arg in
     let start = back .before .before .before in
     let s = now (start .args .store) in
-    entry-other (now (start .args .places)) (now (start .args .counts)) s (start .args .at) (next-at .result)
+    placed-other (now (start .args .places)) (now (start .args .counts)) s (start .args .at) (next-at .result)
     (next-at .ensures)
     (answered negative (header-at s (start .args .at)) (sfits-of (is-negative-arg .given)) (is-negative .ensures)
     (if1 .left)) (c .before .is-unique .ensures) (c .if2 .left)

@@ -1,9 +1,8 @@
-use mathlib.Core.Path.{_∙_}
+use mathlib.Core.Path.{ap, _∙_}
 use denote.Ref.{now}
 use borrow.Author.Needs.{sfits-of}
-use Rattle.literals.specs.Literal.{signed-of}
 use Rattle.tables.specs.Entries.{entry-of}
-use Rattle.pass_clashes.proofs.Resolving.{arg-is}
+use Rattle.literals.proofs.Laws.{answer}
 use borrow.Author.Needs.{needs}
 use Rattle.pass_clashes.proofs.place_of.Statement.{statement}
 use Rattle.pass_clashes.proofs.place_of.Tie as tie
@@ -18,9 +17,8 @@ returns : tie.Need-returns
 returns c =
     let back = c .before in let signed = back .signed in
     let start = back .before .before in
-    c .entry-of .ensures
-    ∙ arg-is (entry-of (now (start .args .places))) (signed .result)
-    (signed-of (start .args .is-negative) (start .args .v)) (sfits-of (signed .ok)) (signed .ensures)
+    answer (entry-of (now (start .args .places))) (signed .result) (sfits-of (signed .ok)) (c .entry-of .ensures)
+    ∙ ap (entry-of (now (start .args .places))) (signed .ensures)
 
 pub place-of-spec : {M : Type 1} → statement M
 place-of-spec = tie.close (tie.spec signed-requires entry-of-requires returns)

@@ -1,53 +1,33 @@
--- The resolvent: the test for opposed literals, and copying without a literal. Assumes nothing.
-use mathlib.Core.Path.{_≡_, refl, sym, ap, subst, _∙_}
-use mathlib.Core.Bool.{Bool, true, false, not}
+-- Copying the literals of two clauses without a variable, behind each other, gives the entry of the resolvent. Assumes nothing.
+use mathlib.Core.Path.{_≡_, refl, sym, ap, _∙_}
+use mathlib.Core.Bool.{Bool, true, false}
 use mathlib.Core.List.{List, [], _∷_, _++_}
-use Prim.Native.Nat.{ℕ, _+_, _-_, _≤_, _<_, _^_}
+use Prim.Native.Nat.{ℕ, _+_, _-_, _≤_, _<_}
 use native.Mathlib.Omega.{arith}
 use native.Mathlib.Numerals.{add-one}
 use lib.IntN.{ℤ, pos}
-use lib.ListN.{length, getD, set, take, drop, length-append, length-take, length-drop, length-set, take-append-drop}
+use lib.ListN.{length, getD, set, take, drop, length-append, length-drop, length-set, take-append-drop}
 use lib.Seq.{take-suc, take-take, getD-drop, sets, length-sets}
 use mir.Syntax.{w32}
 use mir.Val.{SFits, ofZ, toZ}
 use Rattle.definition.specs.Lists.{those}
-use Rattle.definition.specs.Literals.{Clause, same, without, with-first}
-use Rattle.literals.proofs.Laws.{at-arg, at-arg2, literals-within}
+use Rattle.definition.specs.Literals.{Clause, same, without}
 use Rattle.theory_base.proofs.Slices.{sets-then, sets-first, sets-before, getD-before, part-before}
-use Rattle.progress.proofs.Writing.{without-++}
-use Rattle.tables.specs.Counts.{pure-in}
-use Rattle.pass_clashes.specs.Resolving.{opposite-in, joined}
 use Rattle.literals.specs.Literal.{signed-of, header-of}
-use Rattle.store.specs.Store.{entry, header-at, size-at, clause-at, past}
-use mir.ValLaws.{toZ-ofZ}
-use Rattle.definition.specs.Text.{Bytes}
-use Rattle.definition.specs.Standing.{deletion}
-use Rattle.progress.specs.declared.Progress.{Progress}
-use Rattle.progress.specs.Progress.{Written}
-
--- ---- one literal, by what the functions answer
-module _ (t : List ℕ) (out l : ℤ) (a : SFits w32 out) (b : SFits w32 l) {r : Bool} (e : r ≡ same (toZ w32 (ofZ w32 out)) (toZ w32 (ofZ w32 l))) where
-  pub opposite-out : r ≡ true → false ≡ opposite-in t out l
-  opposite-out k = let d : same out l ≡ true = sym (at-arg2 same out l a b) ∙ sym e ∙ k in rw d refl
-
-  pub opposite-else : {q : Bool} → r ≡ false → q ≡ pure-in t (toZ w32 (ofZ w32 l)) → not q ≡ opposite-in t out l
-  opposite-else k f = let d : same out l ≡ false = sym (at-arg2 same out l a b) ∙ sym e ∙ k in rw d (ap not (f ∙ at-arg (pure-in t) l b))
+use Rattle.literals.proofs.Laws.{at-arg2}
+use Rattle.store.specs.Store.{entry}
+use Rattle.progress.proofs.Writing.{without-++}
+use Rattle.pass_clashes.specs.Resolving.{joined}
 
 -- ---- copying one literal
-without-it : (out l : ℤ) → same out l ≡ true → without out (l ∷ []) ≡ []
-unfolding without those
-without-it out l e = rw e refl
-
-without-other : (out l : ℤ) → same out l ≡ false → without out (l ∷ []) ≡ l ∷ []
-unfolding without those
-without-other out l e = rw e refl
-
 module _ (out l : ℤ) (a : SFits w32 out) (b : SFits w32 l) {r : Bool} (e : r ≡ same (toZ w32 (ofZ w32 out)) (toZ w32 (ofZ w32 l))) where
-  pub left-out : r ≡ true → without out (l ∷ []) ≡ []
-  left-out k = without-it out l (sym (at-arg2 same out l a b) ∙ sym e ∙ k)
+  pub without-same : r ≡ true → without out (l ∷ []) ≡ []
+  unfolding without those
+  without-same k = let d : same out l ≡ true = sym (at-arg2 same out l a b) ∙ sym e ∙ k in rw d refl
 
-  pub kept : r ≡ false → without out (l ∷ []) ≡ l ∷ []
-  kept k = without-other out l (sym (at-arg2 same out l a b) ∙ sym e ∙ k)
+  pub without-other : r ≡ false → without out (l ∷ []) ≡ l ∷ []
+  unfolding without those
+  without-other k = let d : same out l ≡ false = sym (at-arg2 same out l a b) ∙ sym e ∙ k in rw d refl
 
 -- ---- copying literals
 
@@ -111,10 +91,6 @@ copying-end {old} {to = to} {from = from} {n = n} {i = i} {out = out} s h =
 
 -- ---- the entry of the resolvent
 
--- a signed result of a call as an argument
-pub arg-is : {X : Type 0} (g : ℤ → X) (z u : ℤ) → SFits w32 z → z ≡ u → g (toZ w32 (ofZ w32 z)) ≡ g u
-arg-is g z u f e = at-arg g z f ∙ ap g e
-
 module _ (old w1 : List ℤ) (end a na b nb c v : ℕ) (i : a + na ≤ end) (j : b + nb ≤ end) (room : end + (length (joined old a na b nb v) + 1) ≤ length old)
     (p : c ≡ end + 1 + length (without (signed-of false v) (take na (drop a old)))) (q : w1 ≡ sets old (end + 1) (without (signed-of false v) (take na (drop a old)))) where
   abbrev W₁ : Clause
@@ -158,14 +134,3 @@ module _ (old w1 : List ℤ) (end a na b nb c v : ℕ) (i : a + na ≤ end) (j :
 
     pub entry-length : (h : ℤ) → length (set w2 end h) ≡ length old
     entry-length h = length-set w2 end h ∙ ap length both-copied ∙ length-sets old (end + 1) (joined old a na b nb v)
-
--- ---- a deleted clause, as its part of the store
-pub part-written : {x y : Bytes} {p q : Progress} (l : ℤ) (s : List ℤ) (at next : ℕ) → SFits w32 l → next ≡ past s at → Written (deletion (with-first (toZ w32 (ofZ w32 l)) (take (next - (at + 1)) (drop (at + 1) s))) ∷ []) x p y q
-    → Written (deletion (with-first l (clause-at s at)) ∷ []) x p y q
-part-written {x} {y} {p} {q} l s at next f e w =
-    let n : next - (at + 1) ≡ size-at s at = omega arith in
-    subst (λ (k : ℕ). Written (deletion (with-first l (take k (drop (at + 1) s))) ∷ []) x p y q) n
-    (subst (λ (z : ℤ). Written (deletion (with-first z (take (next - (at + 1)) (drop (at + 1) s))) ∷ []) x p y q) (toZ-ofZ w32 l f) w)
-
-pub part-length : (s : List ℤ) (at next : ℕ) → SFits w32 (header-at s at) → next ≡ past s at → length (take (next - (at + 1)) (drop (at + 1) s)) < 2 ^ 31
-part-length s at next f e = omega (arith, literals-within (header-at s at) f, length-take (next - (at + 1)) (drop (at + 1) s))

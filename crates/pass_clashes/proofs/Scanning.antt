@@ -22,11 +22,11 @@ use Rattle.theory_clearing.proofs.Clash.{after-proper, after-fits}
 use Rattle.theory_clearing.proofs.Clashes.{clash-at-some}
 use Rattle.theory_clearing.proofs.Scan.{scan-clashes}
 use Rattle.progress.specs.declared.Progress.{Progress}
-use Rattle.progress.specs.Progress.{standing, Runs}
-use Rattle.progress.proofs.Laws.{lines-none, lines-one, runs-nothing, runs-join, good-up, good-first, good-rest}
-use Rattle.pass_clashes.specs.Clashes.{Free, clash-there, Next, Clash-ready}
+use Rattle.progress.specs.Progress.{standing, Good, Runs}
+use Rattle.progress.proofs.Laws.{lines-none, lines-one, runs-nothing, runs-join, good-up, good-first, good-rest, good-still}
+use Rattle.pass_clashes.specs.Clashes.{Free, clash-there, Next}
 use Rattle.pass_clashes.specs.Resolving.{Resolvable}
-use Rattle.pass_clashes.specs.Scan.{events-from, events-left, Scanned}
+use Rattle.pass_clashes.specs.Scan.{Clash-ready, events-from, events-left, Scanned}
 use Rattle.pass_clashes.specs.declared.NextClash.the-variants.{At, Nothing}
 use Rattle.pass_clashes.specs.declared.Scan.{Scan}
 
@@ -105,8 +105,8 @@ module _ {work mid : List ℤ} {log : Bytes} {z : Scan} {q : Progress} {variable
   slid-ready {es} e =
       ready-rest [] es (subst (λ (ds : List Event). Clash-ready ds work (z .progress) variables) e r) k (rw (after-none F) (r .good .proper)) (rw (after-none F) (r .good .fits))
 
-  pub search-ready : Clash-ready (events-from (z .next) variables (standing mid q)) mid q variables
-  search-ready = slid-ready (ap (events-from (z .next) variables) (sym same))
+  pub search-good : Good variables [] mid q
+  search-good = good-first [] (events-left work z variables) (good-still (r .good) k)
 
   -- there is none
   pub scanned-none : Next t (z .next) variables Nothing → Scanned variables work log z mid log (record { progress = q; next = variables + 1 })

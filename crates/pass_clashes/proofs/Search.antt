@@ -1,7 +1,7 @@
 -- The next clash, by the table of places: a variable and its negation have places exactly if the variable clashes. Assumes nothing.
 use mathlib.Core.Path.{_≡_, refl, sym, subst}
 use mathlib.Core.Bool.{Bool, true, false, _&&_}
-use mathlib.Core.List.{List}
+use mathlib.Core.List.{List, []}
 use mathlib.Core.Option.{Option, some, none}
 use Prim.Native.Nat.{ℕ, _+_, _-_, _≤_, _<_}
 use native.Mathlib.Omega.{arith}
@@ -19,13 +19,12 @@ use Rattle.theory_base.specs.Clauses.{Proper-all}
 use Rattle.literals.specs.Literal.{signed-of}
 use Rattle.literals.proofs.Laws.{signed-small}
 use Rattle.store.specs.Store.{stored, clause-at}
-use Rattle.definition.specs.Events.{Event}
 use Rattle.progress.specs.declared.Progress.{Progress}
-use Rattle.progress.specs.Progress.{standing}
+use Rattle.progress.specs.Progress.{standing, Good}
 use Rattle.tables.specs.Sizes.{input-reach}
 use Rattle.tables.specs.Entries.{entry-of}
 use Rattle.pass_clashes.specs.Places.{Stands-at, Tells, Placed}
-use Rattle.pass_clashes.specs.Clashes.{both, Clashing, Next, Clash-ready}
+use Rattle.pass_clashes.specs.Clashes.{both, Clashing, Next}
 use Rattle.pass_clashes.specs.declared.NextClash.the-variants.{At, Nothing}
 
 -- ---- the test of one variable
@@ -94,15 +93,15 @@ module _ (s : List ℤ) (t : List ℕ) (p : Proper-all (stored s)) (k : Placed (
       go (some a) x (some b) y m n = found a b x y m n
 
 -- ---- what the search finds
-module _ {es : List Event} {work : List ℤ} {p : Progress} {from to v : ℕ} (r : Clash-ready es work p to) (t : List ℕ) (k : Placed (standing work p) (standing work p) (take (p .end) work) t) (f : (k : ℕ) → from ≤ k → k < v → both t k ≡ false) where
+module _ {work : List ℤ} {p : Progress} {from to v : ℕ} (g : Good to [] work p) (w : to ≤ input-reach) (t : List ℕ) (k : Placed (standing work p) (standing work p) (take (p .end) work) t) (f : (k : ℕ) → from ≤ k → k < v → both t k ≡ false) where
   free-before : (i : ℕ) → from ≤ i → i < v → i ≤ to → clash-at (standing work p) i ≡ none
-  free-before i lo hi b = not-both (take (p .end) work) t (r .good .proper) k i (omega (arith, r .within)) (f i lo hi)
+  free-before i lo hi b = not-both (take (p .end) work) t (g .proper) k i (omega arith) (f i lo hi)
 
   pub next-none : to < v → v ≤ to + 1 → Next (take (p .end) work) from to Nothing
   next-none a b i lo hi = free-before i lo (omega arith) (omega arith)
 
   pub next-some : from ≤ v → v ≤ to → both t v ≡ true → {a b : ℕ} → a ≡ entry-of t (signed-of false v) → b ≡ entry-of t (signed-of true v) → Next (take (p .end) work) from to (At v (a - 1) (b - 1))
-  next-some m n e g h = (m, n, λ i lo hi. free-before i lo hi (omega arith), rw (g, h) (is-both (take (p .end) work) t (r .good .proper) k v (omega (arith, r .within)) e))
+  next-some m n e x y = (m, n, λ i lo hi. free-before i lo hi (omega arith), rw (x, y) (is-both (take (p .end) work) t (g .proper) k v (omega arith) e))
 
 -- ---- the loop over a range
 pub none-before-start : (t : List ℕ) (from k : ℕ) → from ≤ k → k < from → both t k ≡ false

@@ -1,23 +1,16 @@
--- The next clash of a store, and what clearing clashes needs.
+-- The next clash of a store.
 use mathlib.Core.Path.{_≡_}
 use mathlib.Core.Bool.{Bool, true, false, _&&_}
-use mathlib.Core.List.{List, _∷_, _++_}
+use mathlib.Core.List.{List}
 use mathlib.Core.Option.{some, none}
 use Prim.Native.Nat.{ℕ, _+_, _≤_, _<_}
 use lib.Dec.{ltb}
 use lib.IntN.{ℤ, pos}
-use lib.ListN.{length}
-use Rattle.definition.specs.Literals.{Formula, opposed}
-use Rattle.definition.specs.Standing.{after}
-use Rattle.definition.specs.Events.{Clash, Event, clash-cleared}
-use Rattle.definition.specs.Clearing.{clash-at, resolvent}
-use Rattle.definition.specs.Reencoding.{lines}
-use Rattle.definition.specs.Calls.{numbers-of}
+use Rattle.definition.specs.Literals.{Formula}
+use Rattle.definition.specs.Events.{Clash}
+use Rattle.definition.specs.Clearing.{clash-at}
 use Rattle.literals.specs.Literal.{signed-of}
 use Rattle.store.specs.Store.{stored, clause-at}
-use Rattle.progress.specs.declared.Progress.{Progress}
-use Rattle.progress.specs.Progress.{standing, Good}
-use Rattle.tables.specs.Sizes.{input-reach}
 use Rattle.tables.specs.Entries.{entry-of}
 use Rattle.pass_clashes.specs.Places.{Stands-at}
 use Rattle.pass_clashes.specs.declared.NextClash.{NextClash}
@@ -44,11 +37,3 @@ pub record Clashing (s : List ℤ) (v x y : ℕ) : Type 0 where
 abbrev pub Next : List ℤ → ℕ → ℕ → NextClash → Type 0
 Next s from to Nothing = Free (stored s) from (to + 1)
 Next s from to (At v x y) = (from ≤ v) × (v ≤ to) × Free (stored s) from v × Clashing s v x y
-
--- what clearing the clashes of the events es needs
-pub record Clash-ready (es : List Event) (work : List ℤ) (p : Progress) (variables : ℕ) : Type 0 where
-  pub good : Good variables es work p
-  pub within : variables ≤ input-reach
-  -- an added resolvent fits beside what stands
-  pub space : (xs ys : List Event) (c : Clash) → es ≡ xs ++ (clash-cleared c ∷ ys) → opposed (resolvent c) ≡ false
-      → numbers-of (after (standing work p) (lines xs)) + (length (resolvent c) + 1) ≤ length work

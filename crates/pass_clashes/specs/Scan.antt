@@ -1,15 +1,30 @@
 -- Clearing all clashes: a rising scan over the variables.
 use mathlib.Core.Path.{_≡_}
-use mathlib.Core.List.{List, _++_}
+use mathlib.Core.Bool.{false}
+use mathlib.Core.List.{List, _∷_, _++_}
 use Prim.Native.Nat.{ℕ, _+_, _-_, _≤_}
 use lib.IntN.{ℤ}
-use Rattle.definition.specs.Literals.{Formula}
+use lib.ListN.{length}
+use Rattle.definition.specs.Literals.{Formula, opposed}
 use Rattle.definition.specs.Text.{Bytes}
-use Rattle.definition.specs.Events.{Event}
+use Rattle.definition.specs.Standing.{after}
+use Rattle.definition.specs.Events.{Clash, Event, clash-cleared}
+use Rattle.definition.specs.Clearing.{resolvent}
+use Rattle.definition.specs.Reencoding.{lines}
+use Rattle.definition.specs.Calls.{numbers-of}
 use Rattle.theory_clearing.specs.Scan.{scan-from}
-use Rattle.progress.specs.Progress.{standing, Runs}
-use Rattle.pass_clashes.specs.Clashes.{Clash-ready}
+use Rattle.tables.specs.Sizes.{input-reach}
+use Rattle.progress.specs.declared.Progress.{Progress}
+use Rattle.progress.specs.Progress.{standing, Good, Runs}
 use Rattle.pass_clashes.specs.declared.Scan.{Scan}
+
+-- what clearing the clashes of the events es needs
+pub record Clash-ready (es : List Event) (work : List ℤ) (p : Progress) (variables : ℕ) : Type 0 where
+  pub good : Good variables es work p
+  pub within : variables ≤ input-reach
+  -- an added resolvent fits beside what stands
+  pub space : (xs ys : List Event) (c : Clash) → es ≡ xs ++ (clash-cleared c ∷ ys) → opposed (resolvent c) ≡ false
+      → numbers-of (after (standing work p) (lines xs)) + (length (resolvent c) + 1) ≤ length work
 
 -- the events of the variables from v on, where F stands
 abbrev pub events-from : ℕ → ℕ → Formula → List Event

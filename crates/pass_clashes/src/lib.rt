@@ -15,11 +15,11 @@ ghost use Rattle.literals.specs.Literal.{signed-of};
 ghost use Rattle.tables.specs.Sizes.{input-reach, input-size};
 ghost use Rattle.tables.specs.Entries.{entry-of, tallied};
 ghost use Rattle.store.specs.Store.{Formed, stored, entry, marked, clause-at, Counted};
-ghost use Rattle.progress.specs.Progress.{Written, Log-room, Runs, standing};
+ghost use Rattle.progress.specs.Progress.{Written, Log-room, standing, Good, Runs};
 ghost use Rattle.pass_clashes.specs.Places.{placed-at, Placed};
-ghost use Rattle.pass_clashes.specs.Clashes.{both, Next, clash-there, Clash-ready};
+ghost use Rattle.pass_clashes.specs.Clashes.{both, Next, clash-there};
 ghost use Rattle.pass_clashes.specs.Resolving.{opposite-in, joined, parent-lines, Resolvable, Resolvent-added, Parents, Parents-gone};
-ghost use Rattle.pass_clashes.specs.Scan.{events-from, events-left, Scanned};
+ghost use Rattle.pass_clashes.specs.Scan.{Clash-ready, events-left, Scanned};
 use progress::Progress;
 
 // The next variable with a clash, and the places of its two clauses.
@@ -97,7 +97,7 @@ fn find_clash(places: &[u32], from: u32, to: u32) -> u32
 
 // The next clash of the store in a workspace, in a range of variables.
 fn next_clash(work: &[i32], p: Progress, from: u32, to: u32) -> NextClash
-    requires { ⌜ (from ≤ to) × Clash-ready (events-from from to (standing (now work) p)) (now work) p to ⌝ }
+    requires { ⌜ Good to [] (now work) p × (from ≤ to) × (to ≤ input-reach) ⌝ }
     ensures { λ r. ⌜ Next (take (p .end) (now (work .entry))) from to r ⌝ }
 {
     let end = p.end;

@@ -1,7 +1,7 @@
 use borrow.Author.Needs.{needs}
 use native.Mathlib.Omega.{arith}
 use denote.Ref.{now}
-use Rattle.pass_clashes.proofs.Scanning.{search-ready, resolvable, scanned-none, scanned-clash}
+use Rattle.pass_clashes.proofs.Scanning.{search-good, resolvable, scanned-none, scanned-clash}
 use Rattle.pass_clashes.proofs.clear_next.Statement.{statement}
 use Rattle.pass_clashes.proofs.clear_next.Tie as tie
 
@@ -11,9 +11,10 @@ slide-down-requires c κs = search needs
 next-clash-requires : tie.Need-next-clash-requires
 next-clash-requires c κs =
     let start = c .before .before .before .before .before in (
-      start .pre .0,
-      search-ready (start .pre .0) (start .pre .1)
+      search-good (start .pre .0) (start .pre .1)
           (c .before .before .slide-down .ensures .runs (now (start .args .log))),
+      start .pre .0,
+      start .pre .1 .within,
     )
 
 enum-known-v : tie.Need-enum-known-v

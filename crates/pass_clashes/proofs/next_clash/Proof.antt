@@ -12,7 +12,7 @@ slice-aggregate-count-all : tie.Need-slice-aggregate-count-all
 slice-aggregate-count-all c = search needs
 
 slice-aggregate-count-all-2 : tie.Need-slice-aggregate-count-all-2
-slice-aggregate-count-all-2 c = sym (length-take-le _ _ (c .before .before .pre .1 .good .inside))
+slice-aggregate-count-all-2 c = sym (length-take-le _ _ (c .before .before .pre .0 .inside))
 
 count-all-requires : tie.Need-count-all-requires
 count-all-requires c κs = search needs
@@ -26,16 +26,16 @@ slice-aggregate-place-all-2 c = search needs
 slice-aggregate-place-all-3 : tie.Need-slice-aggregate-place-all-3
 slice-aggregate-place-all-3 c =
     let start = c .before .before .before .before .before .before .before in
-    sym (length-take-le _ _ (start .pre .1 .good .inside))
+    sym (length-take-le _ _ (start .pre .0 .inside))
 
 place-all-requires : tie.Need-place-all-requires
 place-all-requires c κs =
     let back = c .before .before .before .before in let count-all = back .count-all in
     let start = back .before .before .before in
-    let g = start .pre .1 in (
+    let g = start .pre .0 in (
       (
-        good-counted (good-up (g .within) (g .good)) (count-all .ensures),
-        omega (arith, g .good .small, length-take-le (start .args .p .end) (now (start .args .work)) (g .good .inside)),
+        good-counted (good-up (start .pre .2) g) (count-all .ensures),
+        omega (arith, g .small, length-take-le (start .args .p .end) (now (start .args .work)) (g .inside)),
       ),
       refl,
     )
@@ -51,7 +51,7 @@ returns c =
     let back = c .before in let find-clash = back .find-clash in
     let back = back .before .before .before in let place-all = back .place-all in
     let start = back .before .before .before .before .before .before .before .before in
-    next-none (start .pre .1) (place-all .last .0) (place-all .ensures) (find-clash .ensures .1 .0) (c .if1 .taken)
+    next-none (start .pre .0) (start .pre .2) (place-all .last .0) (place-all .ensures) (find-clash .ensures .1 .0) (c .if1 .taken)
     (find-clash .ensures .0 .1)
 
 slice-aggregate-place-of : tie.Need-slice-aggregate-place-of
@@ -100,7 +100,7 @@ returns-2 c =
     let back = back .before in let find-clash = back .find-clash in
     let back = back .before .before .before in let place-all = back .place-all in
     let start = back .before .before .before .before .before .before .before .before in
-    next-some (start .pre .1) (place-all .last .0) (place-all .ensures) (find-clash .ensures .1 .0)
+    next-some (start .pre .0) (start .pre .2) (place-all .last .0) (place-all .ensures) (find-clash .ensures .1 .0)
     (find-clash .ensures .0 .0) (if1 .left) (find-clash .ensures .1 .1 (if1 .left))
     (c .before .before .place-of .ensures) (c .place-of2 .ensures)
 

@@ -19,9 +19,10 @@ use Rattle.literals.proofs.Laws.{signed-small, negation-small}
 use Rattle.progress.specs.declared.Progress.{Progress}
 use Rattle.theory_base.proofs.Loops.{getD-mem}
 use Rattle.pairs.specs.Pairs.{literal-at}
-use Rattle.pass_counter.specs.Choice.{Small}
-use Rattle.pass_counter.specs.Growth.{Grow-room, Grown, link-2, link-3}
-use Rattle.pass_counter.proofs.Growing.{grow-first, grow-rest, grown-then, grown-length}
+use Rattle.tables.specs.Places.{Small}
+use Rattle.progress.specs.Growth.{Grow-room, Grown}
+use Rattle.pass_counter.specs.Links.{link-2, link-3}
+use Rattle.progress.proofs.Growing.{grow-first, grow-rest, grown-then, grown-length}
 
 -- ---- literals passed on
 

@@ -28,8 +28,8 @@ use Rattle.progress.proofs.Laws.{lines-one, written-then, room-first, room-rest
 use Rattle.pairs.specs.Pairs.{Pairs-taken, pair-lines}
 use Rattle.pairs.proofs.Laws.{front-stands, missing-lines, copies-lines}
 use Rattle.pass_counter.specs.Choice.{Choice-ready, Taken}
-use Rattle.pass_counter.specs.Growth.{entries, Grow-room, Grown}
-use Rattle.pass_counter.proofs.Growing.{entries-length}
+use Rattle.progress.specs.Growth.{entries, Grow-room, Grown}
+use Rattle.progress.proofs.Growing.{entries-length}
 
 module _ {work : List ℤ} {p : Progress} {l : Clause} {below : ℕ} (g : Choice-ready work p l below) where
   pub places-there : {t : List ℕ} → t ≡ with-numbers (replicate input-size 0) 1 l → Places t l

@@ -9,19 +9,12 @@ use Rattle.definition.specs.Text.{Bytes}
 use Rattle.definition.specs.Events.{choice-of}
 use Rattle.definition.specs.Counter.{counter, take-choice}
 use Rattle.definition.specs.Calls.{numbers-of}
-use Rattle.theory_base.specs.Clauses.{Fit-all}
 use Rattle.theory_counter.specs.Ready.{Ready}
 use Rattle.theory_counter.specs.Front.{front}
-use Rattle.tables.specs.Sizes.{input-reach, log-reach}
+use Rattle.tables.specs.Places.{Small}
 use Rattle.store.specs.Store.{stored, Place}
 use Rattle.progress.specs.declared.Progress.{Progress}
 use Rattle.progress.specs.Progress.{standing, Good, Runs}
-
--- the choice's variables, old and new, are small
-pub record Small (l : Clause) (below : ℕ) : Type 0 where
-  pub few : length l ≤ 64
-  pub old : Fit-all input-reach l
-  pub new : below + 64 ≤ log-reach
 
 -- what the taking of a choice needs
 pub record Choice-ready (work : List ℤ) (p : Progress) (l : Clause) (below : ℕ) : Type 0 where

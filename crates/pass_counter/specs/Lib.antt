@@ -1,2 +1,2 @@
 pub mod Choice
-pub mod Growth
+pub mod Links

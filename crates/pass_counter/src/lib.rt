@@ -7,33 +7,15 @@ ghost use Rattle.definition.specs.Lists.{for-from};
 ghost use Rattle.definition.specs.Standing.{take-out};
 ghost use Rattle.definition.specs.Events.{choice-of};
 ghost use Rattle.definition.specs.Counter.{counter, stage-2, stage-3};
+ghost use Rattle.tables.specs.Places.{Small};
 ghost use Rattle.store.specs.Store.{Formed, stored};
+ghost use Rattle.progress.specs.Growth.{Grow-room, Grown};
 ghost use Rattle.pairs.specs.Pairs.{slots, Pairs-taken};
-ghost use Rattle.pass_counter.specs.Choice.{Small, Choice-ready, Taken};
-ghost use Rattle.pass_counter.specs.Growth.{Grow-room, Grown, link-2, link-3};
+ghost use Rattle.pass_counter.specs.Choice.{Choice-ready, Taken};
+ghost use Rattle.pass_counter.specs.Links.{link-2, link-3};
 use progress::Progress;
-use store::Added;
 
 // ---- the counter clauses
-
-// Adds a clause to the store, and records it.
-fn put_clause(work: &mut [i32], log: &mut [u8], p: Progress, clause: &[i32]) -> Progress
-    requires { ⌜ (length (now clause) ≤ 3) × Grow-room (now clause ∷ []) (length (now work)) p ⌝ }
-    ensures { λ r. ⌜ Grown (now (clause .entry) ∷ []) (now (work .entry)) (now (log .entry)) p (now (work .exit)) (now (log .exit)) r ⌝ }
-{
-    let from = p.end;
-    match store::append_clause(work, from, clause) {
-        Added::To(end) => {
-            let q = progress::record_line(log, p, false, clause);
-            Progress {
-                end,
-                at: q.at,
-                lines: q.lines,
-            }
-        }
-        Added::Full => p,
-    }
-}
 
 // Adds a clause of two literals.
 fn put_two(work: &mut [i32], log: &mut [u8], p: Progress, a: i32, b: i32) -> Progress
@@ -41,7 +23,7 @@ fn put_two(work: &mut [i32], log: &mut [u8], p: Progress, a: i32, b: i32) -> Pro
     ensures { λ r. ⌜ Grown ((a ∷ b ∷ []) ∷ []) (now (work .entry)) (now (log .entry)) p (now (work .exit)) (now (log .exit)) r ⌝ }
 {
     let clause = [a, b];
-    put_clause(work, log, p, &clause)
+    progress::add_clause(work, log, p, &clause)
 }
 
 // Adds a clause of three literals.
@@ -50,7 +32,7 @@ fn put_three(work: &mut [i32], log: &mut [u8], p: Progress, a: i32, b: i32, c: i
     ensures { λ r. ⌜ Grown ((a ∷ b ∷ c ∷ []) ∷ []) (now (work .entry)) (now (log .entry)) p (now (work .exit)) (now (log .exit)) r ⌝ }
 {
     let clause = [a, b, c];
-    put_clause(work, log, p, &clause)
+    progress::add_clause(work, log, p, &clause)
 }
 
 // Adds the clauses of stage 2 of the literal at a place, from 2 on.

@@ -1,7 +1,7 @@
 use mathlib.Core.Path.{refl, sym, _∙_}
 use denote.Ref.{now}
 use lib.Seq.{length-take-le, length-front}
-use Rattle.pass_counter.proofs.Growing.{grown-length}
+use Rattle.progress.proofs.Growing.{grown-length}
 use Rattle.pass_counter.proofs.Taking.{places-there, store-short, first-room, counter-room, line-room, last-room, choice-taken}
 use borrow.Author.Needs.{needs}
 use Rattle.pass_counter.proofs.take_choice.Statement.{statement}

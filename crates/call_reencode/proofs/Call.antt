@@ -33,7 +33,7 @@ use Rattle.dimacs.proofs.Entries.{entries-formed, entries-stored, entries-numbe
 use Rattle.dimacs.proofs.Outcome.{Formula-is, formula-answer}
 use Rattle.progress.specs.Progress.{standing}
 use Rattle.run.specs.declared.Settings as Code-settings
-use Rattle.run.specs.declared.Run.{Run}
+use Rattle.run.specs.declared.Reached.{Reached}
 use Rattle.run.specs.Settings.{settings-of}
 use Rattle.run.specs.Run.{input-in, Run-ready, Ran-all}
 use Rattle.call_reencode.specs.declared.Reencoding as Code
@@ -85,7 +85,7 @@ fits-answers r log formula {new-log} {new-formula} {a} e x y = go (ltb (length l
 
 -- ---- after a run
 
-module _ {s : Settings} {i : Input} {work new : List ℤ} {x y : Bytes} {end : ℕ} {r : Run} (small : length work < 2 ^ 31) (a : Ran-all s i work x end new y r) where
+module _ {s : Settings} {i : Input} {work new : List ℤ} {x y : Bytes} {end : ℕ} {r : Reached} (small : length work < 2 ^ 31) (a : Ran-all s i work x end new y r) where
   pub run-left : Left new r
   run-left = record { small = omega (arith, a .runs .size); inside = omega (arith, a .runs .inside, a .runs .size); formed = a .runs .formed }
 

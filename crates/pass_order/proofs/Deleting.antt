@@ -34,14 +34,14 @@ use Rattle.replacement.proofs.Writing.{wanted, new-arg, array-clause}
 pub deletes-none : {s : List ℤ} (log : Bytes) (p : Progress) → Formed s → Deletes [] s log p s log p
 deletes-none log p f = record { formed = f; stands = refl; written = written-none log p p refl refl; kept = refl }
 
-pub deletable-first : (A B : List Clause) {s : List ℤ} {p : Progress} → Deletable (A ++ B) s p → Deletable A s p
+deletable-first : (A B : List Clause) {s : List ℤ} {p : Progress} → Deletable (A ++ B) s p → Deletable A s p
 deletable-first A B d = record { formed = d .formed; room = room-first (map deletion A) (map deletion B) (rw (map-append deletion A B) at (d .room)) }
 
 module _ (A B : List Clause) {s s1 : List ℤ} {x y : Bytes} {p q : Progress} where
-  pub deletable-rest : Deletable (A ++ B) s p → Deletes A s x p s1 y q → Deletable B s1 q
+  deletable-rest : Deletable (A ++ B) s p → Deletes A s x p s1 y q → Deletable B s1 q
   deletable-rest d e = record { formed = e .formed; room = room-rest (map deletion A) (map deletion B) (rw (map-append deletion A B) at (d .room)) (e .written) }
 
-  pub deletes-then : {s2 : List ℤ} {z : Bytes} {r : Progress} → Deletes A s x p s1 y q → Deletes B s1 y q s2 z r → Deletes (A ++ B) s x p s2 z r
+  deletes-then : {s2 : List ℤ} {z : Bytes} {r : Progress} → Deletes A s x p s1 y q → Deletes B s1 y q s2 z r → Deletes (A ++ B) s x p s2 z r
   deletes-then d e = record {
     formed = e .formed;
     stands = e .stands ∙ ap (λ (F : Formula). take-all F B) (d .stands) ∙ sym (take-all-++ (stored s) A B);

@@ -1,4 +1,4 @@
--- What stands after the order form, and its lines. Assumes nothing.
+-- What stands after the order form, and its lines. Each deleted clause holds a new variable, so the deletions pass over what stands before the counter clauses. Assumes nothing.
 use mathlib.Core.Path.{_≡_, refl, sym, ap, ap₂, subst, _∙_}
 use mathlib.Core.Bool.{false}
 use mathlib.Core.List.{List, [], _∷_, _++_, map, append-assoc, List·Memᴰ, List·Memᴰ·head as here, List·Memᴰ·tail as there, Memᴰ·append-left}

@@ -30,7 +30,7 @@ use Rattle.progress.proofs.Laws.{written-none}
 use Rattle.tables.specs.Sizes.{input-reach, input-size}
 use Rattle.pass_clashes.specs.Places.{Stands-at}
 use Rattle.pass_clashes.specs.Clashes.{clash-there}
-use Rattle.pass_clashes.specs.Resolving.{opposite-in, joined, Resolvable, Resolvent-added, Parents}
+use Rattle.pass_clashes.specs.Resolving.{opposite-in, joined, Joinable, Resolvable, Resolvent-added, Parents}
 use Rattle.pass_clashes.proofs.Opposed.{opposed-is}
 
 -- ---- a clause of the store, as a part of the workspace
@@ -104,6 +104,18 @@ module _ {work : List ℤ} {p : Progress} {v x y : ℕ} (r : Resolvable work p v
         short (c .other) (is-clash .other-stands),
       )
 
+  pub one-within : x < length work
+  one-within = omega (arith, r .clash .one-stands .inside, length-take-le (p .end) work (r .good .inside), r .good .inside)
+
+  pub other-within : y < length work
+  other-within = omega (arith, r .clash .other-stands .inside, length-take-le (p .end) work (r .good .inside), r .good .inside)
+
+  pub one-inside : {e : ℕ} → e ≡ past work x → (x + 1 ≤ e) × (e ≤ p .end) × (e ≤ length work)
+  one-inside i = let k = part-inside work (p .end) x (r .clash .one-stands) (r .good .inside) i in (k .0, k .1, omega (arith, k .1, r .good .inside))
+
+  pub other-inside : {e : ℕ} → e ≡ past work y → (y + 1 ≤ e) × (e ≤ p .end) × (e ≤ length work)
+  other-inside i = let k = part-inside work (p .end) y (r .clash .other-stands) (r .good .inside) i in (k .0, k .1, omega (arith, k .1, r .good .inside))
+
   -- nothing is added
   pub none-added : (log : Bytes) → opposed (resolvent c) ≡ true → Resolvent-added c work log p work log p
   unfolding only-if after
@@ -130,12 +142,6 @@ module _ {work : List ℤ} {p : Progress} {v x y : ℕ} (r : Resolvable work p v
     abbrev nb : ℕ
     nb = f - b
 
-    pub one-inside : (x + 1 ≤ e) × (e ≤ p .end)
-    one-inside = part-inside work (p .end) x (r .clash .one-stands) (r .good .inside) i
-
-    pub other-inside : (y + 1 ≤ f) × (f ≤ p .end)
-    other-inside = part-inside work (p .end) y (r .clash .other-stands) (r .good .inside) j
-
     one-part : take na (drop a work) ≡ c .one
     one-part = part-clause work (p .end) x (r .clash .one-stands) (r .good .inside) i
 
@@ -157,8 +163,8 @@ module _ {work : List ℤ} {p : Progress} {v x y : ℕ} (r : Resolvable work p v
         (ap₂ without (signed-small false v (omega (arith, variable-small))) one-part)
         (ap₂ without (signed-small true v (omega (arith, variable-small))) other-part)
 
-    pub joined-room : opposed (resolvent c) ≡ false → p .end + (length (joined work a na b nb v) + 1) ≤ length work
-    joined-room o = omega (arith, r .space o, ap length joined-is)
+    pub parts-joinable : opposed (resolvent c) ≡ false → Joinable work (p .end) a na b nb v
+    parts-joinable o = record { one = omega (arith, one-inside i); other = omega (arith, other-inside j); space = omega (arith, r .space o, ap length joined-is) }
 
     module _ (o : opposed (resolvent c) ≡ false) {n : ℕ} {new : List ℤ} (d : n ≡ p .end + (length (joined work a na b nb v) + 1)) (w : new ≡ sets work (p .end) (entry (joined work a na b nb v))) where
       resolvent-appended : Appended work (p .end) (resolvent c) n new

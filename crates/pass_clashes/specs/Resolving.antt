@@ -5,6 +5,7 @@ use mathlib.Core.List.{List, [], _∷_, _++_, List·Memᴰ}
 use Prim.Native.Nat.{ℕ, _+_, _≤_}
 use lib.IntN.{ℤ, pos, negℤ}
 use lib.ListN.{length, take, drop}
+use lib.Seq.{sets}
 use Rattle.definition.specs.Lists.{only-if}
 use Rattle.definition.specs.Literals.{Clause, same, without, with-first, opposed}
 use Rattle.definition.specs.Text.{Bytes}
@@ -24,9 +25,24 @@ use Rattle.pass_clashes.specs.Clashes.{clash-there, Clashing}
 abbrev pub opposite-in : List ℕ → ℤ → ℤ → Bool
 opposite-in t out l = not (same out l) && not (pure-in t l)
 
+-- n literals of a store from a place on, without a variable or its negation
+abbrev pub part-without : List ℤ → ℕ → ℕ → Bool → ℕ → Clause
+part-without s from n is-negative v = without (signed-of is-negative v) (take n (drop from s))
+
+-- they are copied to another place; r is the one past them
+pub record Copied (work : List ℤ) (to from n : ℕ) (is-negative : Bool) (v : ℕ) (new : List ℤ) (r : ℕ) : Type 0 where
+  pub next : r ≡ to + length (part-without work from n is-negative v)
+  pub copied : new ≡ sets work to (part-without work from n is-negative v)
+
 -- na literals of a store from a on without v, then nb from b on without -v
 abbrev pub joined : List ℤ → ℕ → ℕ → ℕ → ℕ → ℕ → Clause
-joined s a na b nb v = without (signed-of false v) (take na (drop a s)) ++ without (signed-of true v) (take nb (drop b s))
+joined s a na b nb v = part-without s a na false v ++ part-without s b nb true v
+
+-- both parts lie before the end, and the entry of what they give fits behind it
+pub record Joinable (work : List ℤ) (end a na b nb v : ℕ) : Type 0 where
+  pub one : a + na ≤ end
+  pub other : b + nb ≤ end
+  pub space : end + (length (joined work a na b nb v) + 1) ≤ length work
 
 -- the addition of a clash, if there is one
 abbrev pub resolvent-lines : Clash → List Line

@@ -1,3 +1,4 @@
+-- The resolvent holds neither literal of the variable and moves neither clause (Resolved).
 use mathlib.Core.Path.{sym}
 use lib.Seq.{length-take-le}
 use Rattle.pass_clashes.proofs.Resolved.{parents-kept, part-short, room-kept, resolved}

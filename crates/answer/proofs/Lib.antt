@@ -1,5 +1,4 @@
--- General laws; then the laws of the table, of lines, of reading and of writing, which callers cite.
+-- Table: laws that callers cite. The others serve the functions of this crate.
 pub mod Table
-pub mod Lines
 pub mod Reading
 pub mod Output

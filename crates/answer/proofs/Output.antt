@@ -1,4 +1,4 @@
--- Laws of writing the line of an assignment. Assumes nothing.
+-- The line of an assignment, written variable by variable.
 use mathlib.Core.Path.{_≡_, sym, ap, _∙_}
 use mathlib.Core.Bool.{Bool, true, false, not, cond}
 use mathlib.Core.List.{[], _∷_, _++_}

@@ -1,4 +1,4 @@
--- Laws of the steps of reading an answer. Assumes nothing.
+-- An answer read word by word and line by line: what is read so far and the outcome of what follows lead to the outcome of the whole.
 use Rattle.text.proofs.Numbers.{number-answer}
 use mathlib.Core.Path.{_≡_, refl, sym, ap, subst, _∙_}
 use mathlib.Core.Bool.{true, false, not, _&&_, _||_, and-false}
@@ -21,7 +21,8 @@ use Rattle.answer.specs.declared.Progress.the-variants as Progress
 use Rattle.answer.specs.declared.AnswerRead.{AnswerRead}
 use Rattle.answer.specs.declared.AnswerRead.the-variants as AnswerRead
 use Rattle.answer.specs.Table.{Table, naming}
-use Rattle.answer.specs.Lines.{part, First-line}
+use Rattle.theory_base.specs.Slices.{between}
+use Rattle.theory_text.specs.TextLines.{First-line}
 use Rattle.answer.specs.Reading.{waiting-at, open-at, read-literal, Reached, Steps, Steps-open, closing, Ends, Read-as}
 use Rattle.theory_base.proofs.Outcomes.{bind-bind, bind-end}
 use Rattle.answer.proofs.Table.{variable-named, table-start, table-naming}
@@ -187,7 +188,7 @@ module _ (x : ℕ) (t : Bytes) where
   lines-start n m e = walked-start (line-step x) Progress.Waiting m waiting-at (text-lines t) (refl, rw e (table-start n))
 
   pub lines-step : {at start end next : ℕ} (p : Progress) (m : Bytes) (q : Progress) (after : Bytes) →
-      First-line t at start end next → Lines-walked at p m → Steps (λ a. read-answer-line x a (part start end t)) p m q after → Lines-walked next q after
+      First-line t at start end next → Lines-walked at p m → Steps (λ a. read-answer-line x a (between start end t)) p m q after → Lines-walked next q after
   lines-step {at} {start} {end} {next} p m q after f k s =
       walked-step (line-step x) p m q after (f .line) (text-lines (drop next t)) (text-lines (drop at t)) _ (f .lines) k
       (subst (λ (w : Bytes). Steps (λ a. read-answer-line x a w) p m q after) (sym (f .text)) s)
@@ -195,5 +196,3 @@ module _ (x : ℕ) (t : Bytes) where
   pub lines-end : (at : ℕ) (p : Progress) (m : Bytes) (r : AnswerRead) → text-lines (drop at t) ≡ [] → Lines-walked at p m → Ends p r → Read-as (read-answer x t) r m
   unfolding read-answer closing
   lines-end at p m r e k ends = ends m _ (walked-end (line-step x) p m (text-lines (drop at t)) _ e k)
-
--- ---- what an answer read says of the definition's assignment

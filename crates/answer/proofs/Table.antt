@@ -1,21 +1,20 @@
--- Laws of the table of named literals. Assumes nothing.
+-- The table of named literals: what its entries say, and one literal named more.
 use mathlib.Core.Path.{_≡_, refl, sym, ap, _∙_, fun-ext}
 use mathlib.Core.Logic.{_≢_}
 use mathlib.Core.Bool.{true, false, not, cond, _||_, or-false, or-comm}
 use mathlib.Core.List.{[], _∷_, _++_}
-use Prim.Native.Nat.{ℕ, zero, suc, _+_, _≤_, _<_}
+use Prim.Native.Nat.{ℕ, zero, suc, _≤_, _<_}
 use native.Mathlib.Omega.{arith}
-use native.Mathlib.Numerals.{add-one}
 use native.Mathlib.Decide.{ℕ-discrete}
 use lib.Dec.{eqb}
 use lib.IntN.{ℤ, pos, negsuc, negℤ, natAbs}
-use lib.ListN.{length, getD, drop, replicate, drop-of-length-le}
-use lib.Seq.{drop-cons, getD-set-same, getD-set-other}
+use lib.ListN.{length, getD, replicate}
+use lib.Seq.{getD-set-same, getD-set-other}
 use borrow.Author.Tests.{eq-eqb, ne-eqb}
 use Rattle.definition.specs.Lists.{any}
 use Rattle.definition.specs.Text.{Bytes}
 use Rattle.definition.specs.Literals.{Clause, same, holds}
-use Rattle.definition.specs.Assignments.{Assignment, true-in, has-true, sign, make-true}
+use Rattle.definition.specs.Assignments.{true-in, sign, make-true}
 use Rattle.definition.specs.Calls.{assigned}
 use Rattle.theory_base.proofs.Tests.{differ}
 use Rattle.theory_base.proofs.Members.{unlike-false, holds-snoc}
@@ -121,18 +120,3 @@ pub true-positive : (m : Bytes) (l : ℤ) → negative l ≡ false → eqb (getD
 unfolding true-in marked
 true-positive m (pos n) e = refl
 true-positive m (negsuc n) e = differ {b = true} tt e
-
--- ---- a true literal of the rest of a clause
-
-module _ (a : Assignment) (c : Clause) (i : ℕ) where
-  pub has-true-found : i < length c → true-in a (getD c i (pos 0)) ≡ true → true ≡ has-true a (drop i c)
-  unfolding has-true any
-  has-true-found h e = rw (drop-cons c i (pos 0) h, e) refl
-
-  pub has-true-step : i < length c → true-in a (getD c i (pos 0)) ≡ false → has-true a (drop (i + 1) c) ≡ has-true a (drop i c)
-  unfolding has-true any
-  has-true-step h e = rw (drop-cons c i (pos 0) h, e, add-one i) refl
-
-  pub has-true-end : length c ≤ i → false ≡ has-true a (drop i c)
-  unfolding has-true any
-  has-true-end h = rw (drop-of-length-le c {i = i} h) refl

@@ -1,4 +1,3 @@
 pub mod Table
-pub mod Lines
 pub mod Reading
 pub mod Output

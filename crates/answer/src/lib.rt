@@ -9,104 +9,23 @@ ghost use Rattle.definition.specs.Answer.{begins-with, space-or-tab, read-answe
 ghost use Rattle.definition.specs.Calls.{answer-text};
 ghost use Rattle.text.specs.Output.{Put};
 ghost use Rattle.answer.specs.Table.{entry-of, marked, naming};
-ghost use Rattle.answer.specs.Lines.{Line-end, Trimmed, Line-says};
 ghost use Rattle.answer.specs.Output.{value-text, values-text};
 ghost use Rattle.answer.specs.Reading.{open-at, read-literal, Steps, Steps-open, Read-as, Ends};
 
 // ---- lines
 
-// A line of a text without its end, and the place past it; or the text's end.
-pub enum Line {
-    Text {
-        start: usize,
-        end: usize,
-        next: usize,
-    },
-    End,
-}
-
-// The place of the first LF at a place or after it, or the text's end.
-fn line_end(text: &[u8], at: usize) -> usize
-    requires { ⌜ at ≤ length (now text) ⌝ }
-    ensures { λ r. ⌜ Line-end (now (text .entry)) at r ⌝ }
-{
-    let mut i = at;
-    while i < text.len() {
-        if text[i] == 10 {
-            return i;
-        }
-        i += 1;
-    }
-    i
-}
-
-// The end of a line that ends with LF, without a CR directly before it.
-fn without_cr(text: &[u8], start: usize, end: usize) -> usize
-    requires { ⌜ (start ≤ end) × (end ≤ length (now text)) ⌝ }
-    ensures { λ r. ⌜ Trimmed (now (text .entry)) start end r ⌝ }
-{
-    if start == end {
-        return end;
-    }
-    if text[end - 1] == 13 {
-        return end - 1;
-    }
-    end
-}
-
-// The first line of the rest of a text.
-pub fn next_line(text: &[u8], at: usize) -> Line
-    ensures { λ r. ⌜ Line-says (now (text .entry)) at r ⌝ }
-{
-    if text.len() <= at {
-        return Line::End;
-    }
-    let end = line_end(text, at);
-    if end == text.len() {
-        return Line::Text {
-            start: at,
-            end,
-            next: end,
-        };
-    }
-    let trimmed = without_cr(text, at, end);
-    Line::Text {
-        start: at,
-        end: trimmed,
-        next: end + 1,
-    }
-}
-
-// Whether a line begins with some bytes.
-fn begins(line: &[u8], prefix: &[u8]) -> bool
-    ensures { λ r. ⌜ r ≡ begins-with (now (prefix .entry)) (now (line .entry)) ⌝ }
-{
-    if line.len() < prefix.len() {
-        return false;
-    }
-    let mut i = 0;
-    while i < prefix.len() {
-        if line[i] == prefix[i] {
-            i += 1;
-        } else {
-            return false;
-        }
-    }
-    true
-}
-
 // Whether a line begins with `c`.
 fn is_comment(line: &[u8]) -> bool
     ensures { λ r. ⌜ r ≡ begins-with (bytes "c") (now (line .entry)) ⌝ }
 {
-    begins(line, b"c")
+    text::begins(line, b"c")
 }
 
 // Whether a line begins with `v` and a blank.
 fn is_values(line: &[u8]) -> bool
     ensures { λ r. ⌜ r ≡ begins-with (bytes "v ") (now (line .entry)) ⌝ }
 {
-    begins(line, b"v ")
+    text::begins(line, b"v ")
 }
 
 // Whether a line is the `s` line.
@@ -114,7 +33,7 @@ fn is_status(line: &[u8]) -> bool
     ensures { λ r. ⌜ r ≡ same-bytes (now (line .entry)) (bytes "s SATISFIABLE") ⌝ }
 {
     if line.len() == 13 {
-        return begins(line, b"s SATISFIABLE");
+        return text::begins(line, b"s SATISFIABLE");
     }
     false
 }
@@ -151,7 +70,7 @@ pub fn make_true(marks: &mut [u8], l: i32)
 }
 
 // Whether a literal is true.
-pub fn true_literal(marks: &[u8], l: i32) -> bool
+fn true_literal(marks: &[u8], l: i32) -> bool
     ensures { λ r. ⌜ r ≡ true-in (marked (now (marks .entry))) l ⌝ }
 {
     let named_true = entry_at(marks, literals::variable(l)) == 1;
@@ -303,12 +222,12 @@ pub fn read_answer(text: &[u8], x: u32, marks: &mut [u8]) -> AnswerRead
     let mut state = Progress::Waiting;
     let mut at: usize = 0;
     loop {
-        match next_line(text, at) {
-            Line::Text { start, end, next } => {
+        match text::next_line(text, at) {
+            text::Line::Text { start, end, next } => {
                 state = read_line(state, &text[start..end], x, marks);
                 at = next;
             }
-            Line::End => {
+            text::Line::End => {
                 return outcome(state);
             }
         }

@@ -17,6 +17,10 @@ use Rattle.definition.specs.Log.{log-text, formula-text}
 use Rattle.definition.specs.LogReading.{read-log, numbers-in}
 use Rattle.definition.specs.Answer.{read-answer}
 
+-- ---- the input of every call: the formula read, followed by the clauses that a wish joins to it; no wish joins any
+unfoldable pub read-input : Bytes → Checked Input
+read-input t = read-formula input-limits t
+
 -- ---- reencoding
 
 -- the result: choices, H, M, log lines and both byte lengths
@@ -56,12 +60,12 @@ reencoded s i =
 
 -- 11: fewer 32-bit entries than 20L + 2C + 6V + 8,192
 unfoldable pub workspace-need : Input → ℕ
-workspace-need i = 20 * literals-of (i .formula) + 2 * length (i .formula) + 6 * i .variables + 8_192
+workspace-need i = 20 * literals-of (i .formula) + 2 * i .clauses + 6 * i .highest + 8_192
 
 -- 1 to 9, 11, 12, 13; the three numbers are the entries of workspace and the bytes of the two buffers
 unfoldable pub reencode : Settings → ℕ → ℕ → ℕ → Bytes → Checked Reencoded
 reencode s workspace log-room formula-room t =
-    read-formula input-limits t >>= λ i.
+    read-input t >>= λ i.
     refuse-if (ltb workspace (workspace-need i)) 11
     (let r = reencoded s i in
     refuse-if (ltb log-room (length (r .log))) 12
@@ -95,7 +99,7 @@ log-workspace-need i ss x = 4 * (numbers-of (i .formula) + numbers-in ss) + 4 * 
 
 -- X is the greater of V and the highest variable in the kept lines
 unfoldable pub highest-allowed : Input → List Line → ℕ
-highest-allowed i ss = max (i .variables) (highest-in ss)
+highest-allowed i ss = max (i .highest) (highest-in ss)
 
 -- the answer is tested against the clauses standing, then carried back: 44, 33, 14
 unfoldable pub carry-answer : ℕ → Input → List Line → Formula → Assignment → Checked Bytes
@@ -109,7 +113,7 @@ carry-answer room i ss standing a =
 -- 1 to 9, then 31 or 34, 41 to 43, 11, 32, 44, 33, 14
 unfoldable pub walk-back : ℕ → ℕ → ℕ → Bytes → Bytes → Bytes → Checked Bytes
 walk-back workspace room kept formula log answer =
-    read-formula input-limits formula >>= λ i.
+    read-input formula >>= λ i.
     read-log kept log >>= λ ss.
     read-answer (highest-allowed i ss) answer >>= λ named.
     refuse-if (ltb workspace (log-workspace-need i ss (highest-allowed i ss))) 11
@@ -123,5 +127,5 @@ buffer-after nought (value a) written before = written a ++ drop (length (writte
 
 -- all of this file, for a proof that computes: `unfolding computing` opens every name of the next line
 unfoldable pub computing : Unit {0}
-unfolding reencoded workspace-need reencode read-back assigned answer-text numbers-of log-workspace-need highest-allowed carry-answer walk-back buffer-after
+unfolding read-input reencoded workspace-need reencode read-back assigned answer-text numbers-of log-workspace-need highest-allowed carry-answer walk-back buffer-after
 computing = tt

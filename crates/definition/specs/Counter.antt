@@ -73,11 +73,11 @@ module _ (c : Choice) where
 unfoldable pub copies : Formula → Clause → List Clause
 copies f l = for-each (pairs l) (λ p. replicate (count (same-set p) f) p)
 
--- the choice, taken where f stands
-unfoldable pub take-choice : Formula → Choice → Event
-take-choice f c =
-    let missing = missing-pairs f (c .literals) in
-    choice-taken c missing (copies (f ++ missing ++ counter c) (c .literals))
+-- the clause c, taken as the choice k where f stands
+unfoldable pub take-choice : Formula → Clause → Choice → Event
+take-choice f c k =
+    let missing = missing-pairs f (k .literals) in
+    choice-taken c k missing (copies (f ++ missing ++ counter k) (k .literals))
 
 -- the four stages; 4. delete l1..lk, then the copies of pairs
 unfoldable pub choice-lines : Choice → List Clause → List Clause → List Line

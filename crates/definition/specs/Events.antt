@@ -10,19 +10,21 @@ pub record Clash : Type 0 where
   pub one : Clause
   pub other : Clause
 
--- "Counter form": a standing clause that is taken as l1..lk; its new variables s1..s(k-1) are the numbers after `below`
+-- "Counter form": literals taken as l1..lk; the new variables s1..s(k-1) are the numbers after `below`
 pub record Choice : Type 0 where
-  pub clause : Clause
   pub literals : Clause
   pub below : ℕ
+
+abbrev pub choice-of : Clause → ℕ → Choice
+choice-of l n = record { literals = l; below = n }
 
 pub data Event : Type 0 where
   -- a clash is cleared
   clash-cleared : Clash → Event
   -- a ULC is deleted for its pure literal
   pure-deleted : ℤ → Clause → Event
-  -- a choice is taken: the pairs that are missing, and the copies of pairs that stand then
-  choice-taken : Choice → List Clause → List Clause → Event
+  -- a standing clause is taken as a choice: the pairs that are missing, and the copies of pairs that stand then
+  choice-taken : Clause → Choice → List Clause → List Clause → Event
   -- "Order form": a clause with negated choice literals is replaced
   clause-replaced : Clause → Clause → Event
   -- "Order form": the clauses with a choice's literals are deleted

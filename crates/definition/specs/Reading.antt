@@ -23,10 +23,17 @@ input-limits = record { variables = 8_000; clauses = 20_000; literals = 60_000 }
 unfoldable pub read-back-limits : Limits
 read-back-limits = record { variables = 70_000; clauses = 300_000; literals = 1_000_000 }
 
--- what a text says: V, and the list of clauses read
+-- the input of a call: V; the highest variable in use, V or the last that a wish joins; C, the header's and the clauses that a wish joins; and
+-- the list of clauses read, followed by those that a wish joins
 pub record Input : Type 0 where
   pub variables : ℕ
+  pub highest : ℕ
+  pub clauses : ℕ
   pub formula : Formula
+
+-- V, C and the clauses as they are read; nothing is joined yet
+abbrev pub as-read : ℕ → ℕ → Formula → Input
+as-read v c f = record { variables = v; highest = v; clauses = c; formula = f }
 
 -- V, C and the words after the header line
 pub record Header : Type 0 where
@@ -67,14 +74,14 @@ read-literal most v r l =
     (value (record { done = r .done; here = r .here ++ (l ∷ []) })))))
 
 -- 0 ends a clause
-unfoldable pub end-clause : Reader → Reader
-end-clause r = record { done = r .done ++ (r .here ∷ []); here = [] }
+unfoldable pub end-clause : Reader → Checked Reader
+end-clause r = value (record { done = r .done ++ (r .here ∷ []); here = [] })
 
 unfoldable pub read-word : Limits → ℕ → ℕ → Reader → Bytes → Checked Reader
 read-word most v c r w =
     refuse-if (leb c (length (r .done))) 8
     (or-fault (number w) 3 >>= λ n.
-    cond (eqb 0 (natAbs n)) (value (end-clause r)) (read-literal most v r n))
+    cond (eqb 0 (natAbs n)) (end-clause r) (read-literal most v r n))
 
 -- at the text's end: inside a clause, or with fewer than C
 unfoldable pub end-text : ℕ → Reader → Checked Formula
@@ -85,7 +92,7 @@ unfoldable pub read-clauses : Limits → Header → Checked Input
 read-clauses most h =
     through (read-word most (h .variables) (h .clauses)) (record { done = []; here = [] }) (h .after) >>= λ r.
     end-text (h .clauses) r >>= λ f.
-    value (record { variables = h .variables; formula = f })
+    value (as-read (h .variables) (h .clauses) f)
 
 unfoldable pub read-formula : Limits → Bytes → Checked Input
 read-formula most t = read-header most t >>= λ h. read-clauses most h

@@ -7,17 +7,17 @@ use Rattle.definition.specs.Lists.{for-each}
 use Rattle.definition.specs.Literals.{Clause, Formula, opposed}
 use Rattle.definition.specs.Reading.{Input}
 use Rattle.definition.specs.Standing.{Line, after, highest-in}
-use Rattle.definition.specs.Events.{Clash, Choice, Event, clash-cleared, pure-deleted, choice-taken, clause-replaced, literals-deleted}
+use Rattle.definition.specs.Events.{Clash, Choice, choice-of, Event, clash-cleared, pure-deleted, choice-taken, clause-replaced, literals-deleted}
 use Rattle.definition.specs.Clearing.{clash-lines, pure-lines, resolvent, clear-clashes, clear-pure}
 use Rattle.definition.specs.Counter.{choices, below-new, last-new, take-choice, choice-lines}
 use Rattle.definition.specs.Order.{replacement-lines, order-events, literal-deletions}
-use Rattle.definition.specs.Alignment.{Wish, arranged}
+use Rattle.definition.specs.Alignment.{Arrangement, arranged}
 
 -- the log lines of an event
 unfoldable pub lines-of : Event → List Line
 lines-of (clash-cleared c) = clash-lines c
 lines-of (pure-deleted l c) = pure-lines l c
-lines-of (choice-taken c missing copies) = choice-lines c missing copies
+lines-of (choice-taken c k missing copies) = choice-lines k missing copies
 lines-of (clause-replaced old result) = replacement-lines old result
 lines-of (literals-deleted c) = literal-deletions c
 
@@ -32,19 +32,19 @@ pub data Form : Type 0 where
 -- what the caller asks for
 pub record Settings : Type 0 where
   pub form : Form
-  pub wish : Wish
+  pub arrangement : Arrangement
 
 -- one choice; the order form follows directly after its stage 4
-unfoldable pub choice-events : Form → Formula → Choice → List Event
-choice-events counter-form f c = take-choice f c ∷ []
-choice-events order-form f c = let e = take-choice f c in e ∷ order-events c (after f (lines-of e))
+unfoldable pub choice-events : Form → Formula → Clause → Choice → List Event
+choice-events counter-form f c k = take-choice f c k ∷ []
+choice-events order-form f c k = let e = take-choice f c k in e ∷ order-events k (after f (lines-of e))
 
 -- the choices in list order, where f stands and n is the highest variable used
 unfoldable pub choices-events : Form → (Clause → Clause) → ℕ → Formula → List Clause → List Event
 choices-events form order n f [] = []
 choices-events form order n f (c ∷ cs) =
-    let k : Choice = record { clause = c; literals = order c; below = below-new n } in
-    let es = choice-events form f k in
+    let k = choice-of (order c) (below-new n) in
+    let es = choice-events form f c k in
     es ++ choices-events form order (last-new k) (after f (lines es)) cs
 
 -- what stands when no clash is left
@@ -56,35 +56,31 @@ unfoldable pub cleared : Formula → Formula
 cleared f = after (unclashed f) (lines (clear-pure (unclashed f)))
 
 module _ (s : Settings) (i : Input) where
-  -- the input: the clauses read, followed by those that a wish joins to it; no wish joins any
-  unfoldable pub input : Formula
-  input = i .formula
-
   -- the choices then standing, and none is added later
   unfoldable pub chosen : List Clause
-  chosen = choices (cleared input)
+  chosen = choices (cleared (i .formula))
 
   unfoldable pub events : List Event
   events =
-      clear-clashes input
-      ++ clear-pure (unclashed input)
-      ++ choices-events (s .form) (arranged (s .wish) (cleared input) chosen) (i .variables) (cleared input) chosen
+      clear-clashes (i .formula)
+      ++ clear-pure (unclashed (i .formula))
+      ++ choices-events (s .form) (arranged (s .arrangement) (cleared (i .formula)) chosen) (i .highest) (cleared (i .formula)) chosen
 
   unfoldable pub log : List Line
   log = lines events
 
   -- what stands with all lines kept
   unfoldable pub result : Formula
-  result = after input log
+  result = after (i .formula) log
 
   -- H, the highest variable used (at least V)
   unfoldable pub highest-used : ℕ
-  highest-used = max (i .variables) (highest-in log)
+  highest-used = max (i .highest) (highest-in log)
 
 -- "Standing and carried back": the clause goes into the choice, in the course of the events
 pub data Goes-into (k : Choice) : List Event → Clause → Type 0 where
   -- if it is taken as that choice,
-  taken : {missing copies : List Clause} {es : List Event} → Goes-into k (choice-taken k missing copies ∷ es) (k .clause)
+  taken : {c : Clause} {missing copies : List Clause} {es : List Event} → Goes-into k (choice-taken c k missing copies ∷ es) c
   -- if it is A or B of a clash whose resolvent is added and goes into that choice,
   as-one : {c : Clash} {es : List Event} → opposed (resolvent c) ≡ false → Goes-into k es (resolvent c) → Goes-into k (clash-cleared c ∷ es) (c .one)
   as-other : {c : Clash} {es : List Event} → opposed (resolvent c) ≡ false → Goes-into k es (resolvent c) → Goes-into k (clash-cleared c ∷ es) (c .other)
@@ -95,5 +91,5 @@ pub data Goes-into (k : Choice) : List Event → Clause → Type 0 where
 
 -- all of this file, for a proof that computes: `unfolding computing` opens every name of the next line
 unfoldable pub computing : Unit {0}
-unfolding lines-of lines choice-events choices-events unclashed cleared input chosen events log result highest-used
+unfolding lines-of lines choice-events choices-events unclashed cleared chosen events log result highest-used
 computing = tt

@@ -1,6 +1,7 @@
-pub mod Clauses
+pub mod Entries
+pub mod Outcome
 pub mod HeaderLine
+pub mod Clauses
 pub mod Marking
-pub mod Checking
-pub mod Loads
-pub mod Stored
+pub mod Reading
+pub mod FormulaText

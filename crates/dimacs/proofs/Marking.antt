@@ -1,27 +1,30 @@
--- Reading a clause with marks in a table. Assumes nothing.
-use Rattle.text.proofs.Numbers.{number-answer}
+-- Reading a clause into a store, with marks in a table. Assumes nothing.
 use mathlib.Core.Path.{_≡_, refl, sym, ap, subst, _∙_}
 use mathlib.Core.Bool.{Bool, true, false, cond}
 use mathlib.Core.List.{List, [], _∷_, _++_}
 use mathlib.Core.Option.{Option, some, none}
-use Prim.Native.Nat.{ℕ, _+_, _-_, _≤_, _<_}
+use Prim.Native.Nat.{ℕ, zero, suc, _+_, _-_, _≤_, _<_}
 use native.Mathlib.Omega.{arith}
 use lib.Dec.{eqb, leb, ltb}
-use lib.IntN.{ℤ, negℤ, natAbs}
-use lib.ListN.{length, take, drop, length-append}
-use borrow.Author.Tests.{leb-false, lt-ltb, le-ltb, ltb-false, ne-eqb}
-use Rattle.definition.specs.Literals.{Clause, same, holds}
+use lib.IntN.{ℤ, pos, natAbs}
+use lib.ListN.{length, set, take, drop, length-append, length-set}
+use lib.Seq.{sets}
+use borrow.Author.Tests.{le-leb, lt-leb, lt-ltb, le-ltb, ltb-false, ne-eqb}
+use Rattle.definition.specs.Checked.{Checked, fault}
+use Rattle.definition.specs.Literals.{Clause}
 use Rattle.definition.specs.Text.{Bytes, blank, words-by, words, number}
-use Rattle.definition.specs.Reading.{Limits}
+use Rattle.theory_base.proofs.Slices.{sets-then, sets-first}
+use Rattle.literals.specs.Literal.{header-of}
+use Rattle.literals.proofs.Laws.{header-small}
 use Rattle.text.specs.Numbers.{number-class}
 use Rattle.text.specs.declared.Number.the-variants as Number
-use Rattle.text.proofs.Words.{First}
-use Rattle.dimacs.specs.Clause.{Word-read, bad, zero, literal, bad-if, number-read, word-read, Clause-read, refused, clause-by, full, first-clause}
+use Rattle.text.proofs.Numbers.{number-answer}
+use Rattle.theory_text.proofs.Runs.{First}
 use Rattle.tables.specs.Stamps.{Marks, Fresh, Mark-post}
 use Rattle.tables.specs.declared.Marked.{Marked}
 use Rattle.tables.specs.declared.Marked.the-variants as Mark
 use Rattle.tables.proofs.Laws.{marks-start}
-use Rattle.dimacs.specs.Items.{number-item, Item-post, Read, Ended}
+use Rattle.dimacs.specs.Clause.{number-item, item-after, word-item, Item-marks, Item-post, Clause-read, ended, clause-by, first-clause, Read}
 use Rattle.dimacs.specs.declared.Item.{Item}
 use Rattle.dimacs.specs.declared.Item.the-variants as Item
 
@@ -46,142 +49,128 @@ module _ (v : ℕ) (o : Option ℤ) where
     pub item-literal : eqb 0 (natAbs l) ≡ false → natAbs l ≤ v → Item.Literal l ≡ number-item v o
     item-literal q h = let r = number-answer o (sym e) in rw (r .0, q, le-ltb v (natAbs l) h) refl
 
+-- a literal is one of the variables
+number-low : (v : ℕ) (o : Option ℤ) (l : ℤ) → Item.Literal l ≡ number-item v o → natAbs l ≤ v
+number-low v none l e = absurd (let z : _≡_ {A = ℕ} 0 1 = cc in omega arith)
+number-low v (some k) l e = go (eqb 0 (natAbs k)) (ltb v (natAbs k)) (ltb-false v (natAbs k)) e
+  where
+    go : (a b : Bool) → (b ≡ false → natAbs k ≤ v) → Item.Literal l ≡ cond a Item.Zero (cond b (Item.Fault 4) (Item.Literal k)) → natAbs l ≤ v
+    go true b h q = absurd (let z : _≡_ {A = ℕ} 0 1 = cc in omega arith)
+    go false true h q = absurd (let z : _≡_ {A = ℕ} 0 1 = cc in omega arith)
+    go false false h q = let z : l ≡ k = cc in rw z (h refl)
+
 -- ---- a word in its clause
 
--- what a word by itself says of it in its clause
-abbrev Says : ℕ → Bool → Clause → Word-read → Item → Type 0
-Says v full here r (Item.Fault n) = r ≡ bad n
-Says v full here r Item.Zero = r ≡ zero
-Says v full here r (Item.Literal l) = (natAbs l ≤ v) × (r ≡ bad-if (holds l here) 5 (bad-if (holds (negℤ l) here) 6 (bad-if full 9 (literal l))))
+module _ (v : ℕ) (w : Bytes) (i : Item) (e : i ≡ number-item v (number w)) where
+  -- by what it says by itself
+  says : (here : Clause) (j : Item) → i ≡ j → item-after here j ≡ word-item v here w
+  unfolding word-item
+  says here j q = ap (item-after here) (sym q ∙ e)
 
-item-says : (v : ℕ) (full : Bool) (here : Clause) (o : Option ℤ) → Says v full here (number-read v full here o) (number-item v o)
-item-says v full here none = refl
-item-says v full here (some l) = go (eqb 0 (natAbs l)) (ltb v (natAbs l)) (ltb-false v (natAbs l))
-  where
-    go : (a b : Bool) → (b ≡ false → natAbs l ≤ v) → Says v full here (cond a zero (bad-if b 4 (bad-if (holds l here) 5 (bad-if (holds (negℤ l) here) 6 (bad-if full 9 (literal l)))))) (cond a Item.Zero (cond b (Item.Fault 4) (Item.Literal l)))
-    go true b h = refl
-    go false true h = refl
-    go false false h = (h refl, refl)
+  module _ (here : Clause) (table : List ℕ) (stamp : ℕ) where
+    pub word-fault : (n : ℕ) → i ≡ Item.Fault n → Item-post v here w table stamp (Item.Fault n)
+    word-fault n q = record { is = says here (Item.Fault n) q; marks = tt }
 
-module _ (v : ℕ) (full : Bool) (w : Bytes) (i : Item) (e : i ≡ number-item v (number w)) where
-  says : (here : Clause) → Says v full here (number-read v full here (number w)) i
-  says here = subst (Says v full here (number-read v full here (number w))) (sym e) (item-says v full here (number w))
-
-  pub word-fault : (n : ℕ) (here : Clause) → i ≡ Item.Fault n → word-read v full here w ≡ bad n
-  unfolding word-read
-  word-fault n here q = subst (Says v full here (number-read v full here (number w))) q (says here)
-
-  pub word-zero : (here : Clause) → i ≡ Item.Zero → word-read v full here w ≡ zero
-  unfolding word-read
-  word-zero here q = subst (Says v full here (number-read v full here (number w))) q (says here)
+    pub word-zero : i ≡ Item.Zero → Marks table stamp here → Item-post v here w table stamp Item.Zero
+    word-zero q k = record { is = says here Item.Zero q; marks = k }
 
   module _ (l : ℤ) (q : i ≡ Item.Literal l) where
     pub literal-low : natAbs l ≤ v
-    literal-low = subst (Says v full [] (number-read v full [] (number w))) q (says []) .0
-
-    word-literal : (here : Clause) → word-read v full here w ≡ bad-if (holds l here) 5 (bad-if (holds (negℤ l) here) 6 (bad-if full 9 (literal l)))
-    unfolding word-read
-    word-literal here = subst (Says v full here (number-read v full here (number w))) q (says here) .1
+    literal-low = number-low v (number w) l (sym q ∙ e)
 
     -- by what its mark says
     module _ (here : Clause) (table : List ℕ) (stamp : ℕ) (m : Marked) (g : Mark-post here l table stamp m) where
-      pub word-repeated : m ≡ Mark.Repeated → word-read v full here w ≡ bad 5
-      word-repeated e =
-          let k = subst (Mark-post here l table stamp) e g in
-          word-literal here ∙ rw (k .0) refl
+      pub word-repeated : m ≡ Mark.Repeated → Item-post v here w table stamp (Item.Fault 5)
+      word-repeated z =
+          let k = subst (Mark-post here l table stamp) z g in
+          record { is = rw (k .0) at (says here (Item.Literal l) q); marks = tt }
 
-      pub word-opposed : m ≡ Mark.Opposed → word-read v full here w ≡ bad 6
-      word-opposed e =
-          let k = subst (Mark-post here l table stamp) e g in
-          word-literal here ∙ rw (k .0, k .1) refl
+      pub word-opposed : m ≡ Mark.Opposed → Item-post v here w table stamp (Item.Fault 6)
+      word-opposed z =
+          let k = subst (Mark-post here l table stamp) z g in
+          record { is = rw (k .0, k .1) at (says here (Item.Literal l) q); marks = tt }
 
-      module _ (z : m ≡ Mark.New) where
-        new-literal : word-read v full here w ≡ bad-if full 9 (literal l)
-        new-literal =
-            let k = subst (Mark-post here l table stamp) z g in
-            word-literal here ∙ rw (k .0, k .1) refl
+      pub word-new : m ≡ Mark.New → Item-post v here w table stamp (Item.Literal l)
+      word-new z =
+          let k = subst (Mark-post here l table stamp) z g in
+          record { is = rw (k .0, k .1) at (says here (Item.Literal l) q); marks = k .2 }
 
-        pub word-full : full ≡ true → word-read v full here w ≡ bad 9
-        word-full f = new-literal ∙ ap (λ (b : Bool). bad-if b 9 (literal l)) f
-
-        pub word-new : full ≡ false → (word-read v full here w ≡ literal l) × Marks table stamp (here ++ (l ∷ []))
-        word-new f = (new-literal ∙ ap (λ (b : Bool). bad-if b 9 (literal l)) f, subst (Mark-post here l table stamp) z g .2)
-
--- a literal that may be read is not one too many
-not-full : (v : ℕ) (full : Bool) (here : Clause) (w : Bytes) (l : ℤ) → word-read v full here w ≡ literal l → full ≡ false
-unfolding word-read
-not-full v false here w l e = refl
-not-full v true here w l e = go (number w) e
-  where
-    by : (a b c d : Bool) → cond a zero (bad-if b 4 (bad-if c 5 (bad-if d 6 (bad 9)))) ≡ literal l → true ≡ false
-    by true b c d q = absurd (let z : _≡_ {A = ℕ} 0 1 = cc in omega arith)
-    by false true c d q = absurd (let z : _≡_ {A = ℕ} 0 1 = cc in omega arith)
-    by false false true d q = absurd (let z : _≡_ {A = ℕ} 0 1 = cc in omega arith)
-    by false false false true q = absurd (let z : _≡_ {A = ℕ} 0 1 = cc in omega arith)
-    by false false false false q = absurd (let z : _≡_ {A = ℕ} 0 1 = cc in omega arith)
-
-    go : (o : Option ℤ) → number-read v true here o ≡ literal l → true ≡ false
-    go none q = absurd (let z : _≡_ {A = ℕ} 0 1 = cc in omega arith)
-    go (some k) q = by (eqb 0 (natAbs k)) (ltb v (natAbs k)) (holds k here) (holds (negℤ k) here) q
+pub ended-some : (n : ℕ) → (n ≡ 0 → ⊥) → 7 ≡ ended n
+ended-some zero h = absurd (h refl)
+ended-some (suc n) h = refl
 
 -- ---- the clause
 
-module _ (most : Limits) (v before stamp : ℕ) (text : Bytes) where
-  -- the literals read so far, from which the rest of the words gives the whole
-  pub record Going (table : List ℕ) (at total : ℕ) : Type 0 where
+module _ (v room stamp : ℕ) (text : Bytes) (old : List ℤ) where
+  -- the literals read so far are stored after the header's place, and the rest of the words gives the whole
+  pub record Going (table : List ℕ) (store : List ℤ) (at n : ℕ) : Type 0 where
     pub here : Clause
     pub inside : at ≤ length text
-    pub counted : total ≡ before + length here
-    pub few : total ≤ most .literals
+    pub counted : n ≡ length here
+    pub fewer : n ≤ at
+    pub few : n ≤ room
+    pub size : length store ≡ length old
+    pub stored : store ≡ sets old 1 here
     pub marks : Marks table stamp here
-    pub same : first-clause most v before here (words (drop at text)) ≡ first-clause most v before [] (words text)
+    pub same : first-clause v room here (words (drop at text)) ≡ first-clause v room [] (words text)
 
-  pub going-start : (table : List ℕ) → Fresh table stamp → before ≤ most .literals → Going table 0 before
-  going-start table f h = record { here = []; inside = omega arith; counted = omega arith; few = h; marks = marks-start table stamp f; same = refl }
+  pub going-start : (table : List ℕ) → Fresh table stamp → Going table old 0 0
+  going-start table f = record {
+    here = [];
+    inside = omega arith;
+    counted = refl;
+    fewer = omega arith;
+    few = omega arith;
+    size = refl;
+    stored = refl;
+    marks = marks-start table stamp f;
+    same = refl;
+  }
 
-  abbrev whole : Clause-read
-  whole = first-clause most v before [] (words text)
+module _ {v room stamp : ℕ} {text : Bytes} {old : List ℤ} {table : List ℕ} {store : List ℤ} {at n : ℕ} (g : Going v room stamp text old table store at n) where
+  abbrev whole : Checked Clause-read
+  whole = first-clause v room [] (words text)
 
-  module _ (table : List ℕ) (at total : ℕ) (g : Going table at total) where
-    pub going-end : words-by blank (drop at text) ≡ [] → Ended whole (total - before)
+  pub going-end : words-by blank (drop at text) ≡ [] → whole ≡ fault (ended n)
+  unfolding words first-clause
+  going-end e = sym (g .same) ∙ rw (e, ← g .counted) refl
+
+  module _ {s e : ℕ} (f : First blank text at s e) {after : List ℕ} {a : Item} (p : Item-post v (g .here) (take (e - s) (drop s text)) after stamp a) where
+    next : (i : Item) → a ≡ i → whole ≡ clause-by (leb room n) (g .here) (words (drop e text)) (λ h. first-clause v room h (words (drop e text))) i
     unfolding words first-clause
-    going-end e = record { here = g .here; is = sym (g .same) ∙ rw e refl; size = omega (arith, g .counted) }
+    next i q = sym (g .same) ∙ rw (f .words, ← g .counted, ← p .is, q) refl
 
-    module _ (s e : ℕ) (f : First blank text at s e) where
-      abbrev word : Bytes
-      word = take (e - s) (drop s text)
+    -- the marks after an item
+    marked : (i : Item) → a ≡ i → Item-marks after stamp (g .here) i
+    marked i q = subst (Item-marks after stamp (g .here)) q (p .marks)
 
-      next : (r : Word-read) → word-read v (leb (most .literals) total) (g .here) word ≡ r → whole ≡ clause-by (g .here) (words (drop e text)) (λ h. first-clause most v before h (words (drop e text))) r
-      unfolding words first-clause
-      next r q = sym (g .same) ∙ rw (f .words, ← g .counted, q) refl
+    pub going-fault : (m : ℕ) → a ≡ Item.Fault m → whole ≡ fault m
+    going-fault m q = next (Item.Fault m) q
 
-      module _ (after : List ℕ) (a : Item) (p : Item-post v (leb (most .literals) total) (g .here) word after stamp a) where
-        abbrev Told : Item → Type 0
-        Told i = Item-post v (leb (most .literals) total) (g .here) word after stamp i
+    pub going-done : room ≤ 1_000_000 → a ≡ Item.Zero → {new : List ℤ} → new ≡ set store 0 (header-of n) → Read text whole room old new after stamp e n
+    going-done few q {new} z = record {
+      clause = g .here;
+      is = next Item.Zero q;
+      size = sym (g .counted);
+      within = f .within;
+      few = g .few;
+      stored = z ∙ rw (header-small n (omega (arith, g .few)), g .stored) (sets-first (g .here) old 0 (pos n) ∙ ap (λ (k : ℕ). sets old 0 (pos k ∷ g .here)) (g .counted));
+      below = marked Item.Zero q .below;
+    }
 
-        pub going-fault : (n : ℕ) → a ≡ Item.Fault n → whole ≡ refused n
-        going-fault n e = next (bad n) (subst Told e p)
+    module _ (l : ℤ) (q : a ≡ Item.Literal l) where
+      pub going-full : room ≤ n → whole ≡ fault 9
+      going-full h = next (Item.Literal l) q ∙ rw (le-leb room n h) refl
 
-        pub going-done : a ≡ Item.Zero → Read text whole (most .literals) before after stamp e (total - before)
-        going-done z =
-            let q = subst Told z p in
-            record {
-              clause = g .here;
-              is = next zero (q .0);
-              size = omega (arith, g .counted);
-              within = f .within;
-              few = omega (arith, g .counted, g .few);
-              below = q .1 .below;
-            }
-
-        pub going-on : (l : ℤ) → a ≡ Item.Literal l → Going after e (total + 1)
-        going-on l z =
-            let q = subst Told z p in
-            record {
-              here = g .here ++ (l ∷ []);
-              inside = f .within;
-              counted = rw (length-append (g .here) (l ∷ [])) (omega (arith, g .counted));
-              few = omega (arith, leb-false (most .literals) total (not-full v (leb (most .literals) total) (g .here) word l (q .0)));
-              marks = q .1;
-              same = sym (next (literal l) (q .0));
-            }
+      pub going-on : n < room → {new : List ℤ} → new ≡ set store (n + 1) l → Going v room stamp text old after new e (n + 1)
+      going-on h {new} z = record {
+        here = g .here ++ (l ∷ []);
+        inside = f .within;
+        counted = rw (length-append (g .here) (l ∷ [])) (omega (arith, g .counted));
+        fewer = omega (arith, f .after, f .some, g .fewer);
+        few = omega arith;
+        size = ap length z ∙ length-set store (n + 1) l ∙ g .size;
+        stored = z ∙ rw (g .stored, g .counted) (ap (λ (k : ℕ). sets (sets old 1 (g .here)) k (l ∷ [])) (omega arith) ∙ sets-then (g .here) (l ∷ []) old 1);
+        marks = marked (Item.Literal l) q;
+        same = sym (next (Item.Literal l) q ∙ rw (lt-leb room n h) refl);
+      }

@@ -3,63 +3,92 @@ use mathlib.Core.Path.{_≡_, refl}
 use mathlib.Core.Bool.{Bool, true, false, cond}
 use mathlib.Core.List.{List, [], _∷_, _++_}
 use mathlib.Core.Option.{Option, some, none}
-use Prim.Native.Nat.{ℕ, _+_}
+use Prim.Native.Nat.{ℕ, zero, suc, _≤_}
 use lib.Dec.{eqb, leb, ltb}
 use lib.IntN.{ℤ, pos, negsuc, negℤ, natAbs}
-use lib.ListN.{length}
+use lib.ListN.{length, drop}
+use lib.Seq.{sets}
 use Rattle.definition.specs.Lists as Lists
+use Rattle.definition.specs.Checked.{Checked, fault, value}
 use Rattle.definition.specs.Literals.{Clause, holds}
 use Rattle.definition.specs.Literals as Literals
 use Rattle.definition.specs.Text.{Bytes, bytes, words, number}
 use Rattle.definition.specs.Text as Text
-use Rattle.definition.specs.Reading.{Limits, input-limits}
+use Rattle.tables.specs.Stamps.{At-most, Marks}
+use Rattle.dimacs.specs.Entries.{entry}
+use Rattle.dimacs.specs.declared.Item.{Item}
+use Rattle.dimacs.specs.declared.Item.the-variants as Item
+use Rattle.dimacs.specs.declared.ClauseRead.{ClauseRead}
+use Rattle.dimacs.specs.declared.ClauseRead.the-variants as ClauseRead
 
--- what a word of a clause says: a fault, the clause's end, or a literal
-pub data Word-read : Type 0 where
-  bad : ℕ → Word-read
-  zero : Word-read
-  literal : ℤ → Word-read
+-- ---- a word
 
-abbrev pub bad-if : Bool → ℕ → Word-read → Word-read
-bad-if true n r = bad n
-bad-if false n r = r
+-- what a number says by itself: 3, the clause's end, 4, or a literal
+abbrev pub number-item : ℕ → Option ℤ → Item
+number-item v none = Item.Fault 3
+number-item v (some l) = cond (eqb 0 (natAbs l)) Item.Zero (cond (ltb v (natAbs l)) (Item.Fault 4) (Item.Literal l))
 
--- a literal after those in here: 4, 5, 6, 9; full says whether there are as many literals as there may be
-abbrev pub literal-read : ℕ → Bool → Clause → ℤ → Word-read
-literal-read v full here l =
-    bad-if (ltb v (natAbs l)) 4
-    (bad-if (holds l here) 5
-    (bad-if (holds (negℤ l) here) 6
-    (bad-if full 9 (literal l))))
+-- the same after the literals in here: 5, 6
+abbrev pub item-after : Clause → Item → Item
+item-after here (Item.Fault n) = Item.Fault n
+item-after here Item.Zero = Item.Zero
+item-after here (Item.Literal l) = cond (holds l here) (Item.Fault 5) (cond (holds (negℤ l) here) (Item.Fault 6) (Item.Literal l))
 
-abbrev pub number-read : ℕ → Bool → Clause → Option ℤ → Word-read
-number-read v full here none = bad 3
-number-read v full here (some l) = cond (eqb 0 (natAbs l)) zero (literal-read v full here l)
+unfoldable pub word-item : ℕ → Clause → Bytes → Item
+word-item v here w = item-after here (number-item v (number w))
 
-unfoldable pub word-read : ℕ → Bool → Clause → Bytes → Word-read
-word-read v full here w = number-read v full here (number w)
+-- the marks after a word, of which those of the literals in here stood
+abbrev pub Item-marks : List ℕ → ℕ → Clause → Item → Type 0
+Item-marks table stamp here (Item.Fault n) = Unit {0}
+Item-marks table stamp here Item.Zero = Marks table stamp here
+Item-marks table stamp here (Item.Literal l) = Marks table stamp (here ++ (l ∷ []))
 
--- how the reading of a clause ends: a fault, the clause and the words after it, or the text's end and the literals read
-pub data Clause-read : Type 0 where
-  refused : ℕ → Clause-read
-  finished : Clause → List Bytes → Clause-read
-  ended : Clause → Clause-read
+-- what an answer says of a word after the literals in here, and of their marks
+pub record Item-post (v : ℕ) (here : Clause) (w : Bytes) (table : List ℕ) (stamp : ℕ) (i : Item) : Type 0 where
+  pub is : i ≡ word-item v here w
+  pub marks : Item-marks table stamp here i
 
--- by what its next word says; more goes on with one literal more
-abbrev pub clause-by : Clause → List Bytes → (Clause → Clause-read) → Word-read → Clause-read
-clause-by here ws more (bad n) = refused n
-clause-by here ws more zero = finished here ws
-clause-by here ws more (literal l) = more (here ++ (l ∷ []))
+-- ---- a clause
 
--- there are as many literals as there may be, before the clause and in it
-abbrev pub full : Limits → ℕ → Clause → Bool
-full most before here = leb (most .literals) (before + length here)
+-- a clause and the words after it
+pub record Clause-read : Type 0 where
+  pub clause : Clause
+  pub after : List Bytes
 
--- the clause at the start of words, after the literals in here and as many as before says in the clauses before
-unfoldable pub first-clause : Limits → ℕ → ℕ → Clause → List Bytes → Clause-read
-first-clause most v before here [] = ended here
-first-clause most v before here (w ∷ ws) = clause-by here ws (λ h. first-clause most v before h ws) (word-read v (full most before here) here w)
+abbrev pub finished : Clause → List Bytes → Checked Clause-read
+finished c ws = value (record { clause = c; after = ws })
 
-examples : (first-clause input-limits 3 0 [] (words (bytes "1 -2 0 3 0")) ≡ finished (pos 1 ∷ negsuc 1 ∷ []) (words (bytes "3 0"))) × (first-clause input-limits 3 0 [] (words (bytes "1 -1 0")) ≡ refused 6) × (first-clause input-limits 3 59_999 [] (words (bytes "1 2")) ≡ refused 9) × (first-clause input-limits 3 0 [] (words (bytes "1")) ≡ ended (pos 1 ∷ []))
-unfolding first-clause word-read input-limits Text.computing Lists.computing Literals.computing
+-- the text ends after so many literals of a clause: 7, or 8 where the clause is missing
+abbrev pub ended : ℕ → ℕ
+ended zero = 8
+ended (suc n) = 7
+
+-- by what the next word says: 9 where there are as many literals as there may be; more goes on with one literal more
+abbrev pub clause-by : Bool → Clause → List Bytes → (Clause → Checked Clause-read) → Item → Checked Clause-read
+clause-by full here ws more (Item.Fault n) = fault n
+clause-by full here ws more Item.Zero = finished here ws
+clause-by true here ws more (Item.Literal l) = fault 9
+clause-by false here ws more (Item.Literal l) = more (here ++ (l ∷ []))
+
+-- the clause at the start of words, after the literals in here; room says how many literals it may have
+unfoldable pub first-clause : ℕ → ℕ → Clause → List Bytes → Checked Clause-read
+first-clause v room here [] = fault (ended (length here))
+first-clause v room here (w ∷ ws) = clause-by (leb room (length here)) here ws (λ h. first-clause v room h ws) (word-item v here w)
+
+-- the clause that was read and is stored; the words after it are those of the text after the next place
+pub record Read (t : Bytes) (o : Checked Clause-read) (room : ℕ) (old new : List ℤ) (table : List ℕ) (stamp next count : ℕ) : Type 0 where
+  pub clause : Clause
+  pub is : o ≡ finished clause (words (drop next t))
+  pub size : length clause ≡ count
+  pub within : next ≤ length t
+  pub few : count ≤ room
+  pub stored : new ≡ sets old 0 (entry clause)
+  pub below : At-most table stamp
+
+abbrev pub Clause-post : Bytes → Checked Clause-read → ℕ → List ℤ → List ℤ → List ℕ → ℕ → ClauseRead → Type 0
+Clause-post t o room old new table stamp (ClauseRead.Fault n) = o ≡ fault n
+Clause-post t o room old new table stamp (ClauseRead.Done next count) = Read t o room old new table stamp next count
+
+examples : (first-clause 3 9 [] (words (bytes "1 -2 0 3 0")) ≡ finished (pos 1 ∷ negsuc 1 ∷ []) (words (bytes "3 0"))) × (first-clause 3 9 [] (words (bytes "1 -1 0")) ≡ fault 6) × (first-clause 3 1 [] (words (bytes "1 2")) ≡ fault 9) × (first-clause 3 9 [] (words (bytes "1")) ≡ fault 7)
+unfolding first-clause word-item Text.computing Lists.computing Literals.computing
 examples = (refl, refl, refl, refl)

@@ -1,14 +1,12 @@
--- The header line, by places in the text.
-use mathlib.Core.Path.{_≡_, refl}
+-- What the readers of the header line answer.
+use mathlib.Core.Path.{_≡_}
 use mathlib.Core.Bool.{_||_, cond}
-use mathlib.Core.List.{[], _∷_}
-use Prim.Native.Nat.{ℕ, suc, _≤_}
-use lib.Dec.{eqb, ltb}
-use lib.ListN.{length, take, drop}
+use Prim.Native.Nat.{_≤_}
+use lib.Dec.{ltb}
+use lib.ListN.{length, drop}
 use Rattle.definition.specs.Checked.{Checked, fault, value}
-use Rattle.definition.specs.Text.{Bytes, bytes, line-text, words}
-use Rattle.definition.specs.Text as Text
-use Rattle.definition.specs.Reading.{Header, Limits as Definition-limits}
+use Rattle.definition.specs.Text.{Bytes, words}
+use Rattle.definition.specs.Reading.{Header}
 use Rattle.text.specs.declared.Natural.{Natural}
 use Rattle.text.specs.declared.Natural.the-variants as Natural
 use Rattle.dimacs.specs.declared.Limits.{Limits}
@@ -16,25 +14,6 @@ use Rattle.dimacs.specs.declared.Counts.{Counts}
 use Rattle.dimacs.specs.declared.Counts.the-variants as Counts
 use Rattle.dimacs.specs.declared.Header as Code
 use Rattle.dimacs.specs.declared.Header.the-variants as Header
-
--- how many bytes stand before the first b
-unfoldable pub until : ℕ → Bytes → ℕ
-until b [] = 0
-until b (x ∷ t) = cond (eqb x b) 0 (suc (until b t))
-
--- the first line, whose LF stands at n unless the text ends there, without its end
-abbrev pub line-until : ℕ → Bytes → Bytes
-line-until n t = line-text (record { text = take n t; ended = ltb n (length t) })
-
--- the most that a text may have, as the definition names it
-abbrev pub limits-of : Limits → Definition-limits
-limits-of m = record { variables = m .variables; clauses = m .clauses; literals = m .literals }
-
--- limits that the reader's numbers can tell
-pub record Countable (m : Limits) : Type 0 where
-  pub variables : m .variables ≤ 70_000
-  pub clauses : m .clauses ≤ 1_000_000
-  pub literals : m .literals ≤ 1_000_000
 
 abbrev pub counts-by : Limits → Natural → Natural → Counts
 counts-by most Natural.NotANumber c = Counts.Fault 1
@@ -53,7 +32,3 @@ counts-of (value h) = Counts.Numbers (h .variables) (h .clauses)
 abbrev pub Header-post : Bytes → Checked Header → Code.Header → Type 0
 Header-post t o (Header.Fault n) = o ≡ fault n
 Header-post t o (Header.Numbers v c next) = (o ≡ value (record { variables = v; clauses = c; after = words (drop next t) })) × (next ≤ length t)
-
-example : line-until (until 10 (bytes "ab\r\nc")) (bytes "ab\r\nc") ≡ bytes "ab"
-unfolding until Text.computing
-example = refl

@@ -1,5 +1,6 @@
-pub mod Clause
+pub mod Limits
 pub mod HeaderLine
-pub mod Items
+pub mod Entries
+pub mod Clause
 pub mod Outcome
-pub mod Loading
+pub mod FormulaText

@@ -1,33 +1,66 @@
-// DIMACS CNF reading.
+// DIMACS CNF: a formula read into a store, and written from one.
 use tables::Marked;
+use text::Line;
 use text::Natural;
 use text::Number;
 use text::Word;
 ghost use mathlib.Core.Path.{_≡_};
 ghost use mathlib.Core.Bool.{false};
 ghost use mathlib.Core.List.{[], _++_};
-ghost use Prim.Native.Nat.{suc, _+_, _*_, _≤_};
-ghost use lib.ListN.{length, take, drop, set, replicate};
-ghost use lib.Seq.{sets};
-ghost use lib.IntN.{pos};
+ghost use Prim.Native.Nat.{_+_, _*_, _-_, _≤_, _<_, _^_};
+ghost use lib.ListN.{length, drop};
+ghost use Rattle.definition.specs.Lists.{for-each};
 ghost use Rattle.definition.specs.Literals.{Clause};
-ghost use Rattle.definition.specs.Text.{bytes, number, past-comments, words, fields};
-ghost use Rattle.definition.specs.Answer.{begins-with};
-ghost use Rattle.definition.specs.Checked.{value};
-ghost use Rattle.definition.specs.Calls.{read-back, buffer-after};
-ghost use Rattle.definition.specs.Reading.{Input, input-limits, read-back-limits, read-header-fields, read-header, read-clauses, read-formula};
-ghost use Rattle.dimacs.specs.Clause.{first-clause};
-ghost use Rattle.dimacs.specs.Outcome.{header-of, checked-of, read-back-of};
-ghost use Rattle.dimacs.specs.Loading.{literal-in, step-of, Step-post, Load-post, plains, capped-entries, entries, entries-of};
+ghost use Rattle.definition.specs.Text.{is, number, past-comments, words, fields};
+ghost use Rattle.definition.specs.Reading.{input-limits, read-back-limits, read-header-fields, read-header, read-clauses, read-formula};
+ghost use Rattle.definition.specs.Log.{clause-text, formula-text};
+ghost use Rattle.theory_text.specs.Runs.{letters};
+ghost use Rattle.theory_text.specs.HeaderLine.{marker};
+ghost use Rattle.text.specs.Output.{Put};
+ghost use Rattle.store.specs.Store.{Formed, stored, past};
 ghost use Rattle.tables.specs.Stamps.{Marks, Fresh};
-ghost use Rattle.dimacs.specs.Items.{number-item, Item-post, Clause-post};
-ghost use Rattle.dimacs.specs.HeaderLine.{until, line-until, limits-of, Countable, counts-by, counts-of, Header-post};
+ghost use Rattle.dimacs.specs.Limits.{limits-of, Countable};
+ghost use Rattle.dimacs.specs.HeaderLine.{counts-by, counts-of, Header-post};
+ghost use Rattle.dimacs.specs.Clause.{number-item, Item-post, ended, first-clause, Clause-post};
+ghost use Rattle.dimacs.specs.Outcome.{header-of, read-of, Filled};
+ghost use Rattle.dimacs.specs.FormulaText.{header-text, entry-text};
+
+// ---- limits
 
 // The most that a text may have.
 pub struct Limits {
     pub variables: u32,
     pub clauses: u32,
     pub literals: u32,
+}
+
+// Document 01's limits for the formula.
+pub fn input_limits() -> Limits
+    ensures { λ r. ⌜ (limits-of r ≡ input-limits) × Countable r ⌝ }
+{
+    Limits {
+        variables: 8000,
+        clauses: 20000,
+        literals: 60000,
+    }
+}
+
+// Document 01's limits for the new formula read back.
+pub fn read_back_limits() -> Limits
+    ensures { λ r. ⌜ (limits-of r ≡ read-back-limits) × Countable r ⌝ }
+{
+    Limits {
+        variables: 70000,
+        clauses: 300000,
+        literals: 1000000,
+    }
+}
+
+// How many entries of workspace a formula needs.
+pub fn workspace_need(variables: u32, clauses: u32, literals: u32) -> usize
+    ensures { λ r. ⌜ r ≡ 20 * literals + 2 * clauses + 6 * variables + 8192 ⌝ }
+{
+    20 * (literals as usize) + 2 * (clauses as usize) + 6 * (variables as usize) + 8192
 }
 
 // ---- the header
@@ -67,61 +100,6 @@ fn skip_comments(text: &[u8]) -> usize
     at
 }
 
-// How many bytes stand before the first one with a value.
-fn find(text: &[u8], b: u8) -> usize
-    ensures { λ r. ⌜ r ≡ until b (now (text .entry)) ⌝ }
-{
-    let mut i = 0;
-    while i < text.len() {
-        if text[i] == b {
-            return i;
-        }
-        i += 1;
-    }
-    i
-}
-
-// The end of the first line's text, whose LF stands at end unless the text ends there.
-fn line_stop(text: &[u8], end: usize) -> usize
-    requires { ⌜ end ≤ length (now text) ⌝ }
-    ensures within { λ r. ⌜ r ≤ end ⌝ }
-    ensures line { λ r. ⌜ take r (now (text .entry)) ≡ line-until end (now (text .entry)) ⌝ }
-{
-    if end == text.len() {
-        return end;
-    }
-    if end == 0 {
-        return end;
-    }
-    let last = end - 1;
-    if text[last] == 13 { last } else { end }
-}
-
-// Whether a line begins with `p cnf `.
-fn is_header(line: &[u8]) -> bool
-    ensures { λ r. ⌜ r ≡ begins-with (bytes "p cnf ") (now (line .entry)) ⌝ }
-{
-    if line.len() < 6 {
-        return false;
-    }
-    if line[0] != 112 {
-        return false;
-    }
-    if line[1] != 32 {
-        return false;
-    }
-    if line[2] != 99 {
-        return false;
-    }
-    if line[3] != 110 {
-        return false;
-    }
-    if line[4] != 102 {
-        return false;
-    }
-    line[5] == 32
-}
-
 // V and C by what their words say.
 fn counts_from(v: Natural, c: Natural, most: Limits) -> Counts
     ensures { λ r. ⌜ r ≡ counts-by most v c ⌝ }
@@ -149,12 +127,26 @@ fn counts_from(v: Natural, c: Natural, most: Limits) -> Counts
     }
 }
 
+// The place of the first blank, or the text's end.
+fn first_blank(text: &[u8]) -> usize
+    ensures { λ r. ⌜ r ≡ letters (is " ") (now (text .entry)) ⌝ }
+{
+    let mut i = 0;
+    while i < text.len() {
+        if text[i] == 32 {
+            return i;
+        }
+        i += 1;
+    }
+    i
+}
+
 // V and C of a line that begins with `p cnf `, from what follows.
 fn split_counts(rest: &[u8], most: Limits) -> Counts
     requires { ⌜ Countable most ⌝ }
-    ensures { λ r. ⌜ r ≡ counts-of (read-header-fields (limits-of most) (fields (bytes "p cnf " ++ now (rest .entry))) []) ⌝ }
+    ensures { λ r. ⌜ r ≡ counts-of (read-header-fields (limits-of most) (fields (marker ++ now (rest .entry))) []) ⌝ }
 {
-    let first = find(rest, 32);
+    let first = first_blank(rest);
     if first == rest.len() {
         return Counts::Fault(1);
     }
@@ -169,29 +161,10 @@ fn read_counts(line: &[u8], most: Limits) -> Counts
     requires { ⌜ Countable most ⌝ }
     ensures { λ r. ⌜ r ≡ counts-of (read-header-fields (limits-of most) (fields (now (line .entry))) []) ⌝ }
 {
-    if is_header(line) {
+    if text::begins(line, b"p cnf ") {
         split_counts(&line[6..], most)
     } else {
         Counts::Fault(1)
-    }
-}
-
-// The header in the first line of a text.
-fn header_line(text: &[u8], most: Limits) -> Header
-    requires { ⌜ Countable most ⌝ }
-    ensures { λ r. ⌜ Header-post (now (text .entry)) (read-header-fields (limits-of most) (fields (line-until (until 10 (now (text .entry))) (now (text .entry)))) (drop (suc (until 10 (now (text .entry)))) (now (text .entry)))) r ⌝ }
-{
-    let end = find(text, 10);
-    let stop = line_stop(text, end);
-    match read_counts(&text[..stop], most) {
-        Counts::Fault(n) => Header::Fault(n),
-        Counts::Numbers(v, c) => {
-            if end < text.len() {
-                Header::Numbers(v, c, end + 1)
-            } else {
-                Header::Numbers(v, c, end)
-            }
-        }
     }
 }
 
@@ -201,13 +174,16 @@ fn read_header(text: &[u8], most: Limits) -> Header
     ensures { λ r. ⌜ Header-post (now (text .entry)) (read-header (limits-of most) (now (text .entry))) r ⌝ }
 {
     let at = skip_comments(text);
-    match header_line(&text[at..], most) {
-        Header::Fault(n) => Header::Fault(n),
-        Header::Numbers(v, c, next) => Header::Numbers(v, c, at + next),
+    match text::next_line(text, at) {
+        Line::End => Header::Fault(1),
+        Line::Text { start, end, next } => match read_counts(&text[start..end], most) {
+            Counts::Fault(n) => Header::Fault(n),
+            Counts::Numbers(v, c) => Header::Numbers(v, c, next),
+        },
     }
 }
 
-// ---- clauses
+// ---- a clause
 
 // What a word of a clause says: its end, a literal, or the number of a fault.
 enum Item {
@@ -216,12 +192,10 @@ enum Item {
     Fault(u8),
 }
 
-// How the reading of a clause ends: the place past it and the number of its literals; the number of a fault; or the
-// text's end and the number of literals read.
+// How the reading of a clause ends: the place past it and the number of its literals, or the number of a fault.
 enum ClauseRead {
-    Done(usize, u32),
+    Done(usize, usize),
     Fault(u8),
-    End(u32),
 }
 
 // What a word says by itself: 3, 4.
@@ -244,11 +218,11 @@ fn number_item(word: &[u8], variables: u32) -> Item
     }
 }
 
-// What a word says in its clause: 3, 4, 5, 6, 9.
-fn read_item(word: &[u8], seen: &mut [u32], stamp: u32, variables: u32, full: bool) -> Item
+// What a word says in its clause: 3, 4, 5, 6.
+fn read_item(word: &[u8], seen: &mut [u32], stamp: u32, variables: u32) -> Item
     requires { ⌜ variables ≤ 70000 ⌝ }
     requires { ⌜ 140002 ≤ length (now seen) ⌝ }
-    ensures { λ r. ⌜ ((here : Clause) → Marks (now (seen .entry)) stamp here → Item-post variables full here (now (word .entry)) (now (seen .exit)) stamp r) ⌝ }
+    ensures { λ r. ⌜ ((here : Clause) → Marks (now (seen .entry)) stamp here → Item-post variables here (now (word .entry)) (now (seen .exit)) stamp r) ⌝ }
 {
     match number_item(word, variables) {
         Item::Zero => Item::Zero,
@@ -256,284 +230,183 @@ fn read_item(word: &[u8], seen: &mut [u32], stamp: u32, variables: u32, full: bo
         Item::Literal(l) => match tables::mark(seen, stamp, l) {
             Marked::Repeated => Item::Fault(5),
             Marked::Opposed => Item::Fault(6),
-            Marked::New => {
-                if full {
-                    return Item::Fault(9);
-                }
-                Item::Literal(l)
-            }
+            Marked::New => Item::Literal(l),
         },
     }
 }
 
-// Reads the clause at the start of a text, after as many literals as before says. The table seen has an entry for each
-// literal, the stamp of the clause in which it was last read.
+// The number of a text that ends after so many literals of a clause: 7, or 8 where the clause is missing.
+fn ended(count: usize) -> u8
+    ensures { λ r. ⌜ r ≡ ended count ⌝ }
+{
+    if count == 0 { 8 } else { 7 }
+}
+
+// Reads the clause at the start of a text, of at most room literals, and stores it at the start of a store. The table seen
+// has an entry for each literal, the stamp of the clause in which it was last read.
 fn read_clause(
     text: &[u8],
     seen: &mut [u32],
     stamp: u32,
     variables: u32,
-    most: Limits,
-    before: u32,
+    room: usize,
+    store: &mut [i32],
 ) -> ClauseRead
     requires { ⌜ variables ≤ 70000 ⌝ }
     requires { ⌜ 140002 ≤ length (now seen) ⌝ }
     requires { ⌜ Fresh (now seen) stamp ⌝ }
-    requires { ⌜ before ≤ most .literals ⌝ }
-    ensures { λ r. ⌜ Clause-post (now (text .entry)) (first-clause (limits-of most) variables before [] (words (now (text .entry)))) (most .literals) before (now (seen .exit)) stamp r ⌝ }
+    requires { ⌜ room ≤ 1000000 ⌝ }
+    ensures { λ r. ⌜ Clause-post (now (text .entry)) (first-clause variables room [] (words (now (text .entry)))) room (now (store .entry)) (now (store .exit)) (now (seen .exit)) stamp r ⌝ }
 {
     let mut at = 0;
-    let mut total = before;
+    let mut n: usize = 0;
     loop {
         match text::next_word(text, at) {
             Word::End => {
-                return ClauseRead::End(total - before);
+                return ClauseRead::Fault(ended(n));
             }
-            Word::At(start, end) => {
-                let full = most.literals <= total;
-                match read_item(&text[start..end], seen, stamp, variables, full) {
-                    Item::Fault(n) => {
-                        return ClauseRead::Fault(n);
-                    }
-                    Item::Zero => {
-                        return ClauseRead::Done(end, total - before);
-                    }
-                    Item::Literal(_) => {
-                        total += 1;
-                        at = end;
-                    }
+            Word::At(start, end) => match read_item(&text[start..end], seen, stamp, variables) {
+                Item::Fault(f) => {
+                    return ClauseRead::Fault(f);
                 }
-            }
+                Item::Zero => {
+                    store::put(store, 0, literals::header(n));
+                    return ClauseRead::Done(end, n);
+                }
+                Item::Literal(l) => {
+                    if room <= n {
+                        return ClauseRead::Fault(9);
+                    }
+                    n += 1;
+                    store::put(store, n, l);
+                    at = end;
+                }
+            },
         }
     }
 }
 
-// ---- the checking pass
+// ---- the formula
 
-// V, C and L of a formula, or the number of the first fault.
-pub enum Checked {
-    Formula(u32, u32, u32),
+// V, C, L and how many elements of a store the clauses fill, or the number of the first fault.
+pub enum FormulaRead {
+    Formula(u32, u32, u32, usize),
     Fault(u8),
 }
 
-// Checks the clauses of a text that begins after its header.
-fn check_clauses(text: &[u8], variables: u32, clauses: u32, most: Limits) -> Checked
+// Reads the clauses of a text that begins after its header into a store. What lies past the store's end is counted, but not
+// stored.
+fn read_clauses(
+    text: &[u8],
+    variables: u32,
+    clauses: u32,
+    most: Limits,
+    store: &mut [i32],
+) -> FormulaRead
     requires { ⌜ variables ≤ 70000 ⌝ }
     requires { ⌜ clauses ≤ 1000000 ⌝ }
     requires { ⌜ most .literals ≤ 1000000 ⌝ }
-    ensures { λ r. ⌜ r ≡ checked-of (read-clauses (limits-of most) (header-of variables clauses (now (text .entry)))) ⌝ }
+    ensures outcome { λ r. ⌜ r ≡ read-of (read-clauses (limits-of most) (header-of variables clauses (now (text .entry)))) ⌝ }
+    ensures stored { λ _. ⌜ Filled (read-clauses (limits-of most) (header-of variables clauses (now (text .entry)))) (now (store .entry)) (now (store .exit)) ⌝ }
 {
     let mut seen = [0u32; 140002];
     let mut at = 0;
     let mut done: u32 = 0;
-    let mut total: u32 = 0;
+    let mut total: usize = 0;
+    let mut end: usize = 0;
     while done < clauses {
-        match read_clause(&text[at..], &mut seen, done + 1, variables, most, total) {
+        let room = most.literals as usize - total;
+        let to = literals::lower(end, store.len());
+        match read_clause(
+            &text[at..],
+            &mut seen,
+            done + 1,
+            variables,
+            room,
+            &mut store[to..],
+        ) {
             ClauseRead::Fault(n) => {
-                return Checked::Fault(n);
-            }
-            ClauseRead::End(n) => {
-                if n == 0 {
-                    return Checked::Fault(8);
-                }
-                return Checked::Fault(7);
+                return FormulaRead::Fault(n);
             }
             ClauseRead::Done(next, n) => {
                 at = at + next;
                 done += 1;
                 total = total + n;
+                end = end + n + 1;
             }
         }
     }
     match text::next_word(text, at) {
-        Word::At(_, _) => Checked::Fault(8),
-        Word::End => Checked::Formula(variables, clauses, total),
+        Word::At(_, _) => FormulaRead::Fault(8),
+        Word::End => FormulaRead::Formula(variables, clauses, total as u32, end),
     }
 }
 
-// Checks a text as a formula within limits.
-pub fn check(text: &[u8], most: Limits) -> Checked
+// Reads a text as a formula within limits, and stores its clauses, each its length and its literals, from the store's start
+// on, as far as the store goes.
+pub fn read(text: &[u8], most: Limits, store: &mut [i32]) -> FormulaRead
     requires { ⌜ Countable most ⌝ }
-    ensures { λ r. ⌜ r ≡ checked-of (read-formula (limits-of most) (now (text .entry))) ⌝ }
+    ensures outcome { λ r. ⌜ r ≡ read-of (read-formula (limits-of most) (now (text .entry))) ⌝ }
+    ensures stored { λ _. ⌜ Filled (read-formula (limits-of most) (now (text .entry))) (now (store .entry)) (now (store .exit)) ⌝ }
 {
     match read_header(text, most) {
-        Header::Fault(n) => Checked::Fault(n),
-        Header::Numbers(v, c, next) => check_clauses(&text[next..], v, c, most),
+        Header::Fault(n) => FormulaRead::Fault(n),
+        Header::Numbers(v, c, next) => read_clauses(&text[next..], v, c, most, store),
     }
 }
 
-// ---- the loading pass: what is written past the store's end is not stored
+// ---- the text of a formula
 
-// What stands next in a clause: a literal and the place past it, or the place past what ends the clause.
-enum Step {
-    Literal(i32, usize),
-    Stop(usize),
-}
-
-// The place past a clause in the text, and the number of its literals.
-struct Loaded {
-    pub next: usize,
-    pub count: usize,
-}
-
-// What a number says in a clause that is loaded, the place past it known.
-fn number_step(n: Number, end: usize) -> Step
-    ensures { λ r. ⌜ r ≡ step-of (literal-in n) end ⌝ }
+// Writes the header line of a formula.
+fn put_header(buf: &mut [u8], at: usize, h: u32, m: u32) -> usize
+    requires { ⌜ at + 28 < 2 ^ 64 ⌝ }
+    ensures written { λ r. ⌜ Put (now (buf .entry)) at (header-text h m) r (now (buf .exit)) ⌝ }
+    ensures within { λ r. ⌜ r ≤ at + 28 ⌝ }
 {
-    match n {
-        Number::Value(l) => {
-            if literals::is_zero(l) {
-                return Step::Stop(end);
-            }
-            Step::Literal(l, end)
-        }
-        Number::Large => Step::Stop(end),
-        Number::NotANumber => Step::Stop(end),
+    let a = text::put_text(buf, at, b"p cnf ");
+    let b = text::put_number(buf, a, h);
+    let c = text::put_byte(buf, b, 32);
+    let d = text::put_number(buf, c, m);
+    text::put_byte(buf, d, 10)
+}
+
+// Writes the clause at a place of a store if it stands.
+fn put_entry(buf: &mut [u8], end: usize, store: &[i32], at: usize) -> usize
+    requires { ⌜ (at < length (now store)) × Formed (drop at (now store)) ⌝ }
+    requires { ⌜ end + 12 * (length (now store) - at) < 2 ^ 64 ⌝ }
+    ensures written { λ r. ⌜ Put (now (buf .entry)) end (entry-text (now (store .entry)) at) r (now (buf .exit)) ⌝ }
+    ensures within { λ r. ⌜ r ≤ end + 12 * (past (now (store .entry)) at - at) ⌝ }
+{
+    if literals::is_negative(store[at]) {
+        return end;
     }
+    let next = store::next_at(store, at);
+    let first = at + 1;
+    text::put_clause(buf, end, &store[first..next])
 }
 
-// What stands next in a clause at a place of a text.
-fn next_step(text: &[u8], at: usize) -> Step
-    requires { ⌜ at ≤ length (now text) ⌝ }
-    ensures { λ r. ⌜ Step-post (now (text .entry)) at r ⌝ }
+// Writes the clauses that stand in a store, one a line.
+fn put_entries(buf: &mut [u8], from: usize, store: &[i32]) -> usize
+    requires { ⌜ Formed (now store) ⌝ }
+    requires { ⌜ from + 12 * length (now store) < 2 ^ 64 ⌝ }
+    ensures { λ r. ⌜ Put (now (buf .entry)) from (for-each (stored (now (store .entry))) clause-text) r (now (buf .exit)) ⌝ }
 {
-    match text::next_word(text, at) {
-        Word::At(start, end) => number_step(text::read_number(&text[start..end]), end),
-        Word::End => Step::Stop(text.len()),
-    }
-}
-
-// Stores an entry where the store has the place.
-fn put(store: &mut [i32], at: usize, l: i32)
-    ensures { λ _. ⌜ now (store .exit) ≡ set (now (store .entry)) at l ⌝ }
-{
-    if at < store.len() {
-        store[at] = l;
-    }
-}
-
-// Loads the clause at the start of a text into the start of a store.
-fn load_clause(text: &[u8], store: &mut [i32]) -> Loaded
-    ensures { λ r. ⌜ Load-post (now (text .entry)) (now (store .entry)) (now (store .exit)) (r .next) (r .count) ⌝ }
-{
+    let mut end = from;
     let mut at = 0;
-    let mut n = 0;
-    loop {
-        match next_step(text, at) {
-            Step::Stop(end) => {
-                put(store, 0, literals::header(n));
-                return Loaded {
-                    next: end,
-                    count: n,
-                };
-            }
-            Step::Literal(l, end) => {
-                n += 1;
-                put(store, n, l);
-                at = end;
-            }
-        }
+    while at < store.len() {
+        end = put_entry(buf, end, store, at);
+        at = store::next_at(store, at);
     }
+    end
 }
 
-// Loads so many clauses of a text that begins after its header.
-fn load_clauses(text: &[u8], clauses: u32, store: &mut [i32])
-    ensures { λ _. ⌜ now (store .exit) ≡ sets (now (store .entry)) 0 (capped-entries (plains clauses (words (now (text .entry))))) ⌝ }
+// Writes the formula of the clauses that stand in a store, m of them.
+pub fn write_formula(buf: &mut [u8], h: u32, m: u32, store: &[i32]) -> usize
+    requires { ⌜ Formed (now store) ⌝ }
+    requires { ⌜ m ≡ length (stored (now store)) ⌝ }
+    requires { ⌜ 12 * length (now store) + 28 < 2 ^ 64 ⌝ }
+    ensures { λ r. ⌜ Put (now (buf .entry)) 0 (formula-text h (stored (now (store .entry)))) r (now (buf .exit)) ⌝ }
 {
-    let mut at = 0;
-    let mut end = 0;
-    let mut done: u32 = 0;
-    while done < clauses {
-        let r = load_clause(&text[at..], &mut store[end..]);
-        let n = r.count;
-        if store.len() - end <= n {
-            return;
-        }
-        at = at + r.next;
-        end = end + n + 1;
-        done += 1;
-    }
-}
-
-// Loads an accepted formula into a store, clause by clause, each its length and its literals.
-pub fn load(text: &[u8], most: Limits, store: &mut [i32])
-    requires { ⌜ Countable most ⌝ }
-    ensures { λ _. ⌜ ((i : Input) → read-formula (limits-of most) (now (text .entry)) ≡ value i → now (store .exit) ≡ sets (now (store .entry)) 0 (entries (i .formula))) ⌝ }
-{
-    match read_header(text, most) {
-        Header::Fault(_) => {}
-        Header::Numbers(_, c, next) => {
-            load_clauses(&text[next..], c, store);
-        }
-    }
-}
-
-// ---- the new formula read back
-
-// V, C and L of the formula read back, or the number of the refusal.
-pub enum ReadBack {
-    Read(u32, u32, u32),
-    Refused(u8),
-}
-
-// Document 01's limits for the formula.
-pub fn input_limits() -> Limits
-    ensures { λ r. ⌜ (limits-of r ≡ input-limits) × Countable r ⌝ }
-{
-    Limits {
-        variables: 8000,
-        clauses: 20000,
-        literals: 60000,
-    }
-}
-
-// Document 01's limits for the new formula read back.
-pub fn read_back_limits() -> Limits
-    ensures { λ r. ⌜ (limits-of r ≡ read-back-limits) × Countable r ⌝ }
-{
-    Limits {
-        variables: 70000,
-        clauses: 300000,
-        literals: 1000000,
-    }
-}
-
-// How many entries of workspace a formula needs.
-pub fn workspace_need(variables: u32, clauses: u32, literals: u32) -> usize
-    ensures { λ r. ⌜ r ≡ 20 * literals + 2 * clauses + 6 * variables + 8192 ⌝ }
-{
-    20 * (literals as usize) + 2 * (clauses as usize) + 6 * (variables as usize) + 8192
-}
-
-// Makes every entry 0.
-fn zero_entries(store: &mut [i32])
-    ensures { λ _. ⌜ now (store .exit) ≡ replicate (length (now (store .entry))) (pos 0) ⌝ }
-{
-    let mut i = 0;
-    while i < store.len() {
-        store[i] = 0;
-        i += 1;
-    }
-}
-
-// Reads the new formula back into a store, or makes the store zero and answers the number of the refusal.
-pub fn read_back(text: &[u8], store: &mut [i32]) -> ReadBack
-    ensures outcome { λ r. ⌜ r ≡ read-back-of (read-back (length (now (store .entry))) (now (text .entry))) ⌝ }
-    ensures buffer { λ _. ⌜ now (store .exit) ≡ buffer-after (pos 0) (read-back (length (now (store .entry))) (now (text .entry))) entries-of (now (store .entry)) ⌝ }
-{
-    let most = read_back_limits();
-    match check(text, most) {
-        Checked::Fault(n) => {
-            zero_entries(store);
-            ReadBack::Refused(n)
-        }
-        Checked::Formula(v, c, l) => {
-            if store.len() < workspace_need(v, c, l) {
-                zero_entries(store);
-                return ReadBack::Refused(11);
-            }
-            load(text, most, store);
-            ReadBack::Read(v, c, l)
-        }
-    }
+    let end = put_header(buf, 0, h, m);
+    put_entries(buf, end, store)
 }

@@ -1,10 +1,7 @@
--- Answers: laws for callers. The others serve the functions of this crate.
+-- Loaded: laws of loaded lines for callers. The others serve the functions of this crate.
 pub mod Writing
-pub mod FormulaText
 pub mod Words
 pub mod Rest
-pub mod Reading
-pub mod Line
+pub mod Clause
 pub mod Log
-pub mod Loading
-pub mod Answers
+pub mod Loaded

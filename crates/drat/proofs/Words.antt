@@ -1,9 +1,7 @@
 -- Laws of the words of a line and of the rest of a line. Assumes nothing.
-use mathlib.Core.Path.{_≡_, refl, ap}
-use mathlib.Core.Bool.{Bool, true, false, not, _&&_}
-use mathlib.Core.List.{[], _∷_}
+use mathlib.Core.Path.{_≡_, ap}
+use mathlib.Core.Bool.{Bool, true, false, not}
 use Prim.Native.Nat.{ℕ, _+_, _-_, _≤_, _<_}
-use native.Mathlib.Omega.{arith}
 use lib.Dec.{eqb}
 use lib.IntN.{ℤ, natAbs}
 use lib.ListN.{length, getD, take, drop, drop-of-length-le}
@@ -11,7 +9,7 @@ use lib.Seq.{drop-cons}
 use borrow.Author.Tests.{ne-eqb}
 use Rattle.definition.specs.Text.{Bytes, bytes, is, same-bytes, number}
 use Rattle.text.specs.Numbers.{number-class}
-use Rattle.text.specs.Words.{run-end}
+use Rattle.theory_text.specs.Runs.{run-end}
 use Rattle.text.specs.declared.Number.{Number}
 use Rattle.text.specs.declared.Number.the-variants as Number
 use Rattle.drat.specs.declared.LineWord.the-variants as Word
@@ -30,28 +28,6 @@ blank-stops b e = rw e
 pub newline-stops : (b : ℕ) → (b ≡ 32 → ⊥) → b ≡ 10 → not (stops b) ≡ false
 unfolding is
 newline-stops b f e = rw e
-
--- ---- the word `0`
-
-and-true : (a : Bool) → a ≡ (a && true)
-and-true true = refl
-and-true false = refl
-
-pub one-byte : (w : Bytes) → length w ≡ 1 → eqb (getD w 0 0) 48 ≡ same-bytes w (bytes "0")
-unfolding same-bytes bytes
-one-byte [] h = absurd (omega arith)
-one-byte (b ∷ []) h = and-true (eqb b 48)
-one-byte (b ∷ c ∷ w) h = absurd (omega arith)
-
-pub not-one-byte : (w : Bytes) → (length w ≡ 1 → ⊥) → false ≡ same-bytes w (bytes "0")
-unfolding same-bytes bytes
-not-one-byte [] h = refl
-not-one-byte (b ∷ []) h = absurd (h refl)
-not-one-byte (b ∷ c ∷ w) h = go (eqb b 48)
-  where
-    go : (a : Bool) → false ≡ (a && false)
-    go true = refl
-    go false = refl
 
 -- ---- the answers
 

@@ -1,3 +1,3 @@
 pub mod Lines
+pub mod Loaded
 pub mod Reading
-pub mod Loading

@@ -1,30 +1,20 @@
 -- A proof line from its parts.
 use mathlib.Core.Path.{_≡_, refl}
-use mathlib.Core.Bool.{Bool, true, false, cond}
-use mathlib.Core.List.{List, [], _∷_, _++_}
-use Prim.Native.Nat.{ℕ}
-use lib.IntN.{ℤ, pos, negsuc}
+use mathlib.Core.Bool.{Bool, true, false}
+use mathlib.Core.List.{[], _∷_}
+use lib.IntN.{pos, negsuc}
 use Rattle.definition.specs.Lists as Lists
 use Rattle.definition.specs.Literals.{Clause}
-use Rattle.definition.specs.Text.{Bytes, bytes, digits}
+use Rattle.definition.specs.Text.{bytes}
 use Rattle.definition.specs.Text as Text
 use Rattle.definition.specs.Standing.{Line, addition, deletion}
-use Rattle.definition.specs.Log.{clause-text, log-line-text}
+use Rattle.definition.specs.Log.{log-line-text}
 use Rattle.definition.specs.Log as Log
-use Rattle.store.specs.Store.{deleted-at, clause-at}
 
 -- the line of a clause, by whether it is a deletion
 abbrev pub line-of : Bool → Clause → Line
 line-of true c = deletion c
 line-of false c = addition c
-
--- the header line of a formula
-unfoldable pub header-text : ℕ → ℕ → Bytes
-header-text h m = bytes "p cnf " ++ digits h ++ bytes " " ++ digits m ++ bytes "\n"
-
--- the clause at a place of a store, if it stands
-abbrev pub entry-text : List ℤ → ℕ → Bytes
-entry-text s at = cond (deleted-at s at) [] (clause-text (clause-at s at))
 
 examples : (log-line-text (line-of true (pos 12 ∷ negsuc 6 ∷ [])) ≡ bytes "d 12 -7 0\n") × (log-line-text (line-of false []) ≡ bytes "0\n")
 unfolding Log.computing Text.computing Lists.computing

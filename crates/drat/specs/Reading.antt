@@ -1,33 +1,30 @@
--- What the readers of kept lines answer: the definition's words, read from a place of the text on.
+-- What the readers of kept lines answer and store, beside the definition's outcome.
 use mathlib.Core.Path.{_≡_, refl}
-use mathlib.Core.Bool.{Bool, true, false, _&&_, _||_, cond}
-use mathlib.Core.List.{List, [], _∷_, _++_}
-use mathlib.Core.Option.{Option, some, none}
-use Prim.Native.Nat.{ℕ, _+_, _-_}
+use mathlib.Core.Bool.{Bool, true, false, _||_, cond}
+use mathlib.Core.List.{List, [], _∷_}
+use Prim.Native.Nat.{ℕ, _+_, _-_, _≤_}
 use lib.Dec.{eqb}
-use lib.IntN.{negsuc, natAbs}
+use lib.IntN.{ℤ, negsuc, natAbs}
 use lib.ListN.{length, take, drop}
+use lib.Seq.{sets}
 use Rattle.definition.specs.Lists as Lists
 use Rattle.definition.specs.Checked.{Checked, fault, value}
-use Rattle.definition.specs.Checked as Checked
 use Rattle.definition.specs.Literals.{Clause, highest}
-use Rattle.definition.specs.Literals as Literals
-use Rattle.definition.specs.Text.{Bytes, TextLine, bytes, is, text-lines, same-bytes, fields, number}
+use Rattle.definition.specs.Text.{Bytes, bytes, is, same-bytes, number}
 use Rattle.definition.specs.Text as Text
-use Rattle.definition.specs.Standing.{Line, addition, deletion, literals, highest-in}
-use Rattle.definition.specs.Standing as Standing
-use Rattle.definition.specs.LogReading.{read-line-clause, allowed-clause, read-line-fields, read-log, numbers-in}
-use Rattle.definition.specs.LogReading as LogReading
+use Rattle.definition.specs.Standing.{Line, literals, highest-in}
+use Rattle.definition.specs.LogReading.{numbers-in}
 use Rattle.text.specs.Numbers.{number-class}
-use Rattle.text.specs.Words.{run-end, leading}
+use Rattle.theory_text.specs.Runs.{run-end, leading}
 use Rattle.text.specs.declared.Number.{Number}
 use Rattle.text.specs.declared.Number.the-variants as Number
 use Rattle.drat.specs.declared.LineWord.{LineWord}
 use Rattle.drat.specs.declared.LineWord.the-variants as Word
 use Rattle.drat.specs.declared.LineRead.{LineRead}
 use Rattle.drat.specs.declared.LineRead.the-variants as Read
-use Rattle.drat.specs.declared.LogCheck.{LogCheck}
-use Rattle.drat.specs.declared.LogCheck.the-variants as Check
+use Rattle.drat.specs.declared.LogRead.{LogRead}
+use Rattle.drat.specs.declared.LogRead.the-variants as Log
+use Rattle.drat.specs.Loaded.{closed, line-entry, line-entries}
 
 -- ---- a word
 
@@ -57,67 +54,38 @@ line-word t at =
     let e = run-end stops false t at in
     word-answer e (take (e - at) (drop at t)) (drop e t)
 
--- ---- a line
+-- ---- a clause or a line: read up to a place, and its entry stored from a place on
 
--- the first line that an LF ends, without the LF
-abbrev pub first-ended : List TextLine → Option Bytes
-first-ended [] = none
-first-ended (l ∷ ls) = cond (l .ended) (some (l .text)) none
+pub record Stored-read {A : Type 0} (clause : A → Clause) (entry : A → List ℤ) (o : Checked (ℕ × A)) (next count top : ℕ) (old : List ℤ) (to : ℕ) (new : List ℤ) : Type 0 where
+  pub s : A
+  pub read : o ≡ value (next, s)
+  pub size : count ≡ length (clause s)
+  pub high : top ≡ highest (clause s)
+  pub room : count + 2 ≤ next
+  pub stored : new ≡ sets old to (entry s)
 
--- the clause that ends a line at the start of a text, and the line's bytes with its LF
-abbrev pub sized : ℕ → Option Clause → Option (ℕ × Clause)
-sized n none = none
-sized n (some c) = some (n, c)
+abbrev pub Clause-reads : Checked (ℕ × Clause) → LineRead → List ℤ → ℕ → List ℤ → Type 0
+Clause-reads o (Read.Line next count top) old to new = Stored-read (λ c. c) closed o next count top old to new
+Clause-reads o Read.Fault old to new = o ≡ fault 31
 
-abbrev pub ended-rest : Option Bytes → Option (ℕ × Clause)
-ended-rest none = none
-ended-rest (some u) = sized (length u + 1) (read-line-clause (fields u))
+abbrev pub Line-reads : Checked (ℕ × Line) → LineRead → List ℤ → ℕ → List ℤ → Type 0
+Line-reads o (Read.Line next count top) old to new = Stored-read literals line-entry o next count top old to new
+Line-reads o Read.Fault old to new = o ≡ fault 31
 
-unfoldable pub line-rest : Bytes → Option (ℕ × Clause)
-line-rest t = ended-rest (first-ended (text-lines t))
+-- ---- a log: G, the highest variable and how many elements the lines' entries fill, which are stored from a place on
 
--- the answer of a line's reader: the place past the line, whether it is a deletion, how many literals, the highest variable
-abbrev pub clause-answer : Bool → ℕ → Checked Clause → LineRead
-clause-answer d next (fault n) = Read.Fault
-clause-answer d next (value c) = Read.Line next d (length c) (highest c)
+pub record Kept (o : Checked (List Line)) (numbers top filled : ℕ) (old : List ℤ) (to : ℕ) (new : List ℤ) : Type 0 where
+  pub ss : List Line
+  pub read : o ≡ value ss
+  pub sum : numbers ≡ numbers-in ss
+  pub high : top ≡ highest-in ss
+  pub size : filled ≡ length (line-entries ss)
+  pub stored : new ≡ sets old to (line-entries ss)
 
--- where the line's literals c are read and the rest begins at a place
-abbrev pub rest-answer : Bool → ℕ → Clause → Option (ℕ × Clause) → LineRead
-rest-answer d at c none = Read.Fault
-rest-answer d at c (some r) = clause-answer d (at + r .0) (allowed-clause (some (c ++ r .1)))
+abbrev pub Log-reads : Checked (List Line) → LogRead → List ℤ → ℕ → List ℤ → Type 0
+Log-reads o (Log.Kept numbers top filled) old to new = Kept o numbers top filled old to new
+Log-reads o (Log.Fault n) old to new = o ≡ fault n
 
-abbrev pub deletes : Line → Bool
-deletes (addition c) = false
-deletes (deletion c) = true
-
-abbrev pub fields-answer : ℕ → Checked Line → LineRead
-fields-answer next (fault n) = Read.Fault
-fields-answer next (value s) = Read.Line next (deletes s) (length (literals s)) (highest (literals s))
-
-abbrev pub ended-answer : Option Bytes → LineRead
-ended-answer none = Read.Fault
-ended-answer (some u) = fields-answer (length u + 1) (read-line-fields (fields u))
-
--- the first line of a text
-unfoldable pub line-answer : Bytes → LineRead
-line-answer t = ended-answer (first-ended (text-lines t))
-
--- a text begins with `d` and a blank
-unfoldable pub begins-deletion : Bytes → Bool
-begins-deletion [] = false
-begins-deletion (b ∷ []) = false
-begins-deletion (b ∷ c ∷ t) = is "d" b && is " " c
-
--- ---- a log
-
-abbrev pub log-answer : Checked (List Line) → LogCheck
-log-answer (fault n) = Check.Fault n
-log-answer (value ss) = Check.Kept (numbers-in ss) (highest-in ss)
-
-examples : (line-word (bytes "d -12 0\n") 2 ≡ Word.Literal 6 (negsuc 11)) × (line-word (bytes "d -12 0\n") 6 ≡ Word.End 8) × (line-word (bytes "1  0\n") 2 ≡ Word.Fault) × (line-answer (bytes "d -12 0\n1 0\n") ≡ Read.Line 8 true 1 12) × (line-answer (bytes "1 -1 0\n") ≡ Read.Fault) × (line-answer (bytes "1 0") ≡ Read.Fault)
-unfolding line-word leading line-answer Literals.computing LogReading.computing Standing.computing Checked.computing Text.computing Lists.computing
-examples = (refl, refl, refl, refl, refl, refl)
-
-log-examples : (log-answer (read-log 2 (bytes "d -12 0\n1 0\n")) ≡ Check.Kept 4 12) × (log-answer (read-log 2 (bytes "d -12 0\n1 -1 0\n")) ≡ Check.Fault 31) × (log-answer (read-log 2 (bytes "d -12 0\n")) ≡ Check.Fault 34)
-unfolding Literals.computing LogReading.computing Standing.computing Checked.computing Text.computing Lists.computing
-log-examples = (refl, refl, refl)
+examples : (line-word (bytes "d -12 0\n") 2 ≡ Word.Literal 6 (negsuc 11)) × (line-word (bytes "d -12 0\n") 6 ≡ Word.End 8) × (line-word (bytes "1  0\n") 2 ≡ Word.Fault)
+unfolding line-word leading Text.computing Lists.computing
+examples = (refl, refl, refl)

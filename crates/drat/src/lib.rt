@@ -1,61 +1,23 @@
-// Proof lines: the log's lines and the formula's text are written; the kept lines of a log are read.
+// Proof lines: written into a log; the kept lines of a log are read into a store.
 use tables::Marked;
 ghost use mathlib.Core.Path.{_≡_};
-ghost use mathlib.Core.List.{[], _++_};
-ghost use Prim.Native.Nat.{_+_, _*_, _-_, _≤_, _<_, _^_, max};
-ghost use lib.ListN.{length, drop, set};
-ghost use lib.Seq.{sets};
-ghost use mathlib.Core.Bool.{false};
-ghost use Rattle.definition.specs.Lists.{for-each};
-ghost use Rattle.definition.specs.Text.{bytes, literal-text, same-bytes, number};
+ghost use mathlib.Core.List.{[]};
+ghost use Prim.Native.Nat.{_+_, _*_, _≤_, _<_, _^_};
+ghost use lib.ListN.{length, drop};
+ghost use mathlib.Core.Bool.{false, cond};
+ghost use Rattle.definition.specs.Text.{bytes, same-bytes, number};
 ghost use Rattle.definition.specs.LogReading.{read-log};
-ghost use Rattle.definition.specs.Log.{clause-text, log-line-text, formula-text};
+ghost use Rattle.definition.specs.Log.{log-line-text};
 ghost use Rattle.text.specs.Numbers.{number-class};
-ghost use Rattle.text.specs.Words.{run-end};
+ghost use Rattle.theory_text.specs.Runs.{run-end};
 ghost use Rattle.text.specs.Output.{Put};
-ghost use Rattle.theory_text.specs.ClauseText.{literals-text};
-ghost use Rattle.store.specs.Store.{Formed, stored, past};
+ghost use Rattle.theory_text.specs.LogLines.{first-read, begins-deletion, rest-read};
 ghost use Rattle.tables.specs.Stamps.{Fresh, At-most};
-ghost use Rattle.drat.specs.Lines.{line-of, header-text, entry-text};
-ghost use Rattle.drat.specs.Reading.{stops, literal-answer, line-word, line-rest, rest-answer, line-answer, begins-deletion, log-answer};
-ghost use Rattle.drat.specs.Loading.{closed, rest-clause, rest-size, Loadable, first-read, read-size, read-entry, Faultless, read-entries};
+ghost use Rattle.drat.specs.Lines.{line-of};
+ghost use Rattle.drat.specs.Loaded.{line-header};
+ghost use Rattle.drat.specs.Reading.{stops, literal-answer, line-word, Clause-reads, Line-reads, Log-reads};
 
 // ---- writing
-
-// Writes a literal and a blank.
-fn put_item(buf: &mut [u8], at: usize, l: i32) -> usize
-    requires { ⌜ at + 12 < 2 ^ 64 ⌝ }
-    ensures { λ r. ⌜ Put (now (buf .entry)) at (literal-text l ++ bytes " ") r (now (buf .exit)) ⌝ }
-{
-    let a = text::put_literal(buf, at, l);
-    text::put_byte(buf, a, 32)
-}
-
-// Writes literals, a blank after each.
-fn put_items(buf: &mut [u8], at: usize, clause: &[i32]) -> usize
-    requires { ⌜ at + 12 * length (now clause) < 2 ^ 64 ⌝ }
-    ensures written { λ r. ⌜ Put (now (buf .entry)) at (literals-text (now (clause .entry))) r (now (buf .exit)) ⌝ }
-    ensures within { λ r. ⌜ r ≤ at + 12 * length (now (clause .entry)) ⌝ }
-{
-    let mut end = at;
-    let mut i = 0;
-    while i < clause.len() {
-        end = put_item(buf, end, clause[i]);
-        i += 1;
-    }
-    end
-}
-
-// Writes a clause: its literals and 0, single blanks, LF after.
-fn put_clause(buf: &mut [u8], at: usize, clause: &[i32]) -> usize
-    requires { ⌜ at + 12 * length (now clause) + 2 < 2 ^ 64 ⌝ }
-    ensures written { λ r. ⌜ Put (now (buf .entry)) at (clause-text (now (clause .entry))) r (now (buf .exit)) ⌝ }
-    ensures within { λ r. ⌜ r ≤ at + 12 * length (now (clause .entry)) + 2 ⌝ }
-{
-    let a = put_items(buf, at, clause);
-    let b = text::put_byte(buf, a, 48);
-    text::put_byte(buf, b, 10)
-}
 
 // Writes a proof line from the start of a buffer: an added clause, or a deleted one with `d` before.
 pub fn write_line(buf: &mut [u8], is_deletion: bool, clause: &[i32]) -> usize
@@ -66,9 +28,9 @@ pub fn write_line(buf: &mut [u8], is_deletion: bool, clause: &[i32]) -> usize
     if is_deletion {
         let a = text::put_byte(buf, 0, 100);
         let b = text::put_byte(buf, a, 32);
-        put_clause(buf, b, clause)
+        text::put_clause(buf, b, clause)
     } else {
-        put_clause(buf, 0, clause)
+        text::put_clause(buf, 0, clause)
     }
 }
 
@@ -84,73 +46,6 @@ pub fn log_line(log: &mut [u8], at: usize, is_deletion: bool, clause: &[i32]) ->
         let end = log.len();
         at + write_line(&mut log[end..], is_deletion, clause)
     }
-}
-
-// Writes bytes.
-fn put_text(buf: &mut [u8], at: usize, text: &[u8]) -> usize
-    requires { ⌜ at + length (now text) < 2 ^ 64 ⌝ }
-    ensures { λ r. ⌜ Put (now (buf .entry)) at (now (text .entry)) r (now (buf .exit)) ⌝ }
-{
-    let mut i = 0;
-    while i < text.len() {
-        text::put_byte(buf, at + i, text[i]);
-        i += 1;
-    }
-    at + i
-}
-
-// Writes the header line of a formula.
-fn put_header(buf: &mut [u8], at: usize, h: u32, m: u32) -> usize
-    requires { ⌜ at + 28 < 2 ^ 64 ⌝ }
-    ensures written { λ r. ⌜ Put (now (buf .entry)) at (header-text h m) r (now (buf .exit)) ⌝ }
-    ensures within { λ r. ⌜ r ≤ at + 28 ⌝ }
-{
-    let a = put_text(buf, at, b"p cnf ");
-    let b = text::put_number(buf, a, h);
-    let c = text::put_byte(buf, b, 32);
-    let d = text::put_number(buf, c, m);
-    text::put_byte(buf, d, 10)
-}
-
-// Writes the clause at a place of a store if it stands.
-fn put_entry(buf: &mut [u8], end: usize, store: &[i32], at: usize) -> usize
-    requires { ⌜ (at < length (now store)) × Formed (drop at (now store)) ⌝ }
-    requires { ⌜ end + 12 * (length (now store) - at) < 2 ^ 64 ⌝ }
-    ensures written { λ r. ⌜ Put (now (buf .entry)) end (entry-text (now (store .entry)) at) r (now (buf .exit)) ⌝ }
-    ensures within { λ r. ⌜ r ≤ end + 12 * (past (now (store .entry)) at - at) ⌝ }
-{
-    if literals::is_negative(store[at]) {
-        return end;
-    }
-    let next = store::next_at(store, at);
-    let first = at + 1;
-    put_clause(buf, end, &store[first..next])
-}
-
-// Writes the clauses that stand in a store, one a line.
-fn put_entries(buf: &mut [u8], from: usize, store: &[i32]) -> usize
-    requires { ⌜ Formed (now store) ⌝ }
-    requires { ⌜ from + 12 * length (now store) < 2 ^ 64 ⌝ }
-    ensures { λ r. ⌜ Put (now (buf .entry)) from (for-each (stored (now (store .entry))) clause-text) r (now (buf .exit)) ⌝ }
-{
-    let mut end = from;
-    let mut at = 0;
-    while at < store.len() {
-        end = put_entry(buf, end, store, at);
-        at = store::next_at(store, at);
-    }
-    end
-}
-
-// Writes the formula of the clauses that stand in a store, m of them.
-pub fn write_formula(buf: &mut [u8], h: u32, m: u32, store: &[i32]) -> usize
-    requires { ⌜ Formed (now store) ⌝ }
-    requires { ⌜ m ≡ length (stored (now store)) ⌝ }
-    requires { ⌜ 12 * length (now store) + 28 < 2 ^ 64 ⌝ }
-    ensures { λ r. ⌜ Put (now (buf .entry)) 0 (formula-text h (stored (now (store .entry)))) r (now (buf .exit)) ⌝ }
-{
-    let end = put_header(buf, 0, h, m);
-    put_entries(buf, end, store)
 }
 
 // ---- reading kept lines
@@ -228,30 +123,25 @@ fn read_word(text: &[u8], at: usize) -> LineWord
     }
 }
 
-// A line read: the place past it, whether it is a deletion, how many literals, the highest variable.
+// A line read: the place past it, how many literals, the highest variable.
 enum LineRead {
-    Line(usize, bool, usize, u32),
+    Line(usize, usize, u32),
     Fault,
 }
 
-// The greater of two numbers.
-fn greater(a: u32, b: u32) -> u32
-    ensures { λ r. ⌜ r ≡ max a b ⌝ }
-{
-    if a < b { b } else { a }
-}
-
-// The clause of a line that starts at a place, each literal looked up in a table of stamps.
+// Reads the clause of a line that starts at a place, each literal looked up in a table of stamps; the literals and their number are stored.
 fn read_clause(
     text: &[u8],
     from: usize,
-    is_deletion: bool,
     seen: &mut [u32],
     stamp: u32,
+    store: &mut [i32],
+    to: usize,
 ) -> LineRead
     requires { ⌜ 140002 ≤ length (now seen) ⌝ }
     requires { ⌜ Fresh (now seen) stamp ⌝ }
-    ensures read { λ r. ⌜ r ≡ rest-answer «is_deletion» from [] (line-rest (drop from (now (text .entry)))) ⌝ }
+    requires { ⌜ to + length (now text) ≤ 2 ^ 64 ⌝ }
+    ensures read { λ r. ⌜ Clause-reads (rest-read from [] (drop from (now (text .entry)))) r (now (store .entry)) to (now (store .exit)) ⌝ }
     ensures table { λ _. ⌜ At-most (now (seen .exit)) stamp ⌝ }
 {
     let mut at = from;
@@ -261,9 +151,10 @@ fn read_clause(
         match read_word(text, at) {
             LineWord::Literal(next, l) => match tables::mark(seen, stamp, l) {
                 Marked::New => {
+                    store::put(store, to + count, l);
                     at = next;
                     count += 1;
-                    highest = greater(highest, literals::variable(l));
+                    highest = literals::higher_variable(highest, literals::variable(l));
                 }
                 Marked::Repeated => {
                     return LineRead::Fault;
@@ -273,7 +164,8 @@ fn read_clause(
                 }
             },
             LineWord::End(next) => {
-                return LineRead::Line(next, is_deletion, count, highest);
+                store::put(store, to + count, literals::header(count));
+                return LineRead::Line(next, count, highest);
             }
             LineWord::Fault => {
                 return LineRead::Fault;
@@ -292,142 +184,81 @@ fn starts_deletion(text: &[u8]) -> bool
     if text[0] == 100 { text[1] == 32 } else { false }
 }
 
-// The first line of a text, each literal looked up in a table of stamps.
-fn read_line(text: &[u8], seen: &mut [u32], stamp: u32) -> LineRead
+// Where the clause of a line begins.
+fn clause_start(is_deletion: bool) -> usize
+    ensures { λ r. ⌜ r ≡ cond «is_deletion» 2 0 ⌝ }
+{
+    if is_deletion { 2 } else { 0 }
+}
+
+// The header of a line.
+fn line_header(is_deletion: bool, count: usize) -> i32
+    ensures { λ r. ⌜ r ≡ line-header «is_deletion» count ⌝ }
+{
+    let h = literals::header(count);
+    if is_deletion { literals::flipped(h) } else { h }
+}
+
+// Reads the first line of a text, each literal looked up in a table of stamps; the line's entry is stored.
+fn read_line(text: &[u8], seen: &mut [u32], stamp: u32, store: &mut [i32], to: usize) -> LineRead
     requires { ⌜ 140002 ≤ length (now seen) ⌝ }
     requires { ⌜ Fresh (now seen) stamp ⌝ }
-    ensures read { λ r. ⌜ r ≡ line-answer (now (text .entry)) ⌝ }
+    requires { ⌜ (0 < length (now text)) × (to + length (now text) < 2 ^ 64) ⌝ }
+    ensures read { λ r. ⌜ Line-reads (first-read (now (text .entry))) r (now (store .entry)) to (now (store .exit)) ⌝ }
     ensures table { λ _. ⌜ At-most (now (seen .exit)) stamp ⌝ }
 {
-    if starts_deletion(text) {
-        read_clause(text, 2, true, seen, stamp)
-    } else {
-        read_clause(text, 0, false, seen, stamp)
+    let deletes = starts_deletion(text);
+    let from = clause_start(deletes);
+    match read_clause(text, from, seen, stamp, store, to + 1) {
+        LineRead::Line(next, count, highest) => {
+            store::put(store, to, line_header(deletes, count));
+            LineRead::Line(next, count, highest)
+        }
+        LineRead::Fault => LineRead::Fault,
     }
 }
 
-// The kept lines of a log: how many numbers, zeros counted, and the highest variable; or the number of the fault.
-pub enum LogCheck {
-    Kept(usize, u32),
+// The kept lines of a log: how many numbers, zeros counted, the highest variable, and how many elements their entries fill; or the
+// number of the fault.
+pub enum LogRead {
+    Kept(usize, u32, usize),
     Fault(u8),
 }
 
-// Reads the kept lines of a log, each with a stamp of its own.
-pub fn check_log(log: &[u8], kept: usize) -> LogCheck
-    ensures { λ r. ⌜ r ≡ log-answer (read-log kept (now (log .entry))) ⌝ }
+// Reads the kept lines of a log, each with a stamp of its own; their entries are stored from the store's start on, as far as it reaches.
+pub fn read_log(log: &[u8], kept: usize, store: &mut [i32]) -> LogRead
+    ensures { λ r. ⌜ Log-reads (read-log kept (now (log .entry))) r (now (store .entry)) 0 (now (store .exit)) ⌝ }
 {
     let mut seen = [0u32; 140002];
     let mut stamp: u32 = 1;
     let mut at = 0;
     let mut lines: usize = 0;
-    let mut numbers: usize = 0;
+    let mut filled: usize = 0;
     let mut highest: u32 = 0;
     while lines < kept {
         if log.len() <= at {
-            return LogCheck::Fault(34);
+            return LogRead::Fault(34);
         }
-        match read_line(&log[at..], &mut seen, stamp) {
-            LineRead::Line(next, _, count, variable) => {
+        match read_line(&log[at..], &mut seen, stamp, store, filled) {
+            LineRead::Line(next, count, variable) => {
                 stamp = tables::next_stamp(&mut seen, stamp);
                 at += next;
                 lines += 1;
-                numbers += count + 1;
-                highest = greater(highest, variable);
+                filled += count + 2;
+                highest = literals::higher_variable(highest, variable);
             }
             LineRead::Fault => {
-                return LogCheck::Fault(31);
+                return LogRead::Fault(31);
             }
         }
     }
-    LogCheck::Kept(numbers, highest)
+    LogRead::Kept(filled - kept, highest, filled)
 }
 
-// ---- loading kept lines
-
-// A line loaded: the place past it in the text, and how many literals.
-struct Loaded {
-    next: usize,
-    count: usize,
-}
-
-// Stores a number where the store has the place.
-fn store_number(store: &mut [i32], at: usize, l: i32)
-    ensures { λ _. ⌜ now (store .exit) ≡ set (now (store .entry)) at l ⌝ }
+// Reads the kept lines of a log; their entries are stored behind what fills the store up to a place, which may lie past its end.
+pub fn read_log_behind(log: &[u8], kept: usize, store: &mut [i32], to: usize) -> LogRead
+    ensures { λ r. ⌜ Log-reads (read-log kept (now (log .entry))) r (now (store .entry)) to (now (store .exit)) ⌝ }
 {
-    if at < store.len() {
-        store[at] = l;
-    }
-}
-
-// Stores the literals of a line that starts at a place, and their number after them.
-fn load_clause(text: &[u8], from: usize, store: &mut [i32], to: usize) -> Loaded
-    requires { ⌜ Loadable (line-rest (drop from (now text))) ⌝ }
-    requires { ⌜ to + length (rest-clause (line-rest (drop from (now text)))) < 2 ^ 64 ⌝ }
-    ensures next { λ r. ⌜ r .next ≡ from + rest-size (line-rest (drop from (now (text .entry)))) ⌝ }
-    ensures count { λ r. ⌜ r .count ≡ length (rest-clause (line-rest (drop from (now (text .entry))))) ⌝ }
-    ensures stored { λ _. ⌜ now (store .exit) ≡ sets (now (store .entry)) to (closed (rest-clause (line-rest (drop from (now (text .entry)))))) ⌝ }
-{
-    let mut at = from;
-    let mut count: usize = 0;
-    loop {
-        match read_word(text, at) {
-            LineWord::Literal(next, l) => {
-                store_number(store, to + count, l);
-                at = next;
-                count += 1;
-            }
-            LineWord::End(next) => {
-                store_number(store, to + count, literals::header(count));
-                return Loaded {
-                    next: next,
-                    count: count,
-                };
-            }
-            LineWord::Fault => {
-                return Loaded {
-                    next: at,
-                    count: count,
-                };
-            }
-        }
-    }
-}
-
-// Stores the entry of the first line of a text.
-fn load_line(text: &[u8], store: &mut [i32], to: usize) -> Loaded
-    requires { ⌜ Faultless (first-read (now text)) ⌝ }
-    requires { ⌜ to + length (read-entry (first-read (now text))) < 2 ^ 64 ⌝ }
-    ensures next { λ r. ⌜ r .next ≡ read-size (first-read (now (text .entry))) ⌝ }
-    ensures count { λ r. ⌜ r .count + 2 ≡ length (read-entry (first-read (now (text .entry)))) ⌝ }
-    ensures stored { λ _. ⌜ now (store .exit) ≡ sets (now (store .entry)) to (read-entry (first-read (now (text .entry)))) ⌝ }
-{
-    if starts_deletion(text) {
-        let r = load_clause(text, 2, store, to + 1);
-        let h = literals::header(r.count);
-        store_number(store, to, literals::flipped(h));
-        r
-    } else {
-        let r = load_clause(text, 0, store, to + 1);
-        store_number(store, to, literals::header(r.count));
-        r
-    }
-}
-
-// Stores the entries of the kept lines of a log from a place on; the result is the place past them.
-pub fn load_log(log: &[u8], kept: usize, store: &mut [i32], end: usize) -> usize
-    requires { ⌜ Faultless (read-log kept (now log)) ⌝ }
-    requires { ⌜ end + length (read-entries (read-log kept (now log))) < 2 ^ 64 ⌝ }
-    ensures next { λ r. ⌜ r ≡ end + length (read-entries (read-log kept (now (log .entry)))) ⌝ }
-    ensures stored { λ _. ⌜ now (store .exit) ≡ sets (now (store .entry)) end (read-entries (read-log kept (now (log .entry)))) ⌝ }
-{
-    let mut at = 0;
-    let mut lines: usize = 0;
-    let mut to = end;
-    while lines < kept {
-        let r = load_line(&log[at..], store, to);
-        at += r.next;
-        to += r.count + 2;
-        lines += 1;
-    }
-    to
+    let start = literals::lower(to, store.len());
+    read_log(log, kept, &mut store[start..])
 }

@@ -1,10 +1,10 @@
 // Literals are i32, negative for a negated variable; all arithmetic on signed numbers is here.
 ghost use mathlib.Core.Path.{_≡_};
-ghost use Prim.Native.Nat.{min};
+ghost use Prim.Native.Nat.{min, max};
 ghost use lib.Dec.{eqb};
 ghost use lib.IntN.{natAbs};
 ghost use Rattle.definition.specs.Literals.{same as same-literal};
-ghost use Rattle.literals.specs.Literal.{largest, negative, signed-of, negation, index-of, header-of, flip, header-literals};
+ghost use Rattle.literals.specs.Literal.{negative, signed-of, negation, index-of, header-of, flip, header-literals};
 
 // Whether a literal is a negated variable.
 pub fn is_negative(l: i32) -> bool
@@ -38,18 +38,32 @@ pub fn is_zero(l: i32) -> bool
     0 == variable(l)
 }
 
-// A count, cut off at the largest i32.
-fn capped(n: usize) -> usize
-    ensures { λ r. ⌜ r ≡ min n largest ⌝ }
+// The lower of two numbers.
+pub fn lower(a: usize, b: usize) -> usize
+    ensures { λ r. ⌜ r ≡ min a b ⌝ }
 {
-    if n < 2147483647 { n } else { 2147483647 }
+    if a < b { a } else { b }
+}
+
+// The higher of two numbers.
+pub fn higher(a: usize, b: usize) -> usize
+    ensures { λ r. ⌜ r ≡ max a b ⌝ }
+{
+    if a < b { b } else { a }
+}
+
+// The higher of two variables.
+pub fn higher_variable(a: u32, b: u32) -> u32
+    ensures { λ r. ⌜ r ≡ max a b ⌝ }
+{
+    if a < b { b } else { a }
 }
 
 // The literal of a sign and a variable.
 pub fn signed(negative: bool, n: u32) -> i32
     ensures { λ r. ⌜ r ≡ signed-of negative n ⌝ }
 {
-    let z = capped(n as usize) as i32;
+    let z = lower(n as usize, 2147483647) as i32;
     if negative { 0 - z } else { z }
 }
 
@@ -84,7 +98,7 @@ pub fn same(a: i32, b: i32) -> bool
 pub fn header(n: usize) -> i32
     ensures { λ r. ⌜ r ≡ header-of n ⌝ }
 {
-    capped(n) as i32
+    lower(n, 2147483647) as i32
 }
 
 // How many literals follow a header.

@@ -2,16 +2,19 @@
 ghost use mathlib.Core.Path.{_≡_};
 ghost use mathlib.Core.Bool.{true};
 ghost use mathlib.Core.List.{[], _∷_, _++_};
-ghost use Prim.Native.Nat.{_+_, _*_, _≤_, _<_, _^_};
-ghost use lib.ListN.{length, take};
+ghost use Prim.Native.Nat.{_+_, _-_, _*_, _≤_, _<_, _^_};
+ghost use lib.ListN.{length, take, drop};
 ghost use Rattle.definition.specs.Text.{bytes, literal-text};
 ghost use Rattle.definition.specs.Literals.{without, with-first};
-ghost use Rattle.definition.specs.Standing.{deletion};
+ghost use Rattle.definition.specs.Standing.{addition, deletion};
 ghost use Rattle.theory_text.specs.ClauseText.{literals-text};
+ghost use Rattle.literals.specs.Literal.{largest};
 ghost use Rattle.text.specs.Output.{Put};
 ghost use Rattle.store.specs.Store.{Formed};
 ghost use Rattle.drat.specs.Lines.{line-of};
 ghost use Rattle.progress.specs.Progress.{Written, Slid-down};
+ghost use Rattle.progress.specs.Growth.{Grow-room, Grown};
+use store::Added;
 
 // How far a run is: the store's end, the log's end and the lines in the log.
 pub struct Progress {
@@ -37,16 +40,6 @@ pub fn record_line(log: &mut [u8], p: Progress, is_deletion: bool, clause: &[i32
 
 // ---- a deletion with a literal first
 
-// Writes a literal and a blank.
-fn put_item(log: &mut [u8], at: usize, l: i32) -> usize
-    requires { ⌜ at + 12 < 2 ^ 64 ⌝ }
-    ensures written { λ r. ⌜ Put (now (log .entry)) at (literal-text l ++ bytes " ") r (now (log .exit)) ⌝ }
-    ensures within { λ r. ⌜ r ≤ at + 12 ⌝ }
-{
-    let a = text::put_literal(log, at, l);
-    text::put_byte(log, a, 32)
-}
-
 // Writes a literal and a blank, unless it is the first one.
 fn put_other(log: &mut [u8], at: usize, first: i32, l: i32) -> usize
     requires { ⌜ at + 12 < 2 ^ 64 ⌝ }
@@ -56,7 +49,7 @@ fn put_other(log: &mut [u8], at: usize, first: i32, l: i32) -> usize
     if literals::same(first, l) {
         return at;
     }
-    put_item(log, at, l)
+    text::put_item(log, at, l)
 }
 
 // Writes the literals of a clause without the first one, a blank after each.
@@ -82,7 +75,7 @@ fn put_first(log: &mut [u8], at: usize, first: i32) -> usize
 {
     let a = text::put_byte(log, at, 100);
     let b = text::put_byte(log, a, 32);
-    put_item(log, b, first)
+    text::put_item(log, b, first)
 }
 
 // Records the deletion of a clause with a literal first and the others in order.
@@ -116,5 +109,42 @@ pub fn slide_down(work: &mut [i32], p: Progress) -> Progress
         end: n,
         at: p.at,
         lines: p.lines,
+    }
+}
+
+// ---- clauses added behind the store
+
+// Adds a clause to the store, and records it.
+pub fn add_clause(work: &mut [i32], log: &mut [u8], p: Progress, clause: &[i32]) -> Progress
+    requires { ⌜ (length (now clause) ≤ largest) × Grow-room (now clause ∷ []) (length (now work)) p ⌝ }
+    ensures { λ r. ⌜ Grown (now (clause .entry) ∷ []) (now (work .entry)) (now (log .entry)) p (now (work .exit)) (now (log .exit)) r ⌝ }
+{
+    let from = p.end;
+    match store::append_clause(work, from, clause) {
+        Added::To(end) => {
+            let q = record_line(log, p, false, clause);
+            Progress {
+                end,
+                at: q.at,
+                lines: q.lines,
+            }
+        }
+        Added::Full => p,
+    }
+}
+
+// Records the clause whose entry was written from the store's end up to another place as added.
+pub fn record_added(work: &[i32], log: &mut [u8], p: Progress, next: usize) -> Progress
+    requires { ⌜ (p .end < next) × (next ≤ length (now work)) × (next ≤ p .end + 2 ^ 32) ⌝ }
+    requires { ⌜ (p .at < 2 ^ 63) × (p .lines < 2 ^ 63) ⌝ }
+    ensures written { λ r. ⌜ Written (addition (take (next - (p .end + 1)) (drop (p .end + 1) (now (work .entry)))) ∷ []) (now (log .entry)) p (now (log .exit)) r ⌝ }
+    ensures end { λ r. ⌜ r .end ≡ next ⌝ }
+{
+    let first = p.end + 1;
+    let q = record_line(log, p, false, &work[first..next]);
+    Progress {
+        end: next,
+        at: q.at,
+        lines: q.lines,
     }
 }

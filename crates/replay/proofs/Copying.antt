@@ -1,4 +1,4 @@
--- Elements copied further on in a slice. Assumes nothing.
+-- Elements copied further on in a slice.
 use mathlib.Core.Path.{_≡_, refl, sym, ap, ap₂, _∙_}
 use mathlib.Core.List.{List}
 use Prim.Native.Nat.{ℕ, _+_, _≤_, _<_}

@@ -1,4 +1,5 @@
--- The index of a store: what the links of a key's entries lead to. Assumes nothing.
+-- Why a walk along the links of a clause's key finds the first clause with its set: clauses with the same set have the same key, the walk meets the
+-- entries of the key from the last to the first, and the last match met is the first in the list.
 use mathlib.Core.Path.{_≡_, refl, sym, ap, ap₂, subst, _∙_}
 use mathlib.Core.Bool.{Bool, true, false, cond}
 use mathlib.Core.List.{List, [], _∷_, _++_, List·Memᴰ, List·Memᴰ·head as here, List·Memᴰ·tail as there}

@@ -1,4 +1,4 @@
--- The index of the clauses of a store: entered one by one. Assumes nothing.
+-- The index of a part of a slice: its clauses entered one by one, a clause added behind them, a clause deleted.
 use mathlib.Core.Path.{_≡_, refl, sym, ap, ap₂, subst, _∙_}
 use mathlib.Core.List.{List, _++_}
 use Prim.Native.Nat.{ℕ, _+_, _-_, _≤_, _<_}
@@ -14,10 +14,11 @@ use Rattle.store.specs.Store.{Formed, entry, header-at, past, marked, Place, pl
 use Rattle.store.specs.declared.Found.the-variants.{At}
 use Rattle.store.proofs.Finding.{hit}
 use Rattle.store.proofs.Laws.{place-start, place-within, place-next, place-formed, marked-place, added-formed}
-use Rattle.replay.specs.Replayed.{between, Clause-added}
+use Rattle.theory_base.specs.Slices.{between}
+use Rattle.replay.specs.Replayed.{Clause-added}
 use Rattle.replay.specs.Index.{keys, key-at, Indexed, Linkable, Linked}
-use Rattle.replay.proofs.Parts.{length-between, kept-between, marked-between, sets-between}
-use Rattle.replay.proofs.Linking.{indexed-none, indexed-next, indexed-more, indexed-marked}
+use Rattle.theory_base.proofs.Parts.{length-between, between-same, sets-between}
+use Rattle.replay.proofs.Linking.{marked-between, indexed-none, indexed-next, indexed-more, indexed-marked}
 
 -- ---- the loop of `index_all`: the entries before `at` are in the index
 
@@ -39,7 +40,7 @@ indexing-start old heads store end links p = record {
 
 module _ (old work : List ℤ) (first heads : List ℕ) (store end links at : ℕ) (p : Linkable old first store end links) (i : Indexing old work heads store end links at) where
   pub same-store : between store end work ≡ between store end old
-  same-store = kept-between store end links work old (p .within) (i .kept)
+  same-store = between-same store end links work old (p .within) (i .kept)
 
   store-length : length (between store end old) ≡ end - store
   store-length = length-between store end old (omega (arith, p .room, p .within))
@@ -56,7 +57,7 @@ module _ (old work : List ℤ) (first heads : List ℕ) (store end links at : �
       new-kept = ap (take links) d ∙ take-set-le links work (links + at) _ (omega arith) ∙ i .kept
 
       new-store : between store end new ≡ between store end old
-      new-store = kept-between store end links new old (p .within) new-kept
+      new-store = between-same store end links new old (p .within) new-kept
 
       pub entry-there : at < length (between store end new)
       entry-there = omega (arith, store-length, ap length new-store)
@@ -141,7 +142,7 @@ module _ (old added new : List ℤ) (heads table : List ℕ) (store end links : 
     new-links = ap (take links) d ∙ take-set-le links added (links + q) _ (omega arith)
 
     new-part : between store (end + (length c + 1)) new ≡ part
-    new-part = kept-between store (end + (length c + 1)) links new added room new-links ∙ part-added
+    new-part = between-same store (end + (length c + 1)) links new added room new-links ∙ part-added
 
     pub added-so : (r : ℕ) → r ≡ end + (length c + 1) → Clause-added old store end c r new
     added-so r x = record {

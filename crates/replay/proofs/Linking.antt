@@ -1,4 +1,4 @@
--- The index of a store kept: one entry more, a clause marked as deleted, elements behind it. Assumes nothing.
+-- The index of a store kept: one entry more, a clause marked as deleted, elements behind it.
 use mathlib.Core.Path.{_≡_, refl, sym, ap, ap₂, subst, _∙_}
 use mathlib.Core.Bool.{Bool, true, false, cond}
 use mathlib.Core.List.{List, [], _∷_, _++_}
@@ -11,6 +11,8 @@ use lib.ListN.{length, getD, set, take, drop, length-set, length-append, getD-re
 use lib.Seq.{take-append-le, take-at, take-length, length-take-le, getD-take, getD-set-same, getD-set-other, take-set-le, take-set-lt, drop-set-lt, drop-set-add}
 use borrow.Author.Tests.{eqb-true, eqb-false, ltb-true, ltb-false}
 use Rattle.definition.specs.Literals.{Clause}
+use Rattle.theory_base.specs.Slices.{between}
+use Rattle.theory_base.proofs.Parts.{getD-between, set-between}
 use Rattle.theory_base.proofs.Tests.{by-test}
 use Rattle.theory_base.proofs.Loops.{by-order}
 use Rattle.literals.specs.Literal.{largest, header-of, flip, header-literals}
@@ -19,6 +21,11 @@ use Rattle.store.specs.Store.{Formed-from, Formed, header-at, size-at, clause-a
 use Rattle.store.proofs.Laws.{place-within, place-end, place-formed, marked-place, formed-next, kept-clause, past-within}
 use Rattle.replay.specs.Index.{keys, key-of, key-at, last-from, last-with, Indexed}
 use Rattle.replay.proofs.Index.{key-within, by-entries, last-next, last-within}
+
+-- ---- a clause of a part marked as deleted
+
+pub marked-between : (a b : ℕ) (w : List ℤ) (p : ℕ) → p < b - a → between a b (marked w (a + p)) ≡ marked (between a b w) p
+marked-between a b w p h = set-between a b w p (flip (header-at w (a + p))) h ∙ ap (λ (x : ℤ). set (between a b w) p (flip x)) (sym (getD-between a b w p (pos 0) h))
 
 -- ---- one entry more
 

@@ -12,7 +12,7 @@ use Rattle.literals.specs.Literal.{largest, index-of, header-literals}
 use Rattle.store.specs.Store.{Formed, header-at, clause-at, Place}
 use Rattle.replay.specs.declared.Replayed.{Replayed}
 use Rattle.replay.specs.declared.Replayed.the-variants as Replayed
-use Rattle.replay.specs.Replayed.{between}
+use Rattle.theory_base.specs.Slices.{between}
 
 -- the greatest index that counts, and how many keys there are
 abbrev pub last-index : ℕ

@@ -1,4 +1,2 @@
-pub mod Lines
 pub mod Replayed
-pub mod Carried
 pub mod Index

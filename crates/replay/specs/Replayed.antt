@@ -3,25 +3,28 @@ use mathlib.Core.Path.{_≡_}
 use mathlib.Core.List.{List, _++_}
 use Prim.Native.Nat.{ℕ, _+_, _-_, _*_, _≤_}
 use lib.IntN.{ℤ}
-use lib.ListN.{length, take, drop}
+use lib.ListN.{length, take}
 use Rattle.definition.specs.Checked.{Checked, fault, value}
 use Rattle.definition.specs.Literals.{Clause, Formula}
 use Rattle.definition.specs.LogReading.{numbers-in}
 use Rattle.store.specs.Store.{Formed, stored, entry}
-use Rattle.replay.specs.Lines.{Loaded, lines-in}
+use Rattle.theory_base.specs.Slices.{between}
+use Rattle.drat.specs.Loaded.{Loaded, lines-in}
 use Rattle.replay.specs.declared.Replayed.{Replayed}
 use Rattle.replay.specs.declared.Replayed.the-variants as Replayed
 
--- the elements from place a up to place b
-abbrev pub between : ℕ → ℕ → List ℤ → List ℤ
-between a b s = take (b - a) (drop a s)
+-- the formula lies before n, the lines at n..m, with room behind them for a copy of the formula and what the lines add, and for as many links
+pub record Replayable (work : List ℤ) (n m : ℕ) : Type 0 where
+  pub before : n ≤ m
+  pub room : m + 2 * (n + numbers-in (lines-in (between n m work))) ≤ length work
+  pub formed : Formed (take n work)
+  pub loaded : Loaded (between n m work)
 
--- the lines lie before `store`, the clauses behind it, with room for what the lines add, and for links as many as what stands and what is added has numbers
-pub record Replayable (work : List ℤ) (lines store end : ℕ) : Type 0 where
+-- the lines lie before `store`, the clauses that they change at store..end, with room for what the lines add, and for as many links
+pub record Laid-out (work : List ℤ) (lines store end : ℕ) : Type 0 where
   pub before : lines ≤ store
   pub behind : store ≤ end
-  pub room : end + (store - lines) ≤ length work
-  pub links : store + 2 * ((end - store) + numbers-in (lines-in (between lines store work))) ≤ length work
+  pub room : store + 2 * ((end - store) + numbers-in (lines-in (between lines store work))) ≤ length work
   pub loaded : Loaded (between lines store work)
   pub formed : Formed (between store end work)
 

@@ -2,7 +2,7 @@
 ghost use mathlib.Core.Path.{_≡_};
 ghost use mathlib.Core.Bool.{cond};
 ghost use Prim.Native.Nat.{_+_, _≤_, _<_};
-ghost use lib.ListN.{length, take, drop};
+ghost use lib.ListN.{length, set, take, drop};
 ghost use lib.Seq.{sets};
 ghost use Rattle.definition.specs.Lists.{all};
 ghost use Rattle.definition.specs.Literals.{holds as holds-literal, same-set as same-literals};
@@ -229,6 +229,15 @@ pub fn delete_clause(store: &mut [i32], clause: &[i32]) -> bool
 }
 
 // ---- adding
+
+// Stores an element where the store has the place.
+pub fn put(store: &mut [i32], at: usize, l: i32)
+    ensures { λ _. ⌜ now (store .exit) ≡ set (now (store .entry)) at l ⌝ }
+{
+    if at < store.len() {
+        store[at] = l;
+    }
+}
 
 // Copies a clause's literals to a place.
 fn copy_at(work: &mut [i32], at: usize, clause: &[i32])

@@ -6,15 +6,16 @@ use mathlib.Core.Option.{Option, some, none}
 use Prim.Native.Nat.{ℕ, suc, _+_, _≤_, _<_, min}
 use native.Mathlib.Numerals.{add-one}
 use native.Mathlib.Omega.{arith}
-use lib.Dec.{leb}
-use lib.IntN.{ℤ, pos, negℤ, natAbs}
+use lib.Dec.{leb, ltb}
+use lib.IntN.{ℤ, pos, negℤ, negℤ-negℤ, natAbs}
 use lib.ListN.{length, getD, set, drop, length-set, replicate, length-replicate}
-use borrow.Author.Tests.{leb-true, leb-false}
+use borrow.Author.Tests.{leb-true, leb-false, ltb-true, ltb-false}
 use Rattle.definition.specs.Literals.{Clause, same}
 use Rattle.definition.specs.Order.{place-from}
 use Rattle.theory_base.proofs.Tests.{of-true, by-test}
 use Rattle.theory_base.proofs.Members.{same-eq, unlike-false, natAbs-neg}
 use Rattle.theory_base.specs.Clauses.{Proper, Fit-all}
+use Rattle.theory_base.proofs.Places.{place-of, place-at}
 use Rattle.theory_base.proofs.Slices.{drop-step, drop-end}
 use Rattle.literals.specs.Literal.{index-of, negation, negative, with-sign, largest}
 use Rattle.literals.proofs.Laws.{index-within, negation-small}
@@ -92,4 +93,26 @@ module _ (h : ℕ) (b : h < largest) (l : Clause) (a : Proper l) (u : Fit-all h 
 
 -- THE TABLE'S MEANING, over any reach
 pub places-of : (h : ℕ) → h < largest → (l : Clause) → Proper l → Fit-all h l → Places (with-numbers (replicate (h + h + 2) 0) 1 l) l
-places-of h b l a u m = by-test (leb (natAbs m) h) (λ e. place-inside h b l a u m (leb-true (natAbs m) h e)) (λ e. place-outside h b l a u m (leb-false (natAbs m) h e))
+places-of h b l a u = record { told = λ m. by-test (leb (natAbs m) h) (λ e. place-inside h b l a u m (leb-true (natAbs m) h e)) (λ e. place-outside h b l a u m (leb-false (natAbs m) h e)) }
+
+-- ---- what the table says of a literal
+
+module _ {t : List ℕ} {l : Clause} (v : Places t l) where
+  -- the negation of each literal of l has its place
+  pub place-there : Proper l → (i : ℕ) → i < length l → place-in t (negℤ (getD l i (pos 0))) ≡ i + 1
+  place-there a i h =
+      let e : 1 + i ≡ i + 1 = omega arith in
+      v .told (negℤ (getD l i (pos 0))) ∙ ap (λ (z : ℤ). number-of (place-from 1 z l)) (negℤ-negℤ (getD l i (pos 0))) ∙ ap number-of (place-at 1 l a i h) ∙ e
+
+  -- a literal with a place is the negation of the one there
+  pub place-back : (m : ℤ) → 0 < place-in t m → (i : ℕ) × (i < length l) × (m ≡ negℤ (getD l i (pos 0))) × (place-in t m ≡ i + 1)
+  place-back m h = go (place-from 1 (negℤ m) l) refl
+    where
+      go : (o : Option ℕ) → place-from 1 (negℤ m) l ≡ o → (i : ℕ) × (i < length l) × (m ≡ negℤ (getD l i (pos 0))) × (place-in t m ≡ i + 1)
+      go none e = let z : place-in t m ≡ 0 = v .told m ∙ ap number-of e in absurd (omega arith)
+      go (some p) e =
+          let r = place-of 1 (negℤ m) l p e in
+          (r .0, r .2, sym (negℤ-negℤ m) ∙ ap negℤ (sym (r .3)), omega (arith, v .told m, ap number-of e, r .1))
+
+  pub place-within : (m : ℤ) → place-in t m ≤ length l
+  place-within m = by-test (ltb 0 (place-in t m)) (λ e. let r = place-back m (ltb-true 0 (place-in t m) e) in omega (arith, r .1, r .3)) (λ e. omega (arith, ltb-false 0 (place-in t m) e))

@@ -9,7 +9,7 @@ ghost use Rattle.literals.specs.Literal.{index-of};
 ghost use Rattle.tables.specs.Sizes.{log-reach, log-size};
 ghost use Rattle.tables.specs.Entries.{entry-of as entry-at-literal, with-entries, counted-at, tallied};
 ghost use Rattle.tables.specs.Counts.{once-in, pure-in, unique-by};
-ghost use Rattle.tables.specs.Places.{with-numbers};
+ghost use Rattle.tables.specs.Places.{with-numbers, place-in};
 ghost use Rattle.tables.specs.Stamps.{Marks, Fresh, At-most, Mark-post};
 
 // The highest variable of an input, and the size of a table that reaches it.
@@ -78,6 +78,13 @@ pub fn set_places(table: &mut [u32], clause: &[i32])
         set_entry(table, clause[i], (i + 1) as u32);
         i += 1;
     }
+}
+
+// The place of a literal's negation, by the table of a choice; 0 if the choice does not hold it.
+pub fn place_of(table: &[u32], l: i32) -> u32
+    ensures { λ r. ⌜ r ≡ place-in (now (table .entry)) l ⌝ }
+{
+    entry_of(table, literals::negated(l))
 }
 
 // ---- counts

@@ -1,13 +1,12 @@
 -- The first word at a place of a text or after it, by the test that parts words.
 use mathlib.Core.Path.{_≡_, refl}
-use mathlib.Core.Bool.{Bool, true, false, not, cond}
-use mathlib.Core.List.{[], _∷_}
-use Prim.Native.Nat.{ℕ, suc, _+_}
+use mathlib.Core.Bool.{Bool, true, false, cond}
+use Prim.Native.Nat.{ℕ}
 use lib.Dec.{ltb}
-use lib.ListN.{drop}
 use Rattle.definition.specs.Text.{Bytes, bytes, blank}
 use Rattle.definition.specs.Text as Text
 use Rattle.definition.specs.Answer.{space-or-tab}
+use Rattle.theory_text.specs.Runs.{leading, run-end}
 use Rattle.text.specs.declared.Word.{Word}
 use Rattle.text.specs.declared.Word.the-variants.{At, End}
 
@@ -15,20 +14,6 @@ use Rattle.text.specs.declared.Word.the-variants.{At, End}
 abbrev pub separator : Bool → ℕ → Bool
 separator true = blank
 separator false = space-or-tab
-
--- a byte of a run of separators, or of other bytes
-abbrev pub in-run : (ℕ → Bool) → Bool → ℕ → Bool
-in-run separates true = separates
-in-run separates false = λ b. not (separates b)
-
--- how many bytes at the start pass a test
-unfoldable pub leading : (ℕ → Bool) → Bytes → ℕ
-leading p [] = 0
-leading p (b ∷ t) = cond (p b) (suc (leading p t)) 0
-
--- the place past a run that starts at a place
-abbrev pub run-end : (ℕ → Bool) → Bool → Bytes → ℕ → ℕ
-run-end separates parting t at = at + leading (in-run separates parting) (drop at t)
 
 abbrev pub word-between : ℕ → ℕ → Word
 word-between s e = cond (ltb s e) (At s e) End

@@ -1,13 +1,18 @@
-// Bytes to words and numbers, numbers to bytes.
+// Bytes to words, lines and numbers; numbers and clauses to bytes.
 ghost use mathlib.Core.Path.{_≡_};
 ghost use mathlib.Core.Bool.{true, false};
-ghost use mathlib.Core.List.{[], _∷_};
+ghost use mathlib.Core.List.{[], _∷_, _++_};
 ghost use Prim.Native.Nat.{_+_, _*_, _-_, _≤_, _<_, _^_, min};
 ghost use lib.ListN.{length, drop, set, replicate};
-ghost use Rattle.definition.specs.Text.{blank, digit, digits, literal-text, natural, number};
-ghost use Rattle.definition.specs.Answer.{space-or-tab};
+ghost use Rattle.definition.specs.Text.{bytes, blank, digit, digits, literal-text, natural, number};
+ghost use Rattle.definition.specs.Answer.{begins-with, space-or-tab};
+ghost use Rattle.definition.specs.Log.{clause-text};
+ghost use Rattle.theory_text.specs.Runs.{in-run, leading};
+ghost use Rattle.theory_text.specs.ClauseText.{literals-text};
+ghost use Rattle.theory_text.specs.TextLines.{Line-end, Trimmed};
 ghost use Rattle.text.specs.Numbers.{all-digits, natural-class, number-class, with-sign};
-ghost use Rattle.text.specs.Words.{separator, in-run, leading, word-at};
+ghost use Rattle.text.specs.Words.{separator, word-at};
+ghost use Rattle.text.specs.Lines.{Line-says};
 ghost use Rattle.text.specs.Output.{Put};
 
 // ---- bytes
@@ -225,6 +230,88 @@ pub fn next_word_of_line(line: &[u8], at: usize) -> Word
     word_from(false, line, at)
 }
 
+// ---- lines
+
+// A line of a text without its end, and the place past it; or the text's end.
+pub enum Line {
+    Text {
+        start: usize,
+        end: usize,
+        next: usize,
+    },
+    End,
+}
+
+// The place of the first LF at a place or after it, or the text's end.
+fn line_end(text: &[u8], at: usize) -> usize
+    requires { ⌜ at ≤ length (now text) ⌝ }
+    ensures { λ r. ⌜ Line-end (now (text .entry)) at r ⌝ }
+{
+    let mut i = at;
+    while i < text.len() {
+        if text[i] == 10 {
+            return i;
+        }
+        i += 1;
+    }
+    i
+}
+
+// The end of a line that ends with LF, without a CR directly before it.
+fn without_cr(text: &[u8], start: usize, end: usize) -> usize
+    requires { ⌜ (start ≤ end) × (end ≤ length (now text)) ⌝ }
+    ensures { λ r. ⌜ Trimmed (now (text .entry)) start end r ⌝ }
+{
+    if start == end {
+        return end;
+    }
+    if text[end - 1] == 13 {
+        return end - 1;
+    }
+    end
+}
+
+// The first line of the rest of a text.
+pub fn next_line(text: &[u8], at: usize) -> Line
+    ensures { λ r. ⌜ Line-says (now (text .entry)) at r ⌝ }
+{
+    if text.len() <= at {
+        return Line::End;
+    }
+    let end = line_end(text, at);
+    if end == text.len() {
+        return Line::Text {
+            start: at,
+            end,
+            next: end,
+        };
+    }
+    let trimmed = without_cr(text, at, end);
+    Line::Text {
+        start: at,
+        end: trimmed,
+        next: end + 1,
+    }
+}
+
+// Whether a line begins with some bytes.
+pub fn begins(line: &[u8], prefix: &[u8]) -> bool
+    ensures { λ r. ⌜ r ≡ begins-with (now (prefix .entry)) (now (line .entry)) ⌝ }
+{
+    if line.len() < prefix.len() {
+        return false;
+    }
+    let mut i = 0;
+    while i < prefix.len() {
+        if line[i] == prefix[i] {
+            i += 1;
+        } else {
+            return false;
+        }
+    }
+    true
+}
+
 // ---- output: a writer counts past the buffer's end and stores nothing there, so only the last caller asks whether all fitted
 
 // Stores a byte where the buffer has the place.
@@ -288,6 +375,59 @@ pub fn put_literal(buf: &mut [u8], at: usize, l: i32) -> usize
         put_number(buf, at, v)
     }
 }
+
+// Writes bytes.
+pub fn put_text(buf: &mut [u8], at: usize, text: &[u8]) -> usize
+    requires { ⌜ at + length (now text) < 2 ^ 64 ⌝ }
+    ensures { λ r. ⌜ Put (now (buf .entry)) at (now (text .entry)) r (now (buf .exit)) ⌝ }
+{
+    let mut i = 0;
+    while i < text.len() {
+        put_byte(buf, at + i, text[i]);
+        i += 1;
+    }
+    at + i
+}
+
+// ---- clauses
+
+// Writes a literal and a blank.
+pub fn put_item(buf: &mut [u8], at: usize, l: i32) -> usize
+    requires { ⌜ at + 12 < 2 ^ 64 ⌝ }
+    ensures written { λ r. ⌜ Put (now (buf .entry)) at (literal-text l ++ bytes " ") r (now (buf .exit)) ⌝ }
+    ensures within { λ r. ⌜ r ≤ at + 12 ⌝ }
+{
+    let a = put_literal(buf, at, l);
+    put_byte(buf, a, 32)
+}
+
+// Writes literals, a blank after each.
+fn put_items(buf: &mut [u8], at: usize, clause: &[i32]) -> usize
+    requires { ⌜ at + 12 * length (now clause) < 2 ^ 64 ⌝ }
+    ensures written { λ r. ⌜ Put (now (buf .entry)) at (literals-text (now (clause .entry))) r (now (buf .exit)) ⌝ }
+    ensures within { λ r. ⌜ r ≤ at + 12 * length (now (clause .entry)) ⌝ }
+{
+    let mut end = at;
+    let mut i = 0;
+    while i < clause.len() {
+        end = put_item(buf, end, clause[i]);
+        i += 1;
+    }
+    end
+}
+
+// Writes a clause: its literals and 0, single blanks, LF after.
+pub fn put_clause(buf: &mut [u8], at: usize, clause: &[i32]) -> usize
+    requires { ⌜ at + 12 * length (now clause) + 2 < 2 ^ 64 ⌝ }
+    ensures written { λ r. ⌜ Put (now (buf .entry)) at (clause-text (now (clause .entry))) r (now (buf .exit)) ⌝ }
+    ensures within { λ r. ⌜ r ≤ at + 12 * length (now (clause .entry)) + 2 ⌝ }
+{
+    let a = put_items(buf, at, clause);
+    let b = put_byte(buf, a, 48);
+    put_byte(buf, b, 10)
+}
+
+// ---- a buffer made zero
 
 // Makes every byte 0.
 pub fn zero_all(buf: &mut [u8])

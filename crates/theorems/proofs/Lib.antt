@@ -3,3 +3,4 @@ pub mod Texts
 pub mod WayBack
 pub mod Premise
 pub mod Refusals
+pub mod Aligning

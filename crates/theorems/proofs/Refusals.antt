@@ -10,13 +10,13 @@ use Rattle.definition.specs.Checked.{Checked, _>>=_, refuse-if, or-fault, throu
 use Rattle.definition.specs.Lists.{any, all}
 use Rattle.definition.specs.Literals.{Clause, Formula}
 use Rattle.definition.specs.Text.{Bytes, TextLine, bytes, text-lines, line-text, same-bytes}
-use Rattle.definition.specs.Reading.{Limits, input-limits, read-back-limits, Input, Header, Reader, read-header-fields, read-header-line, read-header, read-literal, read-word, end-text, read-clauses, read-formula}
+use Rattle.definition.specs.Reading.{Limits, input-limits, read-back-limits, Input, Header, Reader, read-header-fields, read-header-line, read-header, read-literal, read-word, end-text, read-clauses, read-formula, end-clause}
 use Rattle.definition.specs.Standing.{Line, addition, deletion, replay-line, replay}
 use Rattle.definition.specs.Assignments.{Assignment}
 use Rattle.definition.specs.LogReading.{read-line-clause, allowed-clause, read-line-fields, read-line, read-log}
 use Rattle.definition.specs.Answer.{Answer, begins-with, read-answer-word, read-answer-line, read-answer}
 use Rattle.definition.specs.Reencoding.{Settings}
-use Rattle.definition.specs.Calls.{reencode, assigned, highest-allowed, read-back, carry-answer, walk-back, buffer-after}
+use Rattle.definition.specs.Calls.{reencode, assigned, highest-allowed, read-back, carry-answer, walk-back, buffer-after, read-input}
 use Rattle.theory_base.proofs.Members.{any-mem, all-at}
 use Rattle.theorems.specs.Refusals.{formula-numbers, log-numbers, answer-numbers, reencode-numbers, read-back-numbers, walk-back-numbers, Listed, accepted, refused, Demand-1}
 
@@ -95,12 +95,17 @@ module _ (most : Limits) where
   literal-listed v r l =
       refuse-listed 4 _ tt (refuse-listed 5 _ tt (refuse-listed 6 _ tt (refuse-listed 9 _ tt accepted)))
 
+  -- the end of a clause: no number
+  end-clause-listed : (r : Reader) → Listed formula-numbers (end-clause r)
+  unfolding end-clause
+  end-clause-listed r = accepted
+
   -- a word: 8, 3, and those of a literal
   word-listed : (v c : ℕ) (r : Reader) (w : Bytes) → Listed formula-numbers (read-word most v c r w)
   unfolding read-word formula-numbers any
   word-listed v c r w =
       refuse-listed 8 _ tt
-      (bind-listed (or-fault-listed 3 _ tt) (λ n. cond-listed (eqb 0 (natAbs n)) accepted (literal-listed v r n)))
+      (bind-listed (or-fault-listed 3 _ tt) (λ n. cond-listed (eqb 0 (natAbs n)) (end-clause-listed r) (literal-listed v r n)))
 
   clauses-listed : (h : Header) → Listed formula-numbers (read-clauses most h)
   unfolding read-clauses
@@ -159,7 +164,7 @@ module _ (x : ℕ) where
 
 -- ---- the calls
 reencode-listed : (s : Settings) (workspace log-room formula-room : ℕ) (t : Bytes) → Listed reencode-numbers (reencode s workspace log-room formula-room t)
-unfolding reencode formula-numbers reencode-numbers any all
+unfolding reencode read-input formula-numbers reencode-numbers any all
 reencode-listed s workspace log-room formula-room t =
     bind-listed (listed-among tt (formula-listed input-limits t)) (λ i.
     refuse-listed 11 _ tt (refuse-listed 12 _ tt (refuse-listed 13 _ tt accepted)))
@@ -171,17 +176,17 @@ read-back-listed workspace t =
 
 -- a deletion without its clause: 32
 replay-line-listed : (f : Formula) (s : Line) → Listed walk-back-numbers (replay-line f s)
-unfolding replay-line walk-back-numbers any
+unfolding replay-line formula-numbers log-numbers answer-numbers walk-back-numbers any
 replay-line-listed f (addition c) = accepted
 replay-line-listed f (deletion c) = refuse-listed 32 _ tt accepted
 
 -- the answer tested and carried back: 44, 33, 14
 carry-listed : (room : ℕ) (i : Input) (ss : List Line) (standing : Formula) (a : Assignment) → Listed walk-back-numbers (carry-answer room i ss standing a)
-unfolding carry-answer walk-back-numbers any
+unfolding carry-answer formula-numbers log-numbers answer-numbers walk-back-numbers any
 carry-listed room i ss standing a = refuse-listed 44 _ tt (refuse-listed 33 _ tt (refuse-listed 14 _ tt accepted))
 
 walk-back-listed : (workspace room kept : ℕ) (t log answer : Bytes) → Listed walk-back-numbers (walk-back workspace room kept t log answer)
-unfolding walk-back replay formula-numbers log-numbers answer-numbers walk-back-numbers any all
+unfolding walk-back read-input replay formula-numbers log-numbers answer-numbers walk-back-numbers any all
 walk-back-listed workspace room kept t log answer =
     bind-listed (listed-among tt (formula-listed input-limits t)) (λ i.
     bind-listed (listed-among tt (log-listed kept log)) (λ ss.

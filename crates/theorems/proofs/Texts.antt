@@ -1,10 +1,11 @@
 -- Both texts, read back, say what was written, and what stands fits the workspace.
+use native.Mathlib.Omega.{arith}
 use Prim.Native.Nat.{_≤_}
 use lib.ListN.{length}
 use Rattle.definition.specs.Literals.{literals-of}
 use Rattle.definition.specs.Reading.{input-limits, read-back-limits}
 use Rattle.definition.specs.Reencoding.{log, result, highest-used}
-use Rattle.theory_text.proofs.Accepted.{accepted}
+use Rattle.theory_text.proofs.Accepted.{input-accepted}
 use Rattle.theory_text.specs.Accepted.{Accepted}
 use Rattle.theory_text.proofs.FormulaText.{formula-read-back}
 use Rattle.theory_text.proofs.LogText as LogText
@@ -24,16 +25,16 @@ texts t i e s = record {
 }
   where
     a : Accepted input-limits i
-    a = accepted input-limits t i e
+    a = input-accepted t i e
 
     run : Run s i
     run = accepted-run s i a
 
-    v : i .variables ≤ 8_000
-    v = a .variables-few
+    v : i .highest ≤ 8_000
+    v = a .highest-few
 
     c : length (i .formula) ≤ 20_000
-    c = a .clauses-few
+    c = omega (arith, a .formula-few, a .clauses-few)
 
     l : literals-of (i .formula) ≤ 60_000
     l = a .literals-few

@@ -16,10 +16,10 @@ use Rattle.definition.specs.Assignments.{Assignment, satisfies, carried-back}
 use Rattle.definition.specs.Log.{log-text}
 use Rattle.definition.specs.LogReading.{read-log}
 use Rattle.definition.specs.Answer.{read-answer}
-use Rattle.definition.specs.Reencoding.{input, log}
-use Rattle.definition.specs.Calls.{assigned, answer-text, highest-allowed, log-workspace-need, carry-answer, walk-back}
+use Rattle.definition.specs.Reencoding.{log}
+use Rattle.definition.specs.Calls.{assigned, answer-text, highest-allowed, log-workspace-need, carry-answer, walk-back, read-input}
 use Rattle.theory_base.proofs.Tests.{to-true}
-use Rattle.theory_text.proofs.Accepted.{accepted}
+use Rattle.theory_text.proofs.Accepted.{input-accepted, input-highest}
 use Rattle.theory_text.proofs.AnswerText.{Answered, answer-read}
 use Rattle.theorems.specs.Demand3.{standing, Demand-3, Demand-3-holds}
 use Rattle.theorems.specs.Texts.{Texts-hold}
@@ -38,21 +38,21 @@ carried-line room i ss f a p q b =
 
 -- walk-back where every part of it succeeds
 walk-succeeds : (workspace room j : ℕ) (t g u : Bytes) (i : Input) (ss : List Line) (named : Clause) (f : Formula) (line : Bytes) →
-    read-formula input-limits t ≡ value i → read-log j g ≡ value ss → read-answer (highest-allowed i ss) u ≡ value named →
+    read-input t ≡ value i → read-log j g ≡ value ss → read-answer (highest-allowed i ss) u ≡ value named →
     log-workspace-need i ss (highest-allowed i ss) ≤ workspace → replay (i .formula) ss ≡ value f → carry-answer room i ss f (assigned named) ≡ value line →
     walk-back workspace room j t g u ≡ value line
 unfolding walk-back _>>=_ refuse-if
 walk-succeeds workspace room j t g u i ss named f line a b c d e h = rw (a, b, c, le-ltb workspace (log-workspace-need i ss (highest-allowed i ss)) d, e) h
 
 pub walked : Way-back-holds
-unfolding Way-back-holds Demand-3-holds Texts-hold input
+unfolding Way-back-holds Demand-3-holds Texts-hold
 walked s t i workspace room j u named w = record {
   line = answer-text (i .variables) back;
   given = walk-succeeds workspace room j t (log-text (log s i)) u i kept named (standing s i j) (answer-text (i .variables) back) (w .accepted) (texts t i (w .accepted) s .log-read j (w .kept)) (w .answered)
       (w .workspace-enough) found (carried-line room i kept (standing s i j) (assigned named) (w .satisfied) satisfied (w .room-enough));
   plan = answered .named;
   readable = answered .reads;
-  satisfying = rw (answered .satisfying (i .formula) (accepted input-limits t i (w .accepted) .fits)) satisfied;
+  satisfying = rw (answered .satisfying (i .formula) (rw (input-highest t i (w .accepted)) at (input-accepted t i (w .accepted) .fits))) satisfied;
 }
   where
     kept : List Line

@@ -3,3 +3,4 @@ pub mod Demand3
 pub mod Texts
 pub mod WayBack
 pub mod Refusals
+pub mod Aligning

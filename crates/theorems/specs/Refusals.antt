@@ -1,6 +1,6 @@
 -- DEMAND 1. A formula, log or solver's answer, of whatever bytes, is accepted or refused under one of the listed numbers ("Who can be turned back").
 use mathlib.Core.Path.{_≡_}
-use mathlib.Core.List.{List, [], _∷_, List·Memᴰ}
+use mathlib.Core.List.{List, [], _∷_, _++_, List·Memᴰ}
 use Prim.Native.Nat.{ℕ}
 use lib.ListN.{length, replicate}
 use Rattle.definition.specs.Checked.{Checked, fault, value}
@@ -29,15 +29,15 @@ answer-numbers = 41 ∷ 42 ∷ 43 ∷ []
 
 -- "Reencoding: 1 to 9, 11, 12, 13."
 unfoldable pub reencode-numbers : List ℕ
-reencode-numbers = 1 ∷ 2 ∷ 3 ∷ 4 ∷ 5 ∷ 6 ∷ 7 ∷ 8 ∷ 9 ∷ 11 ∷ 12 ∷ 13 ∷ []
+reencode-numbers = formula-numbers ++ (11 ∷ 12 ∷ 13 ∷ [])
 
 -- the new formula read back: 1 to 9, with 2 and 9 at the read-back limits, and 11
 unfoldable pub read-back-numbers : List ℕ
-read-back-numbers = 1 ∷ 2 ∷ 3 ∷ 4 ∷ 5 ∷ 6 ∷ 7 ∷ 8 ∷ 9 ∷ 11 ∷ []
+read-back-numbers = formula-numbers ++ (11 ∷ [])
 
 -- "Walk-back: 1 to 9, then 31 or 34, 41 to 43, 11, 32, 44, 33, 14."
 unfoldable pub walk-back-numbers : List ℕ
-walk-back-numbers = 1 ∷ 2 ∷ 3 ∷ 4 ∷ 5 ∷ 6 ∷ 7 ∷ 8 ∷ 9 ∷ 31 ∷ 34 ∷ 41 ∷ 42 ∷ 43 ∷ 11 ∷ 32 ∷ 44 ∷ 33 ∷ 14 ∷ []
+walk-back-numbers = formula-numbers ++ log-numbers ++ answer-numbers ++ (11 ∷ 32 ∷ 44 ∷ 33 ∷ 14 ∷ [])
 
 -- ---- the demand
 

@@ -3,17 +3,17 @@ use mathlib.Core.Path.{_≡_}
 use Prim.Native.Nat.{ℕ, _≤_}
 use lib.ListN.{length, take}
 use Rattle.definition.specs.Checked.{value}
-use Rattle.definition.specs.Reading.{Input, input-limits, read-back-limits, read-formula}
+use Rattle.definition.specs.Reading.{Input, as-read, read-back-limits, read-formula}
 use Rattle.definition.specs.Text.{Bytes}
 use Rattle.definition.specs.Log.{log-text, formula-text}
 use Rattle.definition.specs.LogReading.{read-log}
 use Rattle.definition.specs.Reencoding.{Settings, log, result, highest-used}
-use Rattle.definition.specs.Calls.{workspace-need, numbers-of}
+use Rattle.definition.specs.Calls.{read-input, workspace-need, numbers-of}
 use Rattle.theorems.specs.Demand3.{standing}
 
 pub record Texts (s : Settings) (i : Input) : Type 0 where
   -- the new formula's text, read under the read-back limits, gives H and the standing clauses in order
-  pub formula-read : read-formula read-back-limits (formula-text (highest-used s i) (result s i)) ≡ value (record { variables = highest-used s i; formula = result s i })
+  pub formula-read : read-formula read-back-limits (formula-text (highest-used s i) (result s i)) ≡ value (as-read (highest-used s i) (length (result s i)) (result s i))
   -- the log's text, read with j lines kept, gives these lines
   pub log-read : (j : ℕ) → j ≤ length (log s i) → read-log j (log-text (log s i)) ≡ value (take j (log s i))
   -- at every line, what stands fits the workspace with an entry for each literal and one for each clause
@@ -21,4 +21,4 @@ pub record Texts (s : Settings) (i : Input) : Type 0 where
 
 -- the theorem, proved as `texts` in proofs/Texts
 unfoldable pub Texts-hold : Type 0
-Texts-hold = (t : Bytes) (i : Input) → read-formula input-limits t ≡ value i → (s : Settings) → Texts s i
+Texts-hold = (t : Bytes) (i : Input) → read-input t ≡ value i → (s : Settings) → Texts s i

@@ -6,19 +6,19 @@ use lib.Dec.{T}
 use lib.ListN.{length, take}
 use Rattle.definition.specs.Checked.{value}
 use Rattle.definition.specs.Literals.{Clause}
-use Rattle.definition.specs.Reading.{Input, input-limits, read-formula}
+use Rattle.definition.specs.Reading.{Input}
 use Rattle.definition.specs.Text.{Bytes, bytes}
 use Rattle.definition.specs.Assignments.{satisfies, carried-back}
 use Rattle.definition.specs.Log.{log-text}
 use Rattle.definition.specs.Answer.{read-answer}
 use Rattle.definition.specs.Reencoding.{Settings, log}
-use Rattle.definition.specs.Calls.{assigned, answer-text, highest-allowed, log-workspace-need, walk-back}
+use Rattle.definition.specs.Calls.{read-input, assigned, answer-text, highest-allowed, log-workspace-need, walk-back}
 use Rattle.theorems.specs.Demand3.{standing}
 
 -- a call of walk-back on the log that reencoding writes for the formula, with j lines kept and an answer u
 pub record Walk (s : Settings) (t : Bytes) (i : Input) (workspace room j : ℕ) (u : Bytes) (named : Clause) : Type 0 where
   -- the formula is accepted, and the log has that many lines
-  pub accepted : read-formula input-limits t ≡ value i
+  pub accepted : read-input t ≡ value i
   pub kept : j ≤ length (log s i)
   -- the answer is in the layout, and satisfies what stands
   pub answered : read-answer (highest-allowed i (take j (log s i))) u ≡ value named

@@ -10,14 +10,15 @@ use Rattle.definition.specs.Lists
 use Rattle.definition.specs.Literals
 use Rattle.definition.specs.Standing
 use Rattle.definition.specs.Literals.{Clause, Formula, holds, repeated}
-use Rattle.definition.specs.Alignment.{computing, Wish, no-wish, alignment, choice-literals, Alignable, group, alignable, group-number, sorted, aligned, arranged}
+use Rattle.definition.specs.Alignment.{computing, Arrangement, as-listed, alignment, choice-literals, Alignable, group, alignable, group-number, sorted, aligned, arranged}
 use Rattle.theory_base.proofs.Tests.{to-true, to-false, or-cases, or-l, or-r}
 use Rattle.theory_base.proofs.Members.{all-at, all-of, holds-mem, mem-holds}
 use Rattle.theory_base.specs.Clauses.{Same, Proper}
 use Rattle.theory_base.proofs.Loops.{mem-for-each}
 use Rattle.theory_alignment.proofs.Groups.{chain-group, group-chain}
-use Rattle.theory_alignment.proofs.Sorting.{Distinct, Rising, permuted-same, permuted-length, permuted-proper, sorted-permutes, sorted-rising}
+use Rattle.theory_alignment.proofs.Sorting.{Distinct, permuted-same, permuted-length, permuted-proper, sorted-permutes, sorted-rising}
 use Rattle.theory_alignment.proofs.Numbers.{group-number-agrees}
+use Rattle.theory_alignment.specs.Groups.{Rising}
 
 -- ---- `repeated (map g c)`: two literals of c have the same g
 module _ (g : ℤ → ℤ) where
@@ -83,16 +84,16 @@ module _ (f : Formula) (cs : List Clause) where
   aligned-stays p n c = let e : alignable f cs ≡ false = to-false (λ t. n (alignable-agrees p .0 t)) in rw e
 
 -- ---- the order alone changes
-pub arranged-permutes : (w : Wish) (f : Formula) (cs : List Clause) (c : Clause) → List·Permᴰ (arranged w f cs c) c
+pub arranged-permutes : (w : Arrangement) (f : Formula) (cs : List Clause) (c : Clause) → List·Permᴰ (arranged w f cs c) c
 unfolding arranged aligned
-arranged-permutes no-wish f cs c = Permᴰ·refl c
+arranged-permutes as-listed f cs c = Permᴰ·refl c
 arranged-permutes alignment f cs c = go (alignable f cs)
   where
     go : (b : Bool) → List·Permᴰ (cond b (sorted (group-number f cs) c) c) c
     go true = sorted-permutes (group-number f cs) c
     go false = Permᴰ·refl c
 
-pub arranged-keeps : (w : Wish) (f : Formula) (cs : List Clause) (c : Clause) → Proper c → Proper (arranged w f cs c) × Same (arranged w f cs c) c × (length (arranged w f cs c) ≡ length c)
+pub arranged-keeps : (w : Arrangement) (f : Formula) (cs : List Clause) (c : Clause) → Proper c → Proper (arranged w f cs c) × Same (arranged w f cs c) c × (length (arranged w f cs c) ≡ length c)
 arranged-keeps w f cs c p =
     let q = arranged-permutes w f cs c in
     (permuted-proper (Permᴰ·symm q) p, permuted-same q, permuted-length q)

@@ -32,7 +32,7 @@ use Rattle.theory_counter.proofs.Front.{taken-lines-are, copies-mem, we
 use Rattle.theory_counter.specs.Front.{paired, pair-copies, front}
 
 -- the clauses that go into a choice from the taking of a choice on
-goes-taken : {j k : Choice} {missing copies : List Clause} {es : List Event} {c : Clause} → Goes-into j (choice-taken k missing copies ∷ es) c → (c ≡ k .clause) ⊎ Into es c
+goes-taken : {j k : Choice} {missing copies : List Clause} {es : List Event} {c d : Clause} → Goes-into j (choice-taken d k missing copies ∷ es) c → (c ≡ d) ⊎ Into es c
 goes-taken taken = inl refl
 goes-taken {j} (later g) = inr (record { choice = j; goes = g })
 
@@ -53,42 +53,42 @@ module _ {k : Choice} (u : Well-formed k) where
       (λ σ t. rw (w .are) at (one σ t)) (rw (counter-is w) at s))
 
 -- ---- the four stages
-module _ (F : Formula) (k : Choice) (f : Fits (k .below) F) (r : Ready F k) where
+module _ (F : Formula) (e : Clause) (k : Choice) (f : Fits (k .below) F) (r : Ready F e k) where
   -- the literals and the missing pairs: exactly one is true
   paired-one : (σ : Assignment) → Sat σ (paired F k) → trues σ (k .literals) ≡ 1
   paired-one σ t =
       let u = sat-left σ F (missing-pairs F (k .literals)) t in
       let v = sat-right σ F (missing-pairs F (k .literals)) t in
-      omega (arith, pairs-most σ (k .literals) (r .proper) (missing-all σ F (k .literals) u v), sat-of σ (clause-taken F k f r) u)
+      omega (arith, pairs-most σ (k .literals) (r .proper) (missing-all σ F (k .literals) u v), sat-of σ (clause-taken F e k f r) u)
 
   front-one : (σ : Assignment) → Sat σ (front F k ++ counter k) → trues σ (k .literals) ≡ 1
-  front-one σ t = counter-exactly-one (well-formed F k f r) σ (sat-right σ (front F k) (counter k) t)
+  front-one σ t = counter-exactly-one (well-formed F e k f r) σ (sat-right σ (front F k) (counter k) t)
 
-  ones-taken : {K : List Event} (σ : Assignment) → Sat σ (front F k ++ counter k) → Ones σ K → Ones σ (take-choice F k ∷ K)
+  ones-taken : {K : List Event} (σ : Assignment) → Sat σ (front F k ++ counter k) → Ones σ K → Ones σ (take-choice F e k ∷ K)
   unfolding take-choice
   ones-taken σ t o c i =
       ⊎-elim
-      (λ e. rw e (sym (trues-order σ (k .literals) (k .clause) (r .proper) (r .proper-clause) (r .same)) ∙ front-one σ t))
+      (λ q. rw q (sym (trues-order σ (k .literals) e (r .proper) (r .proper-clause) (r .same)) ∙ front-one σ t))
       (o c) (goes-taken (i .goes))
 
-  lines-form : (xs : List Line) → lines-of (take-choice F k) ++ xs ≡ map addition (missing-pairs F (k .literals)) ++ (map addition (counter k) ++ (map deletion (k .literals ∷ pair-copies F k) ++ xs))
-  lines-form xs = rw (taken-lines-are F k) (simp (map-append, append-assoc))
+  lines-form : (xs : List Line) → lines-of (take-choice F e k) ++ xs ≡ map addition (missing-pairs F (k .literals)) ++ (map addition (counter k) ++ (map deletion (k .literals ∷ pair-copies F k) ++ xs))
+  lines-form xs = rw (taken-lines-are F e k) (simp (map-append, append-assoc))
 
-  pub counter-sound : {H : Formula} {K L : List Event} {xs : List Line} → Sound (front F k ++ counter k) K xs H L → Sound F (take-choice F k ∷ K) (lines-of (take-choice F k) ++ xs) H L
+  pub counter-sound : {H : Formula} {K L : List Event} {xs : List Line} → Sound (front F k ++ counter k) K xs H L → Sound F (take-choice F e k ∷ K) (lines-of (take-choice F e k) ++ xs) H L
   counter-sound {H} {K} {L} {xs} s =
       rw (lines-form xs)
-      (rw (append-nil F) at (pairs-added (clause-taken F k f r) (r .proper) (absent-else F k f r) [] (missing-pairs F (k .literals)) (λ d i. elim i [ ]) (λ d i. pair-form (k .literals) (r .proper) d (missing-mem F (k .literals) d i))
-      (counter-stages-added (well-formed F k f r) (paired-fits F k f r) paired-one
-      (del-all (removes-++ (counter k) (front-removes F k f r)) deleted-hold (weaken ones-taken s)))))
+      (rw (append-nil F) at (pairs-added (clause-taken F e k f r) (r .proper) (absent-else F e k f r) [] (missing-pairs F (k .literals)) (λ d i. elim i [ ]) (λ d i. pair-form (k .literals) (r .proper) d (missing-mem F (k .literals) d i))
+      (counter-stages-added (well-formed F e k f r) (paired-fits F e k f r) paired-one
+      (del-all (removes-++ (counter k) (front-removes F e k f r)) deleted-hold (weaken ones-taken s)))))
     where
       deleted-hold : (σ : Assignment) → Sat σ (front F k ++ counter k) → Sat σ (k .literals ∷ pair-copies F k)
       deleted-hold σ t =
-          let e = front-one σ t in
+          let one = front-one σ t in
           (omega arith, sat-all σ (pair-copies F k) (λ d i. sat-at σ (pairs (k .literals)) (pairs-hold σ (k .literals) (r .proper) (omega arith)) (copies-mem F k d i)))
 
-  pub after-choice : after F (lines-of (take-choice F k)) ≡ front F k ++ counter k
+  pub after-choice : after F (lines-of (take-choice F e k)) ≡ front F k ++ counter k
   after-choice =
-      rw (append-nil (lines-of (take-choice F k))) at (leads-after (sound-leads (counter-sound (nothing {K = []} {L = []} (λ σ s o. o)))))
+      rw (append-nil (lines-of (take-choice F e k))) at (leads-after (sound-leads (counter-sound (nothing {K = []} {L = []} (λ σ s o. o)))))
 
 -- ---- the variables of clauses that go into a choice
 
@@ -105,9 +105,9 @@ by-variable {P} k x other own negated new = by-test (leb (natAbs x) (k .below)) 
         by-test (holds (negℤ x) (k .literals)) (λ q. negated (holds-mem (negℤ x) (k .literals) (of-true q))) (λ q.
         other (record { small = b; not-in = no x e; not-negated = no (negℤ x) q })))
 
-module _ (F : Formula) (k : Choice) (f : Fits (k .below) F) (r : Ready F k) where
+module _ (F : Formula) (e : Clause) (k : Choice) (f : Fits (k .below) F) (r : Ready F e k) where
   own-stands : (x : ℤ) → List·Memᴰ x (k .literals) → Stands (natAbs x) F
-  own-stands x i = (k .clause, r .standing, x, r .same .0 x i, refl)
+  own-stands x i = (e, r .standing, x, r .same .0 x i, refl)
 
   negated-stands : (x : ℤ) → List·Memᴰ (negℤ x) (k .literals) → Stands (natAbs x) F
   negated-stands x i = rw (natAbs-neg x) at (own-stands (negℤ x) i)
@@ -115,7 +115,7 @@ module _ (F : Formula) (k : Choice) (f : Fits (k .below) F) (r : Ready F k) wher
   front-stands : (d : Clause) → List·Memᴰ d (front F k) → (x : ℤ) → List·Memᴰ x d → Stands (natAbs x) F
   front-stands d i x j =
       ⊎-elim (λ q. (d, q, x, j, refl)) (λ q. negated-stands x (pair-literal (pair-form (k .literals) (r .proper) d (missing-mem F (k .literals) d q)) x j))
-      (List·Memᴰ·append-cases F (mem-removes (front-removes F k f r) i))
+      (List·Memᴰ·append-cases F (mem-removes (front-removes F e k f r) i))
 
   counter-stands : (d : Clause) → List·Memᴰ d (counter k) → (x : ℤ) → List·Memᴰ x d → Stands (natAbs x) F ⊎ (k .below < natAbs x)
   counter-stands d i x j =
@@ -125,9 +125,9 @@ module _ (F : Formula) (k : Choice) (f : Fits (k .below) F) (r : Ready F k) wher
   stands-before n s =
       rw (s .4) at (⊎-elim (λ i. inl (front-stands (s .0) i (s .2) (s .3))) (λ i. counter-stands (s .0) i (s .2) (s .3)) (List·Memᴰ·append-cases (front F k) (s .1)))
 
-  pub counter-known : {K : List Event} → Known (last-new k) K (front F k ++ counter k) → Known (k .below) (take-choice F k ∷ K) F
+  pub counter-known : {K : List Event} → Known (last-new k) K (front F k ++ counter k) → Known (k .below) (take-choice F e k ∷ K) F
   unfolding take-choice last-new
   counter-known w c i x j =
-      ⊎-elim (λ e. inl (k .clause, r .standing, x, rw e at j, refl))
+      ⊎-elim (λ q. inl (e, r .standing, x, rw q at j, refl))
       (λ g. ⊎-elim (stands-before (natAbs x)) (λ b. inr (omega arith)) (w c g x j))
       (goes-taken (i .goes))

@@ -17,7 +17,7 @@ use Rattle.theory_base.specs.Clauses.{Same, Fits, Absent, Fit-all}
 use Rattle.theory_base.proofs.Removal.{Removed, takes}
 use Rattle.theory_soundness.proofs.Times.{holds-yes, times-++, times-cons, times-none, none-times, times-removed}
 use Rattle.theory_soundness.proofs.Removals.{Removes, next, times-removes, mem-removes, stay-in}
-use Rattle.theory_counter.specs.Ready.{Well-formed, Ready, Other, with-clause}
+use Rattle.theory_counter.specs.Ready.{Well-formed, Ready, Other}
 use Rattle.theory_base.proofs.Fitting.{fit-unneg}
 use Rattle.theory_counter.proofs.Pairs.{Pair, pair-form, pair-literal, pairs-absent, missing-mem, pairs-spread}
 use Rattle.theory_base.proofs.Loops.{count-++}
@@ -25,24 +25,24 @@ use Rattle.theory_counter.proofs.Copies.{count-none, count-removed, all
 use Rattle.theory_counter.proofs.CounterLiterals.{counter-new}
 use Rattle.theory_counter.specs.Front.{paired, pair-copies, front}
 
-pub taken-lines-are : (F : Formula) (k : Choice) → lines-of (take-choice F k) ≡ map addition (missing-pairs F (k .literals) ++ counter k) ++ map deletion (k .literals ∷ pair-copies F k)
+pub taken-lines-are : (F : Formula) (c : Clause) (k : Choice) → lines-of (take-choice F c k) ≡ map addition (missing-pairs F (k .literals) ++ counter k) ++ map deletion (k .literals ∷ pair-copies F k)
 unfolding lines-of take-choice choice-lines counter
-taken-lines-are F k = simp (map-append, append-assoc)
+taken-lines-are F c k = simp (map-append, append-assoc)
 
 pub copies-mem : (F : Formula) (k : Choice) (d : Clause) → List·Memᴰ d (pair-copies F k) → List·Memᴰ d (pairs (k .literals))
 unfolding copies
 copies-mem F k d i = copy-mem (λ p. count (same-set p) (paired F k ++ counter k)) (pairs (k .literals)) d i
 
-module _ (F : Formula) (k : Choice) (f : Fits (k .below) F) (r : Ready F k) where
+module _ (F : Formula) (c : Clause) (k : Choice) (f : Fits (k .below) F) (r : Ready F c k) where
   -- the choice's literals are old ones, and each stands in no other clause
   pub own-fit : Fit-all (k .below) (k .literals)
-  own-fit x i = f (k .clause) (r .standing) x (r .same .0 x i)
+  own-fit x i = f c (r .standing) x (r .same .0 x i)
 
   pub well-formed : Well-formed k
   well-formed = record { proper = r .proper; long = r .long; fit = own-fit }
 
   pub clause-taken : Removed (k .literals) F (take-out (k .literals) F)
-  clause-taken = takes (k .literals) (k .clause) F (r .standing) (r .same)
+  clause-taken = takes (k .literals) c F (r .standing) (r .same)
 
   pub absent-else : (x : ℤ) → List·Memᴰ x (k .literals) → Absent x (take-out (k .literals) F)
   absent-else x i =
@@ -71,7 +71,7 @@ module _ (F : Formula) (k : Choice) (f : Fits (k .below) F) (r : Ready F k) wher
       )))
     where
       taken : Removed (k .literals) (paired F k) (take-out (k .literals) (paired F k))
-      taken = takes (k .literals) (k .clause) (paired F k) (Memᴰ·append-left (missing-pairs F (k .literals)) (r .standing)) (r .same)
+      taken = takes (k .literals) c (paired F k) (Memᴰ·append-left (missing-pairs F (k .literals)) (r .standing)) (r .same)
 
   -- ---- how often a literal stands
   missing-absent : (x : ℤ) → (List·Memᴰ (negℤ x) (k .literals) → ⊥) → Absent x (missing-pairs F (k .literals))
@@ -111,17 +111,3 @@ module _ (F : Formula) (k : Choice) (f : Fits (k .below) F) (r : Ready F k) wher
 
   pub front-fits : Fits (k .below) (front F k)
   front-fits d i = paired-fits d (mem-removes front-removes i)
-
--- ---- which clause a choice was does not matter to what is written and what stands
-module _ (d : Clause) (k : Choice) where
-  pub counter-open : counter (with-clause d k) ≡ counter k
-  unfolding counter stage-2 stage-3 size lit new
-  counter-open = refl
-
-  pub front-open : (F : Formula) → front F (with-clause d k) ≡ front F k
-  unfolding front
-  front-open F = refl
-
-  pub taken-open : (F : Formula) → lines-of (take-choice F (with-clause d k)) ≡ lines-of (take-choice F k)
-  unfolding lines-of take-choice choice-lines counter stage-2 stage-3 size lit new
-  taken-open F = refl

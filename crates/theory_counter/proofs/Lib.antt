@@ -5,3 +5,4 @@ pub mod CounterLiterals
 pub mod Front
 pub mod Counter
 pub mod CounterClauses
+pub mod NewVariables

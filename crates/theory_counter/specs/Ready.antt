@@ -15,13 +15,13 @@ pub record Well-formed (k : Choice) : Type 0 where
   pub long : 2 ≤ length (k .literals)
   pub fit : Fit-all (k .below) (k .literals)
 
--- a choice that can be taken where F stands: its literals are those of a standing clause, in some order, and each stands in that clause only
-pub record Ready (F : Formula) (k : Choice) : Type 0 where
+-- the clause c can be taken as the choice k where F stands: it stands, its literals in some order are those of k, and each stands in c only
+pub record Ready (F : Formula) (c : Clause) (k : Choice) : Type 0 where
   pub proper : Proper (k .literals)
-  pub proper-clause : Proper (k .clause)
+  pub proper-clause : Proper c
   pub long : 2 ≤ length (k .literals)
-  pub standing : List·Memᴰ (k .clause) F
-  pub same : Same (k .literals) (k .clause)
+  pub standing : List·Memᴰ c F
+  pub same : Same (k .literals) c
   pub alone : (x : ℤ) → List·Memᴰ x (k .literals) → times x F ≡ 1
 
 -- a literal of another variable than those of the choice, old and new
@@ -29,11 +29,3 @@ pub record Other (k : Choice) (x : ℤ) : Type 0 where
   pub small : natAbs x ≤ k .below
   pub not-in : List·Memᴰ x (k .literals) → ⊥
   pub not-negated : List·Memᴰ (negℤ x) (k .literals) → ⊥
-
--- the choice of some literals above a variable; which clause it was is open
-abbrev pub of-literals : Clause → ℕ → Choice
-of-literals l n = record { clause = l; literals = l; below = n }
-
--- the same choice, of another clause
-abbrev pub with-clause : Clause → Choice → Choice
-with-clause d k = record { clause = d; literals = k .literals; below = k .below }

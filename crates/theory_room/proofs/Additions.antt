@@ -72,13 +72,13 @@ pub numbers-least : (w : ℤ → ℕ) → ((x : ℤ) → 1 ≤ w x) → (c : Cla
 unfolding weight
 numbers-least w l c = omega (arith, sum-≤ (λ _. 1) w c (λ x _. l x))
 
-pub taken-adds : (w : ℤ → ℕ) → ((x : ℤ) → 1 ≤ w x) → (c : Choice) → Weighs 1 w c → 2 ≤ size c → size c ≤ 64 → (f : Formula) → added numbers (lines-of (take-choice f c)) ≤ 6_048 + (size c - 1) * 16
-taken-adds w l c q s t f =
-    omega (arith, taken-changes numbers c f .0, missing-numbers c f t, sum-≤ numbers (weight 1 w) (counter c) (λ d _. numbers-least w l d), counter-weight 1 1 w c q s)
+pub taken-adds : (w : ℤ → ℕ) → ((x : ℤ) → 1 ≤ w x) → (b : Clause) (c : Choice) → Weighs 1 w c → 2 ≤ size c → size c ≤ 64 → (f : Formula) → added numbers (lines-of (take-choice f b c)) ≤ 6_048 + (size c - 1) * 16
+taken-adds w l b c q s t f =
+    omega (arith, taken-changes numbers b c f .0, missing-numbers c f t, sum-≤ numbers (weight 1 w) (counter c) (λ d _. numbers-least w l d), counter-weight 1 1 w c q s)
 
-pub choice-adds : (h : ℕ) (w : ℤ → ℕ) → ((x : ℤ) → 1 ≤ w x) → (c : Choice) → Weighs 1 w c → 2 ≤ size c → size c ≤ 64 → (f : Formula) (e : Event) → Of-choice c f e → All-lines (Proper-to h) (lines-of e) →
+pub choice-adds : (h : ℕ) (w : ℤ → ℕ) → ((x : ℤ) → 1 ≤ w x) → (b : Clause) (c : Choice) → Weighs 1 w c → 2 ≤ size c → size c ≤ 64 → (f : Formula) (e : Event) → Of-choice b c f e → All-lines (Proper-to h) (lines-of e) →
     added numbers (lines-of e) ≤ suc h + 7_056
 unfolding lines-of replacement-lines literal-deletions
-choice-adds h w l c q s t f e taken p = omega (arith, taken-adds w l c q s t f)
-choice-adds h w l c q s t f e (replacing d m) p = omega (arith, one-addition h (not (opposed (replaced c d))) (replaced c d) (d ∷ []) p)
-choice-adds h w l c q s t f e deleting p = omega (arith, added-deletions numbers (for-from 1 (size c) (deletions-of c)))
+choice-adds h w l b c q s t f e taken p = omega (arith, taken-adds w l b c q s t f)
+choice-adds h w l b c q s t f e (replacing d m) p = omega (arith, one-addition h (not (opposed (replaced c d))) (replaced c d) (d ∷ []) p)
+choice-adds h w l b c q s t f e deleting p = omega (arith, added-deletions numbers (for-from 1 (size c) (deletions-of c)))

@@ -29,12 +29,13 @@ use Rattle.theory_soundness.proofs.Times.{holds-yes}
 use Rattle.theory_order.proofs.Replace.{replaced-old}
 use Rattle.theory_room.proofs.Weights.{weight, Of-set, weight-of-set, gained, added, added-deletions, deleted, balance, Raises, raised}
 use Rattle.theory_room.proofs.Replaced.{Weighs, replaced-weight}
-use Rattle.theory_room.proofs.Lines.{before-counter, taken-lines, after-taken, order-gone-through, Of-choice, Arranges, ordered-length, ordered-size, ordered-proper, ordered-formed, ordered-new, others, choices-lines-to, choices-standing-to, From-choices, from-choice, events-of-choices}
-use Rattle.theory_room.specs.Choices.{new-variables, as-choice, clearing, order-of, events-of-first, standing-after-first, next-choice}
+use Rattle.theory_room.proofs.Lines.{before-counter, taken-lines, after-taken, order-gone-through, Of-choice, Arranges, ordered-length, ordered-size, ordered-proper, ordered-formed, ordered-new, others, choices-lines-to, choices-standing-to, From-choices, from-choice, events-of-choices, used-least, below-to}
+use Rattle.theory_room.specs.Choices.{new-variables, as-choice, clearing, order-of, events-of-first, standing-after-first, next-choice, used-after}
 use Rattle.theory_room.proofs.Cleared.{clearing-event, cleared-after}
 use Rattle.theory_room.proofs.Runs.{Run, choosing, events-are, standing-to, chosen-mem, arranges, parts-lead, run-raises, weight-after, few-new-variables, literal-weight, literal-most, literal-least, weighs, weight-most, weight-least}
 use Rattle.theory_room.proofs.Additions.{numbers, numbers-least, taken-adds}
 use Rattle.theory_room.proofs.Rises.{risen, clearing-risen, added-only-if, taken-changes, missing-copies, counter-weight, choice-raises, choices-risen}
+use Rattle.theory_counter.proofs.NewVariables.{below-new-least}
 
 -- ---- the weight of the clauses that hold a negated literal of l
 unfoldable pub touched : Clause → (Clause → ℕ) → Clause → ℕ
@@ -99,9 +100,9 @@ module _ (l : Clause) (c : Choice) (u : Well-formed c) (low : Up-to (c .below) l
       go false e = omega arith
 
   -- none of its events raises the weight of the clauses that hold a negated literal of l
-  foreign-raises : (g : Clause → ℕ) → ((d : Clause) → g (replaced c d) ≤ g d) → (f : Formula) (e : Event) → Of-choice c f e →
+  foreign-raises : (g : Clause → ℕ) → ((d : Clause) → g (replaced c d) ≤ g d) → (b : Clause) (f : Formula) (e : Event) → Of-choice b c f e →
       added (touched l g) (lines-of e) ≤ deleted (touched l g) (lines-of e) + risen 0 e
-  foreign-raises g h f e o = choice-raises (touched l g) 0 c (omega (arith, counter-touched g)) (replaced-touched g h) f e o
+  foreign-raises g h b f e o = choice-raises (touched l g) 0 b c (omega (arith, counter-touched g)) (replaced-touched g h) f e o
 
 -- ---- what the order form adds for a choice
 -- only clauses that hold a negated literal of the choice are replaced
@@ -115,30 +116,30 @@ replacement-adds v g c h d = go (opposes (c .literals) d)
         omega (arith, sum-++ (gained v) (only-if b (addition (replaced c d) ∷ [])) (deletion d ∷ []), added-only-if v b (replaced c d), h d)
     go false = omega arith
 
-module _ (c : Choice) (u : Well-formed c) (f : Formula) (a : All-clauses (Proper-to (c .below)) f)
-    (t : Leads f (lines-of (take-choice f c)) (after f (lines-of (take-choice f c)))) where
+module _ (b : Clause) (c : Choice) (u : Well-formed c) (f : Formula) (a : All-clauses (Proper-to (c .below)) f)
+    (t : Leads f (lines-of (take-choice f b c)) (after f (lines-of (take-choice f b c)))) where
   -- what stands before the counter clauses weighs no more than what stood before the choice
   before-counter-weight : (g : Clause → ℕ) → Of-set g → sum-of g (before-counter c f) ≤ sum-of g f
   before-counter-weight g i =
       omega (
         arith,
-        balance g i t (λ d m. a d m .0) (λ x m. taken-lines c u f a x m .0),
-        taken-changes g c f .0,
-        taken-changes g c f .1,
+        balance g i t (λ d m. a d m .0) (λ x m. taken-lines b c u f a x m .0),
+        taken-changes g b c f .0,
+        taken-changes g b c f .1,
         missing-copies g c f,
-        ap (sum-of g) (after-taken c u f a),
+        ap (sum-of g) (after-taken b c u f a),
         sum-++ g (before-counter c f) (counter c),
       )
 
-  order-adds : (v g : Clause → ℕ) → Of-set g → ((d : Clause) → v (replaced c d) ≤ g d) → added v (lines (order-events c (after f (lines-of (take-choice f c))))) ≤ sum-of (touched (c .literals) g) f
+  order-adds : (v g : Clause → ℕ) → Of-set g → ((d : Clause) → v (replaced c d) ≤ g d) → added v (lines (order-events c (after f (lines-of (take-choice f b c))))) ≤ sum-of (touched (c .literals) g) f
   unfolding sum-of lines lines-of literal-deletions
   order-adds v g i h =
       let G = before-counter c f in
       let n : Event → ℕ = λ e. added v (lines-of e) in
       omega (
         arith,
-        sum-for-each (gained v) (order-events c (after f (lines-of (take-choice f c)))) lines-of,
-        ap (sum-of n) (order-gone-through c u f a),
+        sum-for-each (gained v) (order-events c (after f (lines-of (take-choice f b c)))) lines-of,
+        ap (sum-of n) (order-gone-through b c u f a),
         sum-++ n (for-each G (replace c)) (literals-deleted c ∷ []),
         sum-for-each n G (replace c),
         sum-≤ (λ d. sum-of n (replace c d)) (touched (c .literals) g) G (λ d _. replacement-adds v g c h d),
@@ -147,35 +148,33 @@ module _ (c : Choice) (u : Well-formed c) (f : Formula) (a : All-clauses (Proper
       )
 
   events-add : (v g : Clause → ℕ) → Of-set g → ((d : Clause) → v (replaced c d) ≤ g d) → (form : Form) →
-      added v (lines (choice-events form f c)) ≤ added v (lines-of (take-choice f c)) + sum-of (touched (c .literals) g) f
+      added v (lines (choice-events form f b c)) ≤ added v (lines-of (take-choice f b c)) + sum-of (touched (c .literals) g) f
   unfolding choice-events lines for-each sum-of
-  events-add v g i h counter-form = omega (arith, sum-++ (gained v) (lines-of (take-choice f c)) [])
+  events-add v g i h counter-form = omega (arith, sum-++ (gained v) (lines-of (take-choice f b c)) [])
   events-add v g i h order-form =
-      omega (arith, sum-++ (gained v) (lines-of (take-choice f c)) (lines (order-events c (after f (lines-of (take-choice f c))))), order-adds v g i h)
+      omega (arith, sum-++ (gained v) (lines-of (take-choice f b c)) (lines (order-events c (after f (lines-of (take-choice f b c))))), order-adds v g i h)
 
 -- ---- the events of the first choices, and those of the others
-pub choices-split : (form : Form) (order : Clause → Clause) (n : ℕ) (f : Formula) (cs ds : List Clause) → Arranges n order cs →
-    choices-events form order n f (cs ++ ds) ≡ choices-events form order n f cs ++ choices-events form order (n + new-variables cs) (after f (lines (choices-events form order n f cs))) ds
-unfolding choices-events new-variables sum-of lines for-each after
-choices-split form order n f [] ds h = let e : n ≡ n + 0 = omega arith in ap (λ (m : ℕ). choices-events form order m f ds) e
-choices-split form order n f (c ∷ cs) ds h =
+pub choices-split : (form : Form) (order : Clause → Clause) (n : ℕ) (f : Formula) (cs ds : List Clause) →
+    choices-events form order n f (cs ++ ds) ≡ choices-events form order n f cs ++ choices-events form order (used-after order n cs) (after f (lines (choices-events form order n f cs))) ds
+unfolding choices-events used-after lines for-each after
+choices-split form order n f [] ds = refl
+choices-split form order n f (c ∷ cs) ds =
     let k = as-choice n order c in
-    let es = choice-events form f k in
+    let es = choice-events form f c k in
     let F = after f (lines es) in
     let xs = choices-events form order (last-new k) F cs in
-    let G = after F (lines xs) in
-    let e : last-new k + new-variables cs ≡ n + new-variables (c ∷ cs) = omega (arith, ordered-new n order (c ∷ cs) h c (here refl) n) in
-    ap (λ (zs : List Event). es ++ zs) (choices-split form order (last-new k) F cs ds (others n order c cs h))
-    ∙ sym (append-assoc es xs (choices-events form order (last-new k + new-variables cs) G ds))
-    ∙ ap (λ (m : ℕ). es ++ xs ++ choices-events form order m G ds) e
-    ∙ ap (λ (X : Formula). es ++ xs ++ choices-events form order (n + new-variables (c ∷ cs)) X ds) (sym (ap (after f) (lines-++ es xs) ∙ after-++ f (lines es) (lines xs)))
+    let m = used-after order (last-new k) cs in
+    ap (λ (zs : List Event). es ++ zs) (choices-split form order (last-new k) F cs ds)
+    ∙ sym (append-assoc es xs (choices-events form order m (after F (lines xs)) ds))
+    ∙ ap (λ (X : Formula). es ++ xs ++ choices-events form order m X ds) (sym (ap (after f) (lines-++ es xs) ∙ after-++ f (lines es) (lines xs)))
 
 -- ---- the choices of a run
 
-taken-leads : (form : Form) (f : Formula) (c : Choice) (es : List Event) {G : Formula} → Leads f (lines (choice-events form f c ++ es)) G → Leads f (lines-of (take-choice f c)) (after f (lines-of (take-choice f c)))
+taken-leads : (form : Form) (f : Formula) (b : Clause) (c : Choice) (es : List Event) {G : Formula} → Leads f (lines (choice-events form f b c ++ es)) G → Leads f (lines-of (take-choice f b c)) (after f (lines-of (take-choice f b c)))
 unfolding lines for-each choice-events
-taken-leads counter-form f c es l = leads-split (lines-of (take-choice f c)) (lines es) l .0
-taken-leads order-form f c es l = leads-split (lines-of (take-choice f c)) (lines (order-events c (after f (lines-of (take-choice f c))) ++ es)) l .0
+taken-leads counter-form f b c es l = leads-split (lines-of (take-choice f b c)) (lines es) l .0
+taken-leads order-form f b c es l = leads-split (lines-of (take-choice f b c)) (lines (order-events c (after f (lines-of (take-choice f b c))) ++ es)) l .0
 
 module _ (s : Settings) (i : Input) (h : Run s i) (disjoint : Parted (chosen s i)) (cs ds : List Clause) (c : Clause) (e : chosen s i ≡ cs ++ (c ∷ ds)) where
   mem-first : (d : Clause) → List·Memᴰ d cs → List·Memᴰ d (chosen s i)
@@ -184,36 +183,39 @@ module _ (s : Settings) (i : Input) (h : Run s i) (disjoint : Parted (chosen s i
   mem-next : List·Memᴰ c (chosen s i)
   mem-next = rw e (Memᴰ·append-right cs (here refl))
 
-  arranges-first : Arranges (i .variables) (order-of s i) cs
+  arranges-first : Arranges (i .highest) (order-of s i) cs
   arranges-first d m = arranges s i h d (mem-first d m)
 
   events-after : List Event
-  events-after = choices-events (s .form) (order-of s i) (last-new (next-choice s i cs c)) (after (standing-after-first s i cs) (lines (choice-events (s .form) (standing-after-first s i cs) (next-choice s i cs c)))) ds
+  events-after = choices-events (s .form) (order-of s i) (last-new (next-choice s i cs c)) (after (standing-after-first s i cs) (lines (choice-events (s .form) (standing-after-first s i cs) c (next-choice s i cs c)))) ds
 
-  choosing-split : choosing s i ≡ events-of-first s i cs ++ (choice-events (s .form) (standing-after-first s i cs) (next-choice s i cs c) ++ events-after)
+  choosing-split : choosing s i ≡ events-of-first s i cs ++ (choice-events (s .form) (standing-after-first s i cs) c (next-choice s i cs c) ++ events-after)
   unfolding choosing events-of-first standing-after-first events-after choices-events
   choosing-split =
-      ap (choices-events (s .form) (order-of s i) (i .variables) (cleared (i .formula))) e
-      ∙ choices-split (s .form) (order-of s i) (i .variables) (cleared (i .formula)) cs (c ∷ ds) arranges-first
+      ap (choices-events (s .form) (order-of s i) (i .highest) (cleared (i .formula))) e
+      ∙ choices-split (s .form) (order-of s i) (i .highest) (cleared (i .formula)) cs (c ∷ ds)
 
   -- from what the clearing leaves to what stands before the choice, and on
   first-leads : let F = standing-after-first s i cs in
-      Leads (cleared (i .formula)) (lines (events-of-first s i cs)) F × Leads F (lines (choice-events (s .form) F (next-choice s i cs c) ++ events-after)) (result s i)
+      Leads (cleared (i .formula)) (lines (events-of-first s i cs)) F × Leads F (lines (choice-events (s .form) F c (next-choice s i cs c) ++ events-after)) (result s i)
   unfolding standing-after-first
   first-leads =
       let xs = events-of-first s i cs in
-      let ys = choice-events (s .form) (standing-after-first s i cs) (next-choice s i cs c) ++ events-after in
+      let ys = choice-events (s .form) (standing-after-first s i cs) c (next-choice s i cs c) ++ events-after in
       let l = parts-lead s i h (clearing (i .formula)) (choosing s i) (events-are s i) .1 in
       let k : Leads (cleared (i .formula)) (lines (choosing s i)) (result s i) = rw (cleared-after (i .formula)) l in
       leads-split (lines xs) (lines ys) (rw (ap lines choosing-split ∙ lines-++ xs ys) at k)
 
-  first-lines : All-lines (Proper-to (i .variables + new-variables cs)) (lines (events-of-first s i cs))
+  first-lines : All-lines (Proper-to (used-after (order-of s i) (i .highest) cs)) (lines (events-of-first s i cs))
   unfolding events-of-first
-  first-lines = choices-lines-to (s .form) (order-of s i) (i .variables) (cleared (i .formula)) cs (standing-to s i h) arranges-first
+  first-lines = choices-lines-to (s .form) (order-of s i) (i .highest) (cleared (i .formula)) cs (standing-to s i h) arranges-first
 
-  pub first-to : All-clauses (Proper-to (i .variables + new-variables cs)) (standing-after-first s i cs)
+  pub first-to : All-clauses (Proper-to (used-after (order-of s i) (i .highest) cs)) (standing-after-first s i cs)
   unfolding standing-after-first events-of-first
-  first-to = choices-standing-to (s .form) (order-of s i) (i .variables) (cleared (i .formula)) cs (standing-to s i h) arranges-first
+  first-to = choices-standing-to (s .form) (order-of s i) (i .highest) (cleared (i .formula)) cs (standing-to s i h) arranges-first
+
+  next-to : All-clauses (Proper-to (next-choice s i cs c .below)) (standing-after-first s i cs)
+  next-to = below-to (used-after (order-of s i) (i .highest) cs) (standing-after-first s i cs) first-to
 
   heavier : Clause → ℕ
   heavier = weight 1 (literal-weight 1 (chosen s i))
@@ -232,7 +234,7 @@ module _ (s : Settings) (i : Input) (h : Run s i) (disjoint : Parted (chosen s i
 
   first-event : (d : Event) → List·Memᴰ d (events-of-first s i cs) → List·Memᴰ d (events s i)
   first-event d m =
-      let rest = choice-events (s .form) (standing-after-first s i cs) (next-choice s i cs c) ++ events-after in
+      let rest = choice-events (s .form) (standing-after-first s i cs) c (next-choice s i cs c) ++ events-after in
       rw (events-are s i ∙ ap (λ (zs : List Event). clearing (i .formula) ++ zs) choosing-split)
       (Memᴰ·append-right (clearing (i .formula)) (Memᴰ·append-left rest m))
 
@@ -244,28 +246,28 @@ module _ (s : Settings) (i : Input) (h : Run s i) (disjoint : Parted (chosen s i
       omega (
         arith,
         raised g (risen r) o (events-of-first s i cs) (first-leads .0) (λ d m. standing-to s i h d m .0) (λ x m. first-lines x m .0) q,
-        choices-risen r (s .form) (order-of s i) (i .variables) (cleared (i .formula)) cs arranges-first,
+        choices-risen r (s .form) (order-of s i) (i .highest) (cleared (i .formula)) cs arranges-first,
       )
 
   -- and that of the clauses with a negated literal of the choice not at all
   first-foreign : Raises (touched (order-of s i c) heavier) (risen 0) (events-of-first s i cs)
-  unfolding events-of-first heavier below-new
-  first-foreign d m = by-choice (events-of-choices (s .form) (order-of s i) (i .variables) (cleared (i .formula)) cs (standing-to s i h) arranges-first d m)
+  unfolding events-of-first heavier
+  first-foreign d m = by-choice (events-of-choices (s .form) (order-of s i) (i .highest) (cleared (i .formula)) cs (standing-to s i h) arranges-first d m)
     where
       w : ℤ → ℕ
       w = literal-weight 1 (chosen s i)
 
-      by-choice : From-choices (i .variables) (order-of s i) cs d → added (touched (order-of s i c) heavier) (lines-of d) ≤ deleted (touched (order-of s i c) heavier) (lines-of d) + risen 0 d
+      by-choice : From-choices (i .highest) (order-of s i) cs d → added (touched (order-of s i c) heavier) (lines-of d) ≤ deleted (touched (order-of s i c) heavier) (lines-of d) + risen 0 d
       by-choice (from-choice n b f j k o) =
           let z = as-choice n (order-of s i) b in
-          foreign-raises (order-of s i c) z (ordered-formed (i .variables) (order-of s i) cs arranges-first b k n j)
-          (λ x l. omega (arith, ordered-proper (i .variables) (order-of s i) (chosen s i) (arranges s i h) c mem-next .1 x l))
+          foreign-raises (order-of s i c) z (ordered-formed (i .highest) (order-of s i) cs arranges-first b k n j)
+          (λ x l. omega (arith, below-new-least n, ordered-proper (i .highest) (order-of s i) (chosen s i) (arranges s i h) c mem-next .1 x l))
           (λ x l y t q. parted-before cs c ds (rw e at disjoint) b k y (arranges-first b k .3 .0 y t) x (arranges s i h c mem-next .3 .0 x l) (sym q))
-          heavier (replaced-weight 1 w z (weighs 1 (i .variables) n (order-of s i) (chosen s i) (arranges s i h) b (mem-first b k) j) 1) f d o
+          heavier (replaced-weight 1 w z (weighs 1 (i .highest) n (order-of s i) (chosen s i) (arranges s i h) b (mem-first b k) j) 1) b f d o
 
   next-size : size (next-choice s i cs c) ≤ 64
   unfolding size
-  next-size = omega (arith, ordered-length (i .variables) (order-of s i) (chosen s i) (arranges s i h) c mem-next, chosen-mem s i c mem-next .2)
+  next-size = omega (arith, ordered-length (i .highest) (order-of s i) (chosen s i) (arranges s i h) c mem-next, chosen-mem s i c mem-next .2)
 
   next-new : new-variables cs + (size (next-choice s i cs c) - 1) ≤ new-variables (chosen s i)
   unfolding size new-variables sum-of
@@ -274,32 +276,33 @@ module _ (s : Settings) (i : Input) (h : Run s i) (disjoint : Parted (chosen s i
         arith,
         ap new-variables e,
         sum-++ (λ d. length d - 1) cs (c ∷ ds),
-        ordered-length (i .variables) (order-of s i) (chosen s i) (arranges s i h) c mem-next,
+        ordered-length (i .highest) (order-of s i) (chosen s i) (arranges s i h) c mem-next,
       )
 
   -- what stands before the choice, and all that its events add
-  pub choice-room : let F = standing-after-first s i cs in numbers-of F + added numbers (lines (choice-events (s .form) F (next-choice s i cs c))) ≤ workspace-need i
-  unfolding numbers-of workspace-need below-new heavier
+  pub choice-room : let F = standing-after-first s i cs in numbers-of F + added numbers (lines (choice-events (s .form) F c (next-choice s i cs c))) ≤ workspace-need i
+  unfolding numbers-of workspace-need heavier
   choice-room =
       let F = standing-after-first s i cs in
       let k = next-choice s i cs c in
-      let n = i .variables + new-variables cs in
+      let n = used-after (order-of s i) (i .highest) cs in
       let l = order-of s i c in
       let w = literal-weight 1 (chosen s i) in
       let least = literal-least 1 (chosen s i) in
-      let q : Weighs 1 w k = weighs 1 (i .variables) n (order-of s i) (chosen s i) (arranges s i h) c mem-next (omega arith) in
-      let two = ordered-size (i .variables) (order-of s i) (chosen s i) (arranges s i h) c mem-next n in
-      let u = ordered-formed (i .variables) (order-of s i) (chosen s i) (arranges s i h) c mem-next n (omega arith) in
-      let t = taken-leads (s .form) F k events-after (first-leads .1) in
+      let q : Weighs 1 w k = weighs 1 (i .highest) n (order-of s i) (chosen s i) (arranges s i h) c mem-next (used-least (order-of s i) (i .highest) cs) in
+      let two = ordered-size (i .highest) (order-of s i) (chosen s i) (arranges s i h) c mem-next n in
+      let u = ordered-formed (i .highest) (order-of s i) (chosen s i) (arranges s i h) c mem-next n (used-least (order-of s i) (i .highest) cs) in
+      let t = taken-leads (s .form) F c k events-after (first-leads .1) in
       omega (
         arith,
         weight-least 1 1 w least F,
         first-raised heavier 16 (weight-of-set 1 w) (λ d m. run-raises s i h 1 1 d (first-event d m)),
         cleared-weight,
-        events-add k u F first-to t numbers heavier (weight-of-set 1 w) (λ d. omega (arith, numbers-least w least (replaced k d), replaced-weight 1 w k q 1 d)) (s .form),
-        taken-adds w least k q two next-size F,
+        events-add c k u F next-to t numbers heavier (weight-of-set 1 w) (λ d. omega (arith, numbers-least w least (replaced k d), replaced-weight 1 w k q 1 d)) (s .form),
+        taken-adds w least c k q two next-size F,
         first-raised (touched l heavier) 0 (touched-of-set l heavier (weight-of-set 1 w)) first-foreign,
         sum-≤ (touched l heavier) heavier (cleared (i .formula)) (λ d _. touched-≤ l heavier d),
         next-new,
         few-new-variables s i h,
+        h .formula-few,
       )

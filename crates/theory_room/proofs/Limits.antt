@@ -6,37 +6,37 @@ use lib.ListN.{length}
 use Rattle.definition.specs.Literals.{literals-of, highest}
 use Rattle.definition.specs.Standing.{Line, literals}
 use Rattle.definition.specs.Reading.{Input}
-use Rattle.definition.specs.Reencoding.{Settings, input, log, result, highest-used}
+use Rattle.definition.specs.Reencoding.{Settings, log, result, highest-used}
 use Rattle.theory_base.proofs.Members.{proper-literal}
 use Rattle.theory_base.specs.Clauses.{Proper, Proper-all, Fits, Fit-all}
 use Rattle.theory_base.proofs.Fitting.{fit-up, highest-at, highest-le, highest-in-at, highest-in-le}
 use Rattle.theory_base.proofs.Replay.{all-after}
-use Rattle.theory_room.proofs.Runs.{Run, top, log-to, log-proper, few-new-variables, result-size}
+use Rattle.theory_room.proofs.Runs.{Run, top, log-to, log-proper, few-new-variables, result-size, top-most}
 
 -- ---- what stands at the end
 module _ (s : Settings) (i : Input) (h : Run s i) where
   pub result-proper : Proper-all (result s i)
-  unfolding result input
+  unfolding result
   result-proper = all-after Proper (i .formula) (log s i) (h .proper) (log-proper s i h)
 
   pub result-fits : Fits (highest-used s i) (result s i)
-  unfolding result input highest-used
+  unfolding result highest-used
   result-fits =
       all-after (Fit-all (highest-used s i)) (i .formula) (log s i)
-      (λ d m x k. fit-up (highest-used s i) (i .variables) x (omega arith) (h .fits d m x k))
+      (λ d m x k. fit-up (highest-used s i) (i .highest) x (omega arith) (h .fits d m x k))
       (λ y m x k. (proper-literal (literals y) (log-proper s i h y m) x k, omega (arith, highest-at (literals y) x k, highest-in-at (log s i) y m)))
 
   -- ---- the limits
-  module _ (variables : i .variables ≤ 8_000) (clauses : length (i .formula) ≤ 20_000) (literal-count : literals-of (i .formula) ≤ 60_000) where
+  module _ (variables : i .highest ≤ 8_000) (clauses : length (i .formula) ≤ 20_000) (literal-count : literals-of (i .formula) ≤ 60_000) where
     pub log-line-limit : (x : Line) → List·Memᴰ x (log s i) → highest (literals x) ≤ 70_000
-    log-line-limit x m = omega (arith, highest-le (top s i) (literals x) (log-to s i h x m .1), few-new-variables s i h)
+    log-line-limit x m = omega (arith, highest-le (top s i) (literals x) (log-to s i h x m .1), few-new-variables s i h, top-most s i h)
 
     pub highest-limit : highest-used s i ≤ 70_000
     unfolding highest-used
-    highest-limit = omega (arith, highest-in-le (top s i) (log s i) (λ x m. highest-le (top s i) (literals x) (log-to s i h x m .1)), few-new-variables s i h)
+    highest-limit = omega (arith, highest-in-le (top s i) (log s i) (λ x m. highest-le (top s i) (literals x) (log-to s i h x m .1)), few-new-variables s i h, top-most s i h)
 
     pub clauses-limit : length (result s i) ≤ 300_000
-    clauses-limit = omega (arith, result-size s i h 1 0, few-new-variables s i h)
+    clauses-limit = omega (arith, result-size s i h 1 0, few-new-variables s i h, top-most s i h)
 
     pub literals-limit : literals-of (result s i) ≤ 1_000_000
-    literals-limit = omega (arith, result-size s i h 0 1, few-new-variables s i h)
+    literals-limit = omega (arith, result-size s i h 0 1, few-new-variables s i h, top-most s i h)

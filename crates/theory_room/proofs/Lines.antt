@@ -29,19 +29,20 @@ use Rattle.theory_counter.specs.Front.{paired, pair-copies}
 use Rattle.theory_order.proofs.Order.{order-events-are}
 use Rattle.theory_room.proofs.Choice.{pairs-to, counter-clause, deletions-clause}
 use Rattle.theory_room.proofs.Replaced.{replaced-to}
-use Rattle.theory_room.specs.Choices.{new-variables, as-choice}
+use Rattle.theory_room.specs.Choices.{new-variables, as-choice, used-after}
+use Rattle.theory_counter.proofs.NewVariables.{below-new-least, below-new-most, last-new-above}
 
 -- what stands before the counter clauses when a choice is taken where f stands
 unfoldable pub before-counter : Choice → Formula → Formula
 before-counter c f = after (paired f c) (map deletion (c .literals ∷ pair-copies f c))
 
 -- the events of a choice
-pub data Of-choice (c : Choice) (f : Formula) : Event → Type 0 where
-  taken : Of-choice c f (take-choice f c)
-  replacing : (d : Clause) → List·Memᴰ d (before-counter c f) → Of-choice c f (clause-replaced d (replaced c d))
-  deleting : Of-choice c f (literals-deleted c)
+pub data Of-choice (b : Clause) (c : Choice) (f : Formula) : Event → Type 0 where
+  taken : Of-choice b c f (take-choice f b c)
+  replacing : (d : Clause) → List·Memᴰ d (before-counter c f) → Of-choice b c f (clause-replaced d (replaced c d))
+  deleting : Of-choice b c f (literals-deleted c)
 
-module _ (c : Choice) (u : Well-formed c) (f : Formula) (a : All-clauses (Proper-to (c .below)) f) where
+module _ (b : Clause) (c : Choice) (u : Well-formed c) (f : Formula) (a : All-clauses (Proper-to (c .below)) f) where
   own-to : Proper-to (c .below) (c .literals)
   own-to = (u .proper, λ x i. u .fit x i .1)
 
@@ -62,22 +63,22 @@ module _ (c : Choice) (u : Well-formed c) (f : Formula) (a : All-clauses (Proper
       all-after (Proper-to (c .below)) (paired f c) (map deletion (c .literals ∷ pair-copies f c))
       (λ d m. ⊎-elim (a d) (missing-to d) (List·Memᴰ·append-cases f m)) (all-deletions (Proper-to (c .below)) (c .literals ∷ pair-copies f c) deleted-to)
 
-  pub after-taken : after f (lines-of (take-choice f c)) ≡ before-counter c f ++ counter c
+  pub after-taken : after f (lines-of (take-choice f b c)) ≡ before-counter c f ++ counter c
   unfolding before-counter
   after-taken =
       let ds = c .literals ∷ pair-copies f c in
       let new = missing-pairs f (c .literals) ++ counter c in
-      ap (after f) (taken-lines-are f c)
+      ap (after f) (taken-lines-are f b c)
       ∙ after-++ f (map addition new) (map deletion ds)
       ∙ ap (λ (Y : Formula). after Y (map deletion ds)) (after-additions f new ∙ sym (append-assoc f (missing-pairs f (c .literals)) (counter c)))
       ∙ after-deletions (paired f c) (counter c) ds (λ d m x k. to-false (λ t. counter-new c (u .long) d (proper-fit (deleted-to d m)) x k (same-set-same d x t)))
 
-  pub taken-lines : All-lines (Proper-to (last-new c)) (lines-of (take-choice f c))
+  pub taken-lines : All-lines (Proper-to (last-new c)) (lines-of (take-choice f b c))
   taken-lines =
       let P = Proper-to (last-new c) in
       let ds = c .literals ∷ pair-copies f c in
       let new = missing-pairs f (c .literals) ++ counter c in
-      rw (taken-lines-are f c)
+      rw (taken-lines-are f b c)
       (all-lines-++ P (map addition new) (map deletion ds)
       (all-additions P new (λ d m. ⊎-elim (λ k. low d (missing-to d k)) (counter-clause c u d) (List·Memᴰ·append-cases (missing-pairs f (c .literals)) m)))
       (all-deletions P ds (λ d m. low d (deleted-to d m))))
@@ -94,31 +95,31 @@ module _ (c : Choice) (u : Well-formed c) (f : Formula) (a : All-clauses (Proper
       (λ x m. rw (List·Memᴰ·eq-of-singleton m) (low d q))
 
   -- the clauses gone through are those before the counter clauses
-  pub order-gone-through : order-events c (after f (lines-of (take-choice f c))) ≡ for-each (before-counter c f) (replace c) ++ (literals-deleted c ∷ [])
+  pub order-gone-through : order-events c (after f (lines-of (take-choice f b c))) ≡ for-each (before-counter c f) (replace c) ++ (literals-deleted c ∷ [])
   order-gone-through = ap (order-events c) after-taken ∙ order-events-are c (before-counter c f)
 
-  pub events-of-choice : (form : Form) (e : Event) → List·Memᴰ e (choice-events form f c) → Of-choice c f e
+  pub events-of-choice : (form : Form) (e : Event) → List·Memᴰ e (choice-events form f b c) → Of-choice b c f e
   unfolding choice-events replace
   events-of-choice counter-form e m = rw (List·Memᴰ·eq-of-singleton m) taken
   events-of-choice order-form e (here q) = rw q taken
   events-of-choice order-form e (there m) =
-      ⊎-elim (λ k. let r = for-each-mem (before-counter c f) (replace c) e k in each (r .0) (r .1) (r .2)) (λ k. subst (Of-choice c f) (sym (List·Memᴰ·eq-of-singleton k)) deleting)
+      ⊎-elim (λ k. let r = for-each-mem (before-counter c f) (replace c) e k in each (r .0) (r .1) (r .2)) (λ k. subst (Of-choice b c f) (sym (List·Memᴰ·eq-of-singleton k)) deleting)
       (List·Memᴰ·append-cases (for-each (before-counter c f) (replace c)) (rw order-gone-through at m))
     where
-      each : (d : Clause) → List·Memᴰ d (before-counter c f) → List·Memᴰ e (replace c d) → Of-choice c f e
+      each : (d : Clause) → List·Memᴰ d (before-counter c f) → List·Memᴰ e (replace c d) → Of-choice b c f e
       each d i k = rw (List·Memᴰ·eq-of-singleton (only-if-mem (opposes (c .literals) d) (clause-replaced d (replaced c d) ∷ []) e k .1)) (replacing d i)
 
-  pub choice-lines-to : (form : Form) → All-lines (Proper-to (last-new c)) (lines (choice-events form f c))
+  pub choice-lines-to : (form : Form) → All-lines (Proper-to (last-new c)) (lines (choice-events form f b c))
   unfolding lines-of literal-deletions
-  choice-lines-to form = all-events (Proper-to (last-new c)) (choice-events form f c) (λ e m. by-event e (events-of-choice form e m))
+  choice-lines-to form = all-events (Proper-to (last-new c)) (choice-events form f b c) (λ e m. by-event e (events-of-choice form e m))
     where
-      by-event : (e : Event) → Of-choice c f e → All-lines (Proper-to (last-new c)) (lines-of e)
+      by-event : (e : Event) → Of-choice b c f e → All-lines (Proper-to (last-new c)) (lines-of e)
       by-event e taken = taken-lines
       by-event e (replacing d m) = replacement-lines-to d (before-counter-to d m)
       by-event e deleting = all-deletions (Proper-to (last-new c)) (for-from 1 (size c) (deletions-of c)) (deletions-clause c u)
 
-  pub after-choice-to : (form : Form) → All-clauses (Proper-to (last-new c)) (after f (lines (choice-events form f c)))
-  after-choice-to form = all-after (Proper-to (last-new c)) f (lines (choice-events form f c)) (λ d m. low d (a d m)) (choice-lines-to form)
+  pub after-choice-to : (form : Form) → All-clauses (Proper-to (last-new c)) (after f (lines (choice-events form f b c)))
+  after-choice-to form = all-after (Proper-to (last-new c)) f (lines (choice-events form f b c)) (λ d m. low d (a d m)) (choice-lines-to form)
 
 -- ---- all choices, where f stands and n is the highest variable used
 -- each choice is a proper clause of two literals at least, and stays so in its order
@@ -137,55 +138,75 @@ module _ (n : ℕ) (order : Clause → Clause) (cs : List Clause) (h : Arranges 
   ordered-proper = let r = h c i in (r .2, λ x m. r .0 .1 x (r .3 .0 x m))
 
   pub ordered-formed : (m : ℕ) → n ≤ m → Well-formed (as-choice m order c)
-  unfolding below-new
-  ordered-formed m b = record { proper = ordered-proper .0; long = let l = h c i .1 in omega (arith, ordered-length); fit = proper-fit (proper-to-more n m b (order c) ordered-proper) }
+  ordered-formed m b = record { proper = ordered-proper .0; long = let l = h c i .1 in omega (arith, ordered-length); fit = proper-fit (proper-to-more n (below-new m) (omega (arith, below-new-least m)) (order c) ordered-proper) }
 
-  pub ordered-new : (m : ℕ) → last-new (as-choice m order c) ≡ m + (length c - 1)
-  unfolding last-new below-new
+  pub ordered-new : (m : ℕ) → last-new (as-choice m order c) ≡ below-new m + (length c - 1)
+  unfolding last-new
   ordered-new m = omega (arith, ordered-length)
 
 pub others : (n : ℕ) (order : Clause → Clause) (c : Clause) (cs : List Clause) → Arranges n order (c ∷ cs) → Arranges (last-new (as-choice n order c)) order cs
 others n order c cs h d m =
     let r = h d (there m) in
-    (proper-to-more n (last-new (as-choice n order c)) (omega (arith, ordered-new n order (c ∷ cs) h c (here refl) n)) d (r .0), r .1, r .2, r .3)
+    (proper-to-more n (last-new (as-choice n order c)) (last-new-above (order c) n) d (r .0), r .1, r .2, r .3)
+
+-- what stands fits the next choice too
+pub below-to : (n : ℕ) (f : Formula) → All-clauses (Proper-to n) f → All-clauses (Proper-to (below-new n)) f
+below-to n f a d m = proper-to-more n (below-new n) (below-new-least n) d (a d m)
+
+pub used-least : (order : Clause → Clause) (n : ℕ) (cs : List Clause) → n ≤ used-after order n cs
+unfolding used-after
+used-least order n [] = omega arith
+used-least order n (c ∷ cs) = omega (arith, last-new-above (order c) n, used-least order (last-new (as-choice n order c)) cs)
+
+pub used-++ : (order : Clause → Clause) (n : ℕ) (cs ds : List Clause) → used-after order n (cs ++ ds) ≡ used-after order (used-after order n cs) ds
+unfolding used-after
+used-++ order n [] ds = refl
+used-++ order n (c ∷ cs) ds = used-++ order (last-new (as-choice n order c)) cs ds
+
+-- no more than the sizes added up
+pub used-most : (order : Clause → Clause) (n : ℕ) (cs : List Clause) → Arranges n order cs → used-after order n cs ≤ n + new-variables cs
+unfolding used-after new-variables sum-of
+used-most order n [] h = omega arith
+used-most order n (c ∷ cs) h =
+    omega (arith, below-new-most n, ordered-new n order (c ∷ cs) h c (here refl) n, used-most order (last-new (as-choice n order c)) cs (others n order c cs h))
 
 pub choices-lines-to : (form : Form) (order : Clause → Clause) (n : ℕ) (f : Formula) (cs : List Clause) → All-clauses (Proper-to n) f → Arranges n order cs →
-    All-lines (Proper-to (n + new-variables cs)) (lines (choices-events form order n f cs))
-unfolding choices-events below-new new-variables sum-of lines for-each
+    All-lines (Proper-to (used-after order n cs)) (lines (choices-events form order n f cs))
+unfolding choices-events used-after lines for-each
 choices-lines-to form order n f [] a h = λ x m. absurd (List·Memᴰ·not-nil m)
 choices-lines-to form order n f (c ∷ cs) a h =
     let k = as-choice n order c in
-    let es = choice-events form f k in
+    let es = choice-events form f c k in
     let u = ordered-formed n order (c ∷ cs) h c (here refl) n (omega arith) in
-    let e = ordered-new n order (c ∷ cs) h c (here refl) n in
+    let b = below-to n f a in
     let rest = choices-events form order (last-new k) (after f (lines es)) cs in
-    let rest-to = choices-lines-to form order (last-new k) (after f (lines es)) cs (after-choice-to k u f a form) (others n order c cs h) in
-    let all : ℕ = n + new-variables (c ∷ cs) in
+    let rest-to = choices-lines-to form order (last-new k) (after f (lines es)) cs (after-choice-to c k u f b form) (others n order c cs h) in
+    let all : ℕ = used-after order n (c ∷ cs) in
     rw (lines-++ es rest)
     (all-lines-++ (Proper-to all) (lines es) (lines rest)
-    (λ x m. proper-to-more (last-new k) all (omega arith) (literals x) (choice-lines-to k u f a form x m))
-    (λ x m. proper-to-more (last-new k + new-variables cs) all (omega arith) (literals x) (rest-to x m)))
+    (λ x m. proper-to-more (last-new k) all (used-least order (last-new k) cs) (literals x) (choice-lines-to c k u f b form x m))
+    rest-to)
 
 pub choices-standing-to : (form : Form) (order : Clause → Clause) (n : ℕ) (f : Formula) (cs : List Clause) → All-clauses (Proper-to n) f → Arranges n order cs →
-    All-clauses (Proper-to (n + new-variables cs)) (after f (lines (choices-events form order n f cs)))
+    All-clauses (Proper-to (used-after order n cs)) (after f (lines (choices-events form order n f cs)))
 choices-standing-to form order n f cs a h =
-    let m = n + new-variables cs in
-    all-after (Proper-to m) f (lines (choices-events form order n f cs)) (λ d i. proper-to-more n m (omega arith) d (a d i)) (choices-lines-to form order n f cs a h)
+    let m = used-after order n cs in
+    all-after (Proper-to m) f (lines (choices-events form order n f cs)) (λ d i. proper-to-more n m (used-least order n cs) d (a d i)) (choices-lines-to form order n f cs a h)
 
 -- each event is one of some choice, whose new variables are above n
 pub data From-choices (n : ℕ) (order : Clause → Clause) (cs : List Clause) : Event → Type 0 where
-  from-choice : {e : Event} (m : ℕ) (c : Clause) (f : Formula) → n ≤ m → List·Memᴰ c cs → Of-choice (as-choice m order c) f e → From-choices n order cs e
+  from-choice : {e : Event} (m : ℕ) (c : Clause) (f : Formula) → n ≤ m → List·Memᴰ c cs → Of-choice c (as-choice m order c) f e → From-choices n order cs e
 
 pub events-of-choices : (form : Form) (order : Clause → Clause) (n : ℕ) (f : Formula) (cs : List Clause) → All-clauses (Proper-to n) f → Arranges n order cs →
     (e : Event) → List·Memᴰ e (choices-events form order n f cs) → From-choices n order cs e
-unfolding choices-events below-new
+unfolding choices-events
 events-of-choices form order n f (c ∷ cs) a h e m =
     let k = as-choice n order c in
-    let es = choice-events form f k in
+    let es = choice-events form f c k in
     let u = ordered-formed n order (c ∷ cs) h c (here refl) n (omega arith) in
-    ⊎-elim (λ m. from-choice n c f (omega arith) (here refl) (events-of-choice k u f a form e m))
-    (λ m. later (events-of-choices form order (last-new k) (after f (lines es)) cs (after-choice-to k u f a form) (others n order c cs h) e m))
+    ⊎-elim (λ m. from-choice n c f (omega arith) (here refl) (events-of-choice c k u f (below-to n f a) form e m))
+    (λ m. later (events-of-choices form order (last-new k) (after f (lines es)) cs (after-choice-to c k u f (below-to n f a) form) (others n order c cs h) e m))
     (List·Memᴰ·append-cases es m)
   where
     later : From-choices (last-new (as-choice n order c)) order cs e → From-choices n order (c ∷ cs) e
-    later (from-choice m d g b i o) = from-choice m d g (omega (arith, ordered-new n order (c ∷ cs) h c (here refl) n)) (there i) o
+    later (from-choice m d g b i o) = from-choice m d g (omega (arith, last-new-above (order c) n)) (there i) o

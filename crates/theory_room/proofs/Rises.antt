@@ -30,13 +30,13 @@ use Rattle.theory_room.proofs.Cleared.{Clearing, clash, pure-clause}
 unfoldable pub risen : ℕ → Event → ℕ
 risen r (clash-cleared c) = 0
 risen r (pure-deleted l c) = 0
-risen r (choice-taken c missing copies) = (size c - 1) * r
+risen r (choice-taken b c missing copies) = (size c - 1) * r
 risen r (clause-replaced old result) = 0
 risen r (literals-deleted c) = 0
 
-risen-taken : (r : ℕ) (c : Choice) (f : Formula) → risen r (take-choice f c) ≡ (size c - 1) * r
+risen-taken : (r : ℕ) (b : Clause) (c : Choice) (f : Formula) → risen r (take-choice f b c) ≡ (size c - 1) * r
 unfolding risen take-choice
-risen-taken r c f = refl
+risen-taken r b c f = refl
 
 -- an optional addition
 pub added-only-if : (g : Clause → ℕ) (b : Bool) (c : Clause) → added g (only-if b (addition c ∷ [])) ≤ g c
@@ -70,14 +70,14 @@ missing-copies g c f =
     (λ p m t. count-mem (same-set p) F p (Memᴰ·append-left (counter c) (Memᴰ·append-right f (mem-those (λ p. not (stands p f)) (pairs (c .literals)) p m t))) (same-same-set p p (same-clause p)))
 
 -- what taking a choice adds and deletes
-pub taken-changes : (g : Clause → ℕ) (c : Choice) (f : Formula) → let xs = lines-of (take-choice f c) in
+pub taken-changes : (g : Clause → ℕ) (b : Clause) (c : Choice) (f : Formula) → let xs = lines-of (take-choice f b c) in
     (added g xs ≡ sum-of g (missing-pairs f (c .literals)) + sum-of g (counter c)) × (deleted g xs ≡ g (c .literals) + sum-of g (pair-copies f c))
 unfolding sum-of
-taken-changes g c f =
+taken-changes g b c f =
     let ds = c .literals ∷ pair-copies f c in
     let new = missing-pairs f (c .literals) ++ counter c in
     let xs = map addition new in
-    let e = taken-lines-are f c in (
+    let e = taken-lines-are f b c in (
       omega (arith, ap (added g) e, sum-++ (gained g) xs (map deletion ds), added-additions g new, added-deletions g ds, sum-++ g (missing-pairs f (c .literals)) (counter c)),
       omega (arith, ap (deleted g) e, sum-++ (lost g) xs (map deletion ds), deleted-additions g new, deleted-deletions g ds),
     )
@@ -146,21 +146,21 @@ module _ (u a : ℕ) (w : ℤ → ℕ) (c : Choice) (h : Weighs a w c) where
       sums m n q e {x} b = rw e (omega (arith, rw e at b))
 
 -- where the counter clauses weigh no more than r for each new variable, and a replaced clause no more than the old one
-pub choice-raises : (g : Clause → ℕ) (r : ℕ) (c : Choice) → sum-of g (counter c) ≤ (size c - 1) * r → ((d : Clause) → g (replaced c d) ≤ g d) →
-    (f : Formula) (e : Event) → Of-choice c f e → added g (lines-of e) ≤ deleted g (lines-of e) + risen r e
+pub choice-raises : (g : Clause → ℕ) (r : ℕ) (b : Clause) (c : Choice) → sum-of g (counter c) ≤ (size c - 1) * r → ((d : Clause) → g (replaced c d) ≤ g d) →
+    (f : Formula) (e : Event) → Of-choice b c f e → added g (lines-of e) ≤ deleted g (lines-of e) + risen r e
 unfolding lines-of replacement-lines literal-deletions risen sum-of
-choice-raises g r c h k f e taken = omega (arith, taken-changes g c f .0, taken-changes g c f .1, missing-copies g c f, risen-taken r c f)
-choice-raises g r c h k f e (replacing d m) =
-    let b = not (opposed (replaced c d)) in
-    let xs = only-if b (addition (replaced c d) ∷ []) in
+choice-raises g r b c h k f e taken = omega (arith, taken-changes g b c f .0, taken-changes g b c f .1, missing-copies g c f, risen-taken r b c f)
+choice-raises g r b c h k f e (replacing d m) =
+    let fine = not (opposed (replaced c d)) in
+    let xs = only-if fine (addition (replaced c d) ∷ []) in
     omega (
       arith,
       sum-++ (gained g) xs (deletion d ∷ []),
       sum-++ (lost g) xs (deletion d ∷ []),
-      added-only-if g b (replaced c d),
+      added-only-if g fine (replaced c d),
       k d,
     )
-choice-raises g r c h k f e deleting = omega (arith, added-deletions g (for-from 1 (size c) (deletions-of c)))
+choice-raises g r b c h k f e deleting = omega (arith, added-deletions g (for-from 1 (size c) (deletions-of c)))
 
 -- ---- the rises of a run
 pub clearing-risen : (r : ℕ) (es : List Event) → ((e : Event) → List·Memᴰ e es → Clearing e) → sum-of (risen r) es ≡ 0
@@ -181,10 +181,10 @@ order-risen r c f =
     by-clause : (e : Event) (d : Clause) → List·Memᴰ e (replace c d) → risen r e ≡ 0
     by-clause e d m = ap (risen r) (List·Memᴰ·eq-of-singleton (only-if-mem (opposes (c .literals) d) (clause-replaced d (replaced c d) ∷ []) e m .1))
 
-choice-risen : (r : ℕ) (form : Form) (f : Formula) (c : Choice) → sum-of (risen r) (choice-events form f c) ≡ (size c - 1) * r
+choice-risen : (r : ℕ) (form : Form) (f : Formula) (b : Clause) (c : Choice) → sum-of (risen r) (choice-events form f b c) ≡ (size c - 1) * r
 unfolding choice-events sum-of
-choice-risen r counter-form f c = omega (arith, risen-taken r c f)
-choice-risen r order-form f c = omega (arith, risen-taken r c f, order-risen r c (after f (lines-of (take-choice f c))))
+choice-risen r counter-form f b c = omega (arith, risen-taken r b c f)
+choice-risen r order-form f b c = omega (arith, risen-taken r b c f, order-risen r c (after f (lines-of (take-choice f b c))))
 
 pub choices-risen : (r : ℕ) (form : Form) (order : Clause → Clause) (n : ℕ) (f : Formula) (cs : List Clause) → Arranges n order cs →
     sum-of (risen r) (choices-events form order n f cs) ≡ new-variables cs * r
@@ -192,8 +192,8 @@ unfolding choices-events new-variables sum-of size
 choices-risen r form order n f [] h = omega arith
 choices-risen r form order n f (c ∷ cs) h =
     let k = as-choice n order c in
-    let es = choice-events form f k in
+    let es = choice-events form f c k in
     let rest = choices-events form order (last-new k) (after f (lines es)) cs in
     let l : size k - 1 ≡ length c - 1 = omega (arith, ordered-length n order (c ∷ cs) h c (here refl)) in
-    let a : sum-of (risen r) es ≡ (length c - 1) * r = choice-risen r form f k ∙ ap (λ (m : ℕ). m * r) l in
+    let a : sum-of (risen r) es ≡ (length c - 1) * r = choice-risen r form f c k ∙ ap (λ (m : ℕ). m * r) l in
     omega (arith, sum-++ (risen r) es rest, choices-risen r form order (last-new k) (after f (lines es)) cs (others n order c cs h))

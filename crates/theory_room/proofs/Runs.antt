@@ -16,7 +16,7 @@ use Rattle.definition.specs.Events.{Event}
 use Rattle.definition.specs.Clearing.{unique}
 use Rattle.definition.specs.Counter.{choice-size, choices, below-new}
 use Rattle.definition.specs.Alignment.{choice-literals}
-use Rattle.definition.specs.Reencoding.{lines-of, lines, Settings, choices-events, cleared, input, chosen, events, log, result}
+use Rattle.definition.specs.Reencoding.{lines-of, lines, Settings, choices-events, cleared, chosen, events, log, result}
 use Rattle.theory_base.proofs.Tests.{and-l, and-r}
 use Rattle.theory_base.proofs.Members.{those-mem, holds-false, natAbs-neg}
 use Rattle.theory_base.specs.Clauses.{Proper, Proper-all, Fits}
@@ -28,16 +28,18 @@ use Rattle.theory_soundness.proofs.Times.{holds-yes}
 use Rattle.theory_alignment.proofs.Aligned.{arranged-keeps}
 use Rattle.theory_room.proofs.Weights.{added, deleted, weight, weight-of-set, Raises, raised}
 use Rattle.theory_room.proofs.Replaced.{Weighs, replaced-weight}
-use Rattle.theory_room.proofs.Lines.{Arranges, ordered-size, choices-lines-to, From-choices, from-choice, events-of-choices}
-use Rattle.theory_room.specs.Choices.{new-variables, as-choice, clearing, order-of}
+use Rattle.theory_room.proofs.Lines.{Arranges, ordered-size, choices-lines-to, From-choices, from-choice, events-of-choices, used-least, used-most}
+use Rattle.theory_room.specs.Choices.{new-variables, as-choice, clearing, order-of, used-after}
 use Rattle.theory_room.proofs.Cleared.{Clearing, clearing-event, cleared-after, clearing-lines-to, cleared-to}
 use Rattle.theory_room.proofs.Rises.{risen, counter-weight, clearing-raises, choice-raises, clearing-risen, choices-risen, unit}
+use Rattle.theory_counter.proofs.NewVariables.{below-new-least}
 
 -- what is known of a run: its input is proper, and its deletions find their clauses
 pub record Run (s : Settings) (i : Input) : Type 0 where
   pub proper : Proper-all (i .formula)
-  pub fits : Fits (i .variables) (i .formula)
-  pub leads : Leads (input s i) (log s i) (result s i)
+  pub fits : Fits (i .highest) (i .formula)
+  pub formula-few : length (i .formula) ≤ i .clauses
+  pub leads : Leads (i .formula) (log s i) (result s i)
 
 -- ---- the weight of a formula, by its clauses and literals
 pub weight-most : (u b : ℕ) (w : ℤ → ℕ) → ((x : ℤ) → w x ≤ b) → (f : Formula) → sum-of (weight u w) f ≤ length f * u + literals-of f * b
@@ -83,9 +85,9 @@ unfolding choice-literals
 choice-variable n order cs h x m = let r = for-each-mem cs (λ c. c) x m in h (r .0) (r .1) .0 .1 x (r .2)
 
 pub weighs : (a n m : ℕ) (order : Clause → Clause) (cs : List Clause) → Arranges n order cs → (c : Clause) → List·Memᴰ c cs → n ≤ m → Weighs a (literal-weight a cs) (as-choice m order c)
-unfolding below-new choice-literals
+unfolding choice-literals
 weighs a n m order cs h c i l = record {
-  of-new = λ x b. omega (arith, light a cs x (λ k. omega (arith, choice-variable n order cs h (negℤ x) k, natAbs-neg x)));
+  of-new = λ x b. omega (arith, light a cs x (λ k. omega (arith, below-new-least m, choice-variable n order cs h (negℤ x) k, natAbs-neg x)));
   of-literal = λ x k. literal-most a cs x;
   of-negated = λ x k. heavy a cs x (mem-for-each cs (λ d. d) c x i (h c i .3 .0 x k));
 }
@@ -93,19 +95,19 @@ weighs a n m order cs h c i l = record {
 -- ---- the run
 -- the highest variable that a line may have
 abbrev pub top : Settings → Input → ℕ
-top s i = i .variables + new-variables (chosen s i)
+top s i = used-after (order-of s i) (i .highest) (chosen s i)
 
 -- the events of its choices
 unfoldable pub choosing : Settings → Input → List Event
-choosing s i = choices-events (s .form) (order-of s i) (i .variables) (cleared (i .formula)) (chosen s i)
+choosing s i = choices-events (s .form) (order-of s i) (i .highest) (cleared (i .formula)) (chosen s i)
 
 pub events-are : (s : Settings) (i : Input) → events s i ≡ clearing (i .formula) ++ choosing s i
-unfolding events clearing choosing input
+unfolding events clearing choosing
 events-are s i = refl
 
 -- a choice stands when the clearing is done, and has 5 to 64 literals, all unique
 pub chosen-mem : (s : Settings) (i : Input) (c : Clause) → List·Memᴰ c (chosen s i) → List·Memᴰ c (cleared (i .formula)) × (5 ≤ length c) × (length c ≤ 64) × T (unique (cleared (i .formula)) c)
-unfolding chosen choices choice-size input
+unfolding chosen choices choice-size
 chosen-mem s i c m =
     let f = cleared (i .formula) in
     let r = those-mem (λ c. choice-size c && unique f c) f c m in
@@ -113,20 +115,19 @@ chosen-mem s i c m =
     (r .0, leb→le 5 (length c) (and-l (leb 5 (length c)) (leb (length c) 64) t), leb→le (length c) 64 (and-r (leb 5 (length c)) (leb (length c) 64) t), and-r (choice-size c) (unique f c) (r .1))
 
 -- the literals of a choice keep the order's promise
-pub chosen-arranges : (s : Settings) (i : Input) → Proper-all (i .formula) → Fits (i .variables) (i .formula) → Arranges (i .variables) (order-of s i) (chosen s i)
-unfolding input
+pub chosen-arranges : (s : Settings) (i : Input) → Proper-all (i .formula) → Fits (i .highest) (i .formula) → Arranges (i .highest) (order-of s i) (chosen s i)
 chosen-arranges s i p q c m =
     let r = chosen-mem s i c m in
     let b = r .1 in
-    let t = cleared-to (i .variables) (i .formula) p q c (r .0) in
-    let o = arranged-keeps (s .wish) (cleared (i .formula)) (chosen s i) c (t .0) in
+    let t = cleared-to (i .highest) (i .formula) p q c (r .0) in
+    let o = arranged-keeps (s .arrangement) (cleared (i .formula)) (chosen s i) c (t .0) in
     (t, omega arith, o .0, o .1)
 
 module _ (s : Settings) (i : Input) (h : Run s i) where
-  pub standing-to : All-clauses (Proper-to (i .variables)) (cleared (i .formula))
-  standing-to = cleared-to (i .variables) (i .formula) (h .proper) (h .fits)
+  pub standing-to : All-clauses (Proper-to (i .highest)) (cleared (i .formula))
+  standing-to = cleared-to (i .highest) (i .formula) (h .proper) (h .fits)
 
-  pub arranges : Arranges (i .variables) (order-of s i) (chosen s i)
+  pub arranges : Arranges (i .highest) (order-of s i) (chosen s i)
   arranges = chosen-arranges s i (h .proper) (h .fits)
 
   log-is : log s i ≡ lines (clearing (i .formula)) ++ lines (choosing s i)
@@ -138,18 +139,18 @@ module _ (s : Settings) (i : Input) (h : Run s i) where
   log-to =
       rw log-is
       (all-lines-++ (Proper-to (top s i)) (lines (clearing (i .formula))) (lines (choosing s i))
-      (λ x m. proper-to-more (i .variables) (top s i) (omega arith) (literals x) (clearing-lines-to (i .variables) (i .formula) (h .proper) (h .fits) x m))
-      (choices-lines-to (s .form) (order-of s i) (i .variables) (cleared (i .formula)) (chosen s i) standing-to arranges))
+      (λ x m. proper-to-more (i .highest) (top s i) (used-least (order-of s i) (i .highest) (chosen s i)) (literals x) (clearing-lines-to (i .highest) (i .formula) (h .proper) (h .fits) x m))
+      (choices-lines-to (s .form) (order-of s i) (i .highest) (cleared (i .formula)) (chosen s i) standing-to arranges))
 
   pub log-proper : All-lines Proper (log s i)
   log-proper x m = log-to x m .0
 
   -- an event of the clearing or of a choice
-  pub event-of : (e : Event) → List·Memᴰ e (events s i) → Clearing e ⊎ From-choices (i .variables) (order-of s i) (chosen s i) e
-  unfolding events clearing input
+  pub event-of : (e : Event) → List·Memᴰ e (events s i) → Clearing e ⊎ From-choices (i .highest) (order-of s i) (chosen s i) e
+  unfolding events clearing
   event-of e m =
       ⊎-elim (λ k. inl (clearing-event (i .formula) e k))
-      (λ k. inr (events-of-choices (s .form) (order-of s i) (i .variables) (cleared (i .formula)) (chosen s i) standing-to arranges e k))
+      (λ k. inr (events-of-choices (s .form) (order-of s i) (i .highest) (cleared (i .formula)) (chosen s i) standing-to arranges e k))
       (List·Memᴰ·append-cases (clearing (i .formula)) m)
 
   pub run-raises : (u a : ℕ) → Raises (weight u (literal-weight a (chosen s i))) (risen (4 * unit u a)) (events s i)
@@ -158,27 +159,27 @@ module _ (s : Settings) (i : Input) (h : Run s i) where
       w : ℤ → ℕ
       w = literal-weight a (chosen s i)
 
-      by-part : Clearing e ⊎ From-choices (i .variables) (order-of s i) (chosen s i) e → added (weight u w) (lines-of e) ≤ deleted (weight u w) (lines-of e) + risen (4 * unit u a) e
+      by-part : Clearing e ⊎ From-choices (i .highest) (order-of s i) (chosen s i) e → added (weight u w) (lines-of e) ≤ deleted (weight u w) (lines-of e) + risen (4 * unit u a) e
       by-part (inl c) = clearing-raises u w (4 * unit u a) e c
       by-part (inr (from-choice m c f b k o)) =
-          let q = weighs a (i .variables) m (order-of s i) (chosen s i) arranges c k b in
+          let q = weighs a (i .highest) m (order-of s i) (chosen s i) arranges c k b in
           let z = as-choice m (order-of s i) c in
-          choice-raises (weight u w) (4 * unit u a) z (counter-weight u a w z q (ordered-size (i .variables) (order-of s i) (chosen s i) arranges c k m)) (replaced-weight a w z q u) f e o
+          choice-raises (weight u w) (4 * unit u a) c z (counter-weight u a w z q (ordered-size (i .highest) (order-of s i) (chosen s i) arranges c k m)) (replaced-weight a w z q u) f e o
 
   pub run-risen : (r : ℕ) → sum-of (risen r) (events s i) ≡ new-variables (chosen s i) * r
-  unfolding events clearing input
+  unfolding events clearing
   run-risen r =
       let f = i .formula in
       omega (
         arith,
-        sum-++ (risen r) (clearing f) (choices-events (s .form) (order-of s i) (i .variables) (cleared f) (chosen s i)),
+        sum-++ (risen r) (clearing f) (choices-events (s .form) (order-of s i) (i .highest) (cleared f) (chosen s i)),
         clearing-risen r (clearing f) (clearing-event f),
-        choices-risen r (s .form) (order-of s i) (i .variables) (cleared f) (chosen s i) arranges,
+        choices-risen r (s .form) (order-of s i) (i .highest) (cleared f) (chosen s i) arranges,
       )
 
   -- the events up to some event
   pub parts-lead : (xs ys : List Event) → events s i ≡ xs ++ ys → Leads (i .formula) (lines xs) (after (i .formula) (lines xs)) × Leads (after (i .formula) (lines xs)) (lines ys) (result s i)
-  unfolding input log
+  unfolding log
   parts-lead xs ys e = leads-split (lines xs) (lines ys) (rw (ap lines e ∙ lines-++ xs ys) at (h .leads))
 
   pub parts-proper : (xs ys : List Event) → events s i ≡ xs ++ ys → All-lines Proper (lines xs) × All-lines Proper (lines ys)
@@ -196,7 +197,7 @@ module _ (s : Settings) (i : Input) (h : Run s i) where
       (λ d m. run-raises u a d (rw e (Memᴰ·append-left ys m)))
 
   chosen-literals : new-variables (chosen s i) ≤ literals-of (cleared (i .formula))
-  unfolding new-variables chosen choices literals-of input
+  unfolding new-variables chosen choices literals-of
   chosen-literals =
       let f = cleared (i .formula) in
       omega (arith, sum-≤ (λ c. length c - 1) length (chosen s i) (λ c _. omega arith), sum-those length (λ c. choice-size c && unique f c) f)
@@ -217,9 +218,12 @@ module _ (s : Settings) (i : Input) (h : Run s i) where
         chosen-literals,
       )
 
+  pub top-most : top s i ≤ i .highest + new-variables (chosen s i)
+  top-most = used-most (order-of s i) (i .highest) (chosen s i) arranges
+
   -- the clauses (u 1, a 0) or the literals (u 0, a 1) that stand at the end
   pub result-size : (u a : ℕ) → length (result s i) * u + literals-of (result s i) * a ≤ length (i .formula) * u + literals-of (i .formula) * (a + a) + new-variables (chosen s i) * (4 * unit u a)
-  unfolding result input log
+  unfolding result log
   result-size u a =
       let w = literal-weight a (chosen s i) in
       omega (

@@ -11,9 +11,9 @@ use Rattle.definition.specs.Literals.{Clause, Formula, opposes, opposed}
 use Rattle.definition.specs.Standing.{addition, deletion, after}
 use Rattle.definition.specs.Reading.{Input, input-limits}
 use Rattle.definition.specs.Events.{Choice, Event, clause-replaced, literals-deleted}
-use Rattle.definition.specs.Counter.{below-new, last-new, counter, take-choice}
+use Rattle.definition.specs.Counter.{last-new, counter, take-choice}
 use Rattle.definition.specs.Order.{replacement-lines, replaced, replace, order-events}
-use Rattle.definition.specs.Reencoding.{lines-of, lines, Form, counter-form, order-form, Settings, choice-events, choices-events, cleared, chosen, input, events, log, result}
+use Rattle.definition.specs.Reencoding.{lines-of, lines, Form, counter-form, order-form, Settings, choice-events, choices-events, cleared, chosen, events, log, result}
 use Rattle.definition.specs.Calls.{workspace-need, numbers-of}
 use Rattle.theory_base.specs.Clauses.{Parted, Proper-all, Fits, Fit-all}
 use Rattle.theory_base.proofs.Sums.{sum-++, sum-≤, sum-for-each}
@@ -29,21 +29,22 @@ use Rattle.theory_counter.proofs.Counter.{after-choice}
 use Rattle.theory_order.proofs.Order.{order-events-are}
 use Rattle.theory_order.specs.Pass.{results, added as results-of}
 use Rattle.theory_text.specs.Accepted.{Accepted}
-use Rattle.theory_room.proofs.Weights.{gained, added, weight}
+use Rattle.theory_room.proofs.Weights.{gained, added}
 use Rattle.theory_room.proofs.Choice.{pairs-to}
-use Rattle.theory_room.proofs.Lines.{Arranges, ordered-length, ordered-proper, ordered-new}
-use Rattle.theory_room.specs.Choices.{new-variables, clearing, order-of, events-of-first, standing-after-first, next-choice}
+use Rattle.theory_room.proofs.Lines.{Arranges, ordered-length, ordered-proper, used-most, used-++}
+use Rattle.theory_room.specs.Choices.{new-variables, clearing, order-of, events-of-first, standing-after-first, next-choice, used-after}
 use Rattle.theory_room.proofs.Cleared.{cleared-after}
-use Rattle.theory_room.proofs.Rises.{risen, taken-changes}
+use Rattle.theory_room.proofs.Rises.{taken-changes}
 use Rattle.theory_room.proofs.Additions.{numbers}
-use Rattle.theory_room.proofs.Runs.{Run, choosing, events-are, chosen-mem, arranges, run-risen, weight-after, few-new-variables, literal-weight, literal-most, literal-least, weight-most, weight-least}
+use Rattle.theory_room.proofs.Runs.{Run, choosing, events-are, chosen-mem, arranges, weight-least}
 use Rattle.theory_room.proofs.Compaction.{choices-split, first-to}
 use Rattle.theory_run.proofs.LogSound.{chosen-parted, chosen-ready, accepted-run}
 use Rattle.theory_run.proofs.Steps.{steps}
-use Rattle.theory_run.proofs.ChoicesSound.{before-order}
+use Rattle.theory_run.proofs.ChoicesSound.{before-order, fits-below}
 use Rattle.theory_run.specs.Choices.{events-up-to, Takeable, At-choice, Choices-taken}
 use Rattle.theory_run.proofs.Splits.{choice-alone, ready-after}
 use Rattle.theory_run.proofs.Variables.{chosen-few}
+use Rattle.theory_counter.proofs.NewVariables.{below-new-most}
 
 -- ---- what the events of a choice add, counted in numbers
 
@@ -51,13 +52,13 @@ numbers-sum : (f : Formula) → numbers-of f ≤ sum-of numbers f
 unfolding numbers-of
 numbers-sum f = omega (arith, weight-least 1 1 (λ _. 1) (λ _. omega arith) f)
 
-taken-space : (F : Formula) (k : Choice) → numbers-of (counter k) ≤ added numbers (lines-of (take-choice F k))
-taken-space F k = omega (arith, taken-changes numbers k F .0, numbers-sum (counter k))
+taken-space : (F : Formula) (c : Clause) (k : Choice) → numbers-of (counter k) ≤ added numbers (lines-of (take-choice F c k))
+taken-space F c k = omega (arith, taken-changes numbers c k F .0, numbers-sum (counter k))
 
-choice-space : (form : Form) (F : Formula) (k : Choice) → numbers-of (counter k) ≤ added numbers (lines (choice-events form F k))
+choice-space : (form : Form) (F : Formula) (c : Clause) (k : Choice) → numbers-of (counter k) ≤ added numbers (lines (choice-events form F c k))
 unfolding choice-events lines for-each
-choice-space counter-form F k = omega (arith, taken-space F k, sum-++ (gained numbers) (lines-of (take-choice F k)) [])
-choice-space order-form F k = omega (arith, taken-space F k, sum-++ (gained numbers) (lines-of (take-choice F k)) (lines (order-events k (after F (lines-of (take-choice F k))))))
+choice-space counter-form F c k = omega (arith, taken-space F c k, sum-++ (gained numbers) (lines-of (take-choice F c k)) [])
+choice-space order-form F c k = omega (arith, taken-space F c k, sum-++ (gained numbers) (lines-of (take-choice F c k)) (lines (order-events k (after F (lines-of (take-choice F c k))))))
 
 result-space : (k : Choice) (d : Clause) → sum-of numbers (results k d) ≤ sum-of (λ e. added numbers (lines-of e)) (replace k d)
 unfolding replace only-if sum-of lines-of replacement-lines
@@ -74,20 +75,20 @@ result-space k d = go (opposes (k .literals) d)
     go true = omega (arith, one (not (opposed r)))
     go false = omega arith
 
-module _ (F : Formula) (k : Choice) (f : Fits (k .below) F) (r : Ready F k) where
-  order-space-of : numbers-of (counter k) + numbers-of (results-of k (front F k)) ≤ added numbers (lines (choice-events order-form F k))
+module _ (F : Formula) (c : Clause) (k : Choice) (f : Fits (k .below) F) (r : Ready F c k) where
+  order-space-of : numbers-of (counter k) + numbers-of (results-of k (front F k)) ≤ added numbers (lines (choice-events order-form F c k))
   unfolding choice-events lines for-each
   order-space-of =
       let E = front F k in
-      let es = order-events k (after F (lines-of (take-choice F k))) in
+      let es = order-events k (after F (lines-of (take-choice F c k))) in
       let n : Event → ℕ = λ e. added numbers (lines-of e) in
       omega (
         arith,
-        taken-space F k,
+        taken-space F c k,
         numbers-sum (results-of k E),
-        sum-++ (gained numbers) (lines-of (take-choice F k)) (for-each es lines-of),
+        sum-++ (gained numbers) (lines-of (take-choice F c k)) (for-each es lines-of),
         sum-for-each (gained numbers) es lines-of,
-        ap (sum-of n) (ap (order-events k) (after-choice F k f r) ∙ order-events-are k E),
+        ap (sum-of n) (ap (order-events k) (after-choice F c k f r) ∙ order-events-are k E),
         sum-++ n (for-each E (replace k)) (literals-deleted k ∷ []),
         sum-for-each n E (replace k),
         sum-for-each numbers E (results k),
@@ -96,13 +97,13 @@ module _ (F : Formula) (k : Choice) (f : Fits (k .below) F) (r : Ready F k) wher
 
   pub front-proper-of : Proper-all F → Proper-all (front F k)
   front-proper-of p d m =
-      ⊎-elim (p d) (λ i. pairs-to (k .below) (k .literals) (r .proper, λ x j. own-fit F k f r x j .1) d (missing-mem F (k .literals) d i) .0)
-      (List·Memᴰ·append-cases F (mem-removes (front-removes F k f r) m))
+      ⊎-elim (p d) (λ i. pairs-to (k .below) (k .literals) (r .proper, λ x j. own-fit F c k f r x j .1) d (missing-mem F (k .literals) d i) .0)
+      (List·Memᴰ·append-cases F (mem-removes (front-removes F c k f r) m))
 
 -- the variables are within the tables' reach
-pub few-variables : {i : Input} → Accepted input-limits i → i .variables ≤ 8_000
+pub few-variables : {i : Input} → Accepted input-limits i → i .highest ≤ 8_000
 unfolding input-limits
-few-variables a = a .variables-few
+few-variables a = a .highest-few
 
 -- ---- a run
 module _ (i : Input) (a : Accepted input-limits i) (s : Settings) where
@@ -121,42 +122,42 @@ module _ (i : Input) (a : Accepted input-limits i) (s : Settings) where
     k : Choice
     k = next-choice s i cs c
 
-    arranged-first : Arranges (i .variables) (order-of s i) cs
+    arranged-first : Arranges (i .highest) (order-of s i) cs
     arranged-first d m = arranges s i run d (rw e (Memᴰ·append-left (c ∷ ds) m))
 
     next-in : List·Memᴰ c (chosen s i)
     next-in = rw e (Memᴰ·append-right cs (here refl))
 
-    F-to : All-clauses (Proper-to (i .variables + new-variables cs)) F
+    F-to : All-clauses (Proper-to (used-after (order-of s i) (i .highest) cs)) F
     unfolding F
     F-to = first-to s i run parted cs ds c e
 
-    ready-k : Ready F k
+    ready-k : Ready F c k
     unfolding F k standing-after-first events-of-first
     ready-k =
-        ready-after (s .form) (order-of s i) (i .variables) (cleared (i .formula)) cs (c ∷ ds) (cleared-facts (a .proper) (a .fits) .1)
-        (λ d m. chosen-ready s i (a .proper) (a .fits) d (rw e m)) (rw e at parted) c (here refl) (i .variables + new-variables cs)
+        ready-after (s .form) (order-of s i) (i .highest) (cleared (i .formula)) cs (c ∷ ds) (cleared-facts (a .proper) (a .fits) .1)
+        (λ d m. chosen-ready s i (a .proper) (a .fits) d (rw e m)) (rw e at parted) c (here refl) (used-after (order-of s i) (i .highest) cs)
 
     fits-k : Fits (k .below) F
-    unfolding k below-new
-    fits-k d m = proper-fit (F-to d m)
+    unfolding k
+    fits-k = fits-below (used-after (order-of s i) (i .highest) cs) F (λ d m. proper-fit (F-to d m))
 
     k-length : length (k .literals) ≡ length c
     unfolding k
-    k-length = ordered-length (i .variables) (order-of s i) (chosen s i) (arranges s i run) c next-in
+    k-length = ordered-length (i .highest) (order-of s i) (chosen s i) (arranges s i run) c next-in
 
-    old-k : Fit-all (i .variables) (k .literals)
+    old-k : Fit-all (i .highest) (k .literals)
     unfolding k
-    old-k = proper-fit (ordered-proper (i .variables) (order-of s i) (chosen s i) (arranges s i run) c next-in)
+    old-k = proper-fit (ordered-proper (i .highest) (order-of s i) (chosen s i) (arranges s i run) c next-in)
 
-    first-new : new-variables cs ≤ i .variables
+    first-new : new-variables cs ≤ i .highest
     unfolding new-variables
     first-new = omega (arith, chosen-few s i run parted .1, ap new-variables e, sum-++ (λ d. length d - 1) cs (c ∷ ds))
 
     -- ---- the events
     -- its events, and those that follow
     es : List Event
-    es = choice-events (s .form) F k
+    es = choice-events (s .form) F c k
 
     rest : List Event
     rest = choices-events (s .form) (order-of s i) (last-new k) (after F (lines es)) ds
@@ -164,8 +165,8 @@ module _ (i : Input) (a : Accepted input-limits i) (s : Settings) where
     first-split : choosing s i ≡ events-of-first s i cs ++ (es ++ rest)
     unfolding choosing F k es rest standing-after-first events-of-first choices-events
     first-split =
-        ap (choices-events (s .form) (order-of s i) (i .variables) (cleared (i .formula))) e
-        ∙ choices-split (s .form) (order-of s i) (i .variables) (cleared (i .formula)) cs (c ∷ ds) arranged-first
+        ap (choices-events (s .form) (order-of s i) (i .highest) (cleared (i .formula))) e
+        ∙ choices-split (s .form) (order-of s i) (i .highest) (cleared (i .formula)) cs (c ∷ ds)
 
     events-split : events s i ≡ events-up-to s i cs ++ (es ++ rest)
     unfolding events-up-to
@@ -177,8 +178,8 @@ module _ (i : Input) (a : Accepted input-limits i) (s : Settings) where
     first-more : events-of-first s i (cs ++ (c ∷ [])) ≡ events-of-first s i cs ++ es
     unfolding F k es standing-after-first events-of-first
     first-more =
-        choices-split (s .form) (order-of s i) (i .variables) (cleared (i .formula)) cs (c ∷ []) arranged-first
-        ∙ ap (λ (xs : List Event). events-of-first s i cs ++ xs) (choice-alone (s .form) (order-of s i) (i .variables + new-variables cs) F c)
+        choices-split (s .form) (order-of s i) (i .highest) (cleared (i .formula)) cs (c ∷ [])
+        ∙ ap (λ (xs : List Event). events-of-first s i cs ++ xs) (choice-alone (s .form) (order-of s i) (used-after (order-of s i) (i .highest) cs) F c)
 
     stands-F : after (i .formula) (lines (events-up-to s i cs)) ≡ F
     unfolding F events-up-to standing-after-first
@@ -202,41 +203,17 @@ module _ (i : Input) (a : Accepted input-limits i) (s : Settings) where
         ap (λ (xs : List Event). clearing (i .formula) ++ xs) first-more
         ∙ sym (append-assoc (clearing (i .formula)) (events-of-first s i cs) es)
 
-    next-below-of : last-new k ≡ i .variables + new-variables (cs ++ (c ∷ []))
-    unfolding k new-variables sum-of
-    next-below-of =
-        omega (
-          arith,
-          ordered-new (i .variables) (order-of s i) (chosen s i) (arranges s i run) c next-in (i .variables + new-variables cs),
-          sum-++ (λ d. length d - 1) cs (c ∷ []),
-        )
+    next-below-of : last-new k ≡ used-after (order-of s i) (i .highest) (cs ++ (c ∷ []))
+    unfolding k used-after
+    next-below-of = sym (used-++ (order-of s i) (i .highest) cs (c ∷ []))
 
     -- ---- sizes
-    few-F : length F ≤ 300_000
-    unfolding input-limits
-    few-F =
-        let xs = events-up-to s i cs in
-        let w = literal-weight 0 (chosen s i) in
-        omega (
-          arith,
-          weight-after s i run 1 0 xs (es ++ rest) events-split,
-          weight-most 1 0 w (literal-most 0 (chosen s i)) (i .formula),
-          weight-least 1 0 w (literal-least 0 (chosen s i)) F,
-          ap (sum-of (weight 1 w)) stands-F,
-          run-risen s i run 4,
-          ap (sum-of (risen 4)) events-split,
-          sum-++ (risen 4) xs (es ++ rest),
-          few-new-variables s i run,
-          a .clauses-few,
-          a .literals-few,
-        )
-
     room-F : numbers-of F + added numbers (lines es) ≤ workspace-need i
     unfolding F k es
     room-F = steps i a s .choice cs ds c e
 
-    pub takeable-choice : Takeable s i (standing-after-first s i cs) (next-choice s i cs c)
-    unfolding F k es below-new
+    pub takeable-choice : Takeable (s .form) (workspace-need i) (standing-after-first s i cs) c (next-choice s i cs c)
+    unfolding F k es
     takeable-choice =
         let t = chosen-mem s i c next-in in
         let least : 5 ≤ length c = t .1 in
@@ -247,18 +224,16 @@ module _ (i : Input) (a : Accepted input-limits i) (s : Settings) where
           ready = ready-k;
           least = omega (arith, k-length);
           most = omega (arith, k-length);
-          old = old-k;
-          reach = λ x m. fit-up 8_000 (i .variables) x (few-variables a) (old-k x m);
-          new-few = omega (arith, first-new, (few-variables a));
-          few = few-F;
-          space = omega (arith, room-F, choice-space (s .form) F k);
-          order-space = λ o. omega (arith, room-F, order-space-of F k fits-k ready-k, ap (λ (form : Form). added numbers (lines (choice-events form F k))) o);
-          before = before-order F k fits-k ready-k;
-          front-proper = front-proper-of F k fits-k ready-k (λ d m. F-to d m .0);
+          reach = λ x m. fit-up 8_000 (i .highest) x (few-variables a) (old-k x m);
+          new-few = omega (arith, first-new, few-variables a, below-new-most (used-after (order-of s i) (i .highest) cs), used-most (order-of s i) (i .highest) cs arranged-first);
+          space = omega (arith, room-F, choice-space (s .form) F c k);
+          order-space = λ o. omega (arith, room-F, order-space-of F c k fits-k ready-k, ap (λ (form : Form). added numbers (lines (choice-events form F c k))) o);
+          before = before-order F c k fits-k ready-k;
+          front-proper = front-proper-of F c k fits-k ready-k (λ d m. F-to d m .0);
         }
 
     pub at-choice : At-choice s i cs c (standing-after-first s i cs) (next-choice s i cs c)
-    unfolding F k es below-new
+    unfolding F k es
     at-choice = record {
       takeable = takeable-choice;
       below = refl;
@@ -271,12 +246,12 @@ module _ (i : Input) (a : Accepted input-limits i) (s : Settings) where
     }
 
   pub choices-taken : Choices-taken s i
-  unfolding events-up-to events-of-first standing-after-first choices-events choosing clearing new-variables sum-of lines for-each after result log input
+  unfolding events-up-to events-of-first standing-after-first choices-events choosing clearing used-after lines for-each after result log
   choices-taken =
       let f = i .formula in
       record {
         at = at-choice;
-        start-below = omega arith;
+        start-below = refl;
         start-stands = refl;
         start-events = append-nil (clearing f);
         end-stands =

@@ -10,7 +10,7 @@ use Rattle.definition.specs.Reading.{Input, input-limits}
 use Rattle.definition.specs.Events.{Event}
 use Rattle.definition.specs.Clearing.{clear-clashes, clear-pure}
 use Rattle.definition.specs.Reencoding.{lines, counter-form, Settings, chosen, events, unclashed, cleared}
-use Rattle.definition.specs.Alignment.{no-wish}
+use Rattle.definition.specs.Alignment.{as-listed}
 use Rattle.theory_clearing.proofs.Clashes.{lowest-none, unclashed-proper, no-clash-left}
 use Rattle.theory_clearing.proofs.Cleared.{cleared-facts}
 use Rattle.theory_text.specs.Accepted.{Accepted}
@@ -25,7 +25,7 @@ use Rattle.theory_run.specs.Sizes.{Standing-cleared}
 module _ (i : Input) (a : Accepted input-limits i) where
   -- clearing only shortens, in any settings
   any-settings : Settings
-  any-settings = record { form = counter-form; wish = no-wish }
+  any-settings = record { form = counter-form; arrangement = as-listed }
 
   shorter : (xs ys : List Event) → events any-settings i ≡ xs ++ ys → ((e : Event) → List·Memᴰ e xs → Clearing e) → length (after (i .formula) (lines xs)) ≤ length (i .formula)
   shorter xs ys e h =

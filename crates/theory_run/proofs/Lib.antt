@@ -4,7 +4,7 @@ pub mod Choices
 pub mod Cleared
 pub mod LogLength
 pub mod Sizes
-pub mod OpenClause
 pub mod ChoicesSound
 pub mod LogSound
 pub mod Steps
+pub mod Taken

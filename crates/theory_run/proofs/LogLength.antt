@@ -13,9 +13,9 @@ use Rattle.definition.specs.Standing.{Line, addition, deletion, literals, after
 use Rattle.definition.specs.Reading.{Input, input-limits}
 use Rattle.definition.specs.Events.{Clash, Event}
 use Rattle.definition.specs.Clearing.{clash-lines, lowest-clash, pure-literal, clear-next, clear-up-to, clear-clashes, pure-next, clear-pure-from, clear-pure}
-use Rattle.definition.specs.Counter.{below-new, last-new}
+use Rattle.definition.specs.Counter.{last-new}
 use Rattle.definition.specs.Log.{clause-text, log-line-text, log-text}
-use Rattle.definition.specs.Reencoding.{lines-of, lines, Settings, choice-events, choices-events, unclashed, cleared, chosen, input, events, log}
+use Rattle.definition.specs.Reencoding.{lines-of, lines, Settings, choice-events, choices-events, unclashed, cleared, chosen, events, log}
 use Rattle.definition.specs.Calls.{workspace-need}
 use Rattle.theory_base.proofs.Digits.{digits-within}
 use Rattle.theory_base.proofs.Loops.{for-each-++, mem-for-each}
@@ -23,11 +23,11 @@ use Rattle.theory_base.proofs.Sums.{sum-++, sum-≤, sum-most, sum-for-each, co
 use Rattle.theory_base.proofs.Fitting.{Up-to}
 use Rattle.theory_base.proofs.Replay.{All-lines, lines-++}
 use Rattle.theory_room.proofs.Weights.{weight, weight-of-set, gained, added, deleted, balance}
-use Rattle.theory_room.specs.Choices.{new-variables, clearing, order-of, events-of-first, standing-after-first, next-choice}
+use Rattle.theory_room.specs.Choices.{clearing, order-of, events-of-first, standing-after-first, next-choice, used-after}
 use Rattle.theory_room.proofs.Cleared.{clearing-event, clearing-lines-to}
 use Rattle.theory_room.proofs.Additions.{numbers, clearing-adds}
 use Rattle.theory_text.specs.Accepted.{Accepted}
-use Rattle.theory_room.proofs.Runs.{Run, choosing, events-are, weight-most, log-to, log-proper}
+use Rattle.theory_room.proofs.Runs.{Run, choosing, events-are, weight-most, log-to, log-proper, top-most}
 use Rattle.theory_run.proofs.LogSound.{chosen-parted, accepted-run}
 use Rattle.theory_run.proofs.Steps.{steps}
 use Rattle.theory_run.specs.Sizes.{Short}
@@ -131,32 +131,32 @@ module _ (i : Input) (a : Accepted input-limits i) (s : Settings) where
   unfolding input-limits lines
   clearing-added =
       let f = i .formula in
-      let to = clearing-lines-to (i .variables) f (a .proper) (a .fits) in
+      let to = clearing-lines-to (i .highest) f (a .proper) (a .fits) in
       let each : (e : Event) → List·Memᴰ e (clearing f) → added numbers (lines-of e) ≤ 8_001 =
-      λ e m. omega (arith, clearing-adds (i .variables) e (clearing-event f e m) (λ x j. to x (mem-for-each (clearing f) lines-of e x m j)), a .variables-few) in
+      λ e m. omega (arith, clearing-adds (i .highest) e (clearing-event f e m) (λ x j. to x (mem-for-each (clearing f) lines-of e x m j)), a .highest-few) in
       omega (arith, events-add-most 8_001 (clearing f) each, clearing-few f, unclashed-shorter i a, a .clauses-few)
 
   -- the workspace holds what one choice adds
   need-most : workspace-need i ≤ 1_300_000
   unfolding workspace-need input-limits
-  need-most = omega (arith, a .variables-few, a .clauses-few, a .literals-few)
+  need-most = omega (arith, a .highest-few, a .clauses-few, a .literals-few)
 
   -- the events of the choices ds, taken after cs
   events-of-others : List Clause → List Clause → List Event
-  events-of-others cs ds = choices-events (s .form) (order-of s i) (i .variables + new-variables cs) (standing-after-first s i cs) ds
+  events-of-others cs ds = choices-events (s .form) (order-of s i) (used-after (order-of s i) (i .highest) cs) (standing-after-first s i cs) ds
 
   choices-added : (cs ds : List Clause) → chosen s i ≡ cs ++ ds → added numbers (lines (events-of-others cs ds)) ≤ length ds * 1_300_000
-  unfolding events-of-others choices-events below-new
+  unfolding events-of-others choices-events
   choices-added cs [] e = omega (arith, sum-++ (gained numbers) (lines []) (lines []), ap (added numbers) (lines-++ [] []))
   choices-added cs (c ∷ ds) e =
       let F = standing-after-first s i cs in
       let k = next-choice s i cs c in
-      let es = choice-events (s .form) F k in
+      let es = choice-events (s .form) F c k in
       let rest = choices-events (s .form) (order-of s i) (last-new k) (after F (lines es)) ds in
       let t = at-choice i a s cs ds c e in
       let same : rest ≡ events-of-others (cs ++ (c ∷ [])) ds =
       ap (λ (n : ℕ). choices-events (s .form) (order-of s i) n (after F (lines es)) ds) (t .next-below)
-      ∙ ap (λ (X : Formula). choices-events (s .form) (order-of s i) (i .variables + new-variables (cs ++ (c ∷ []))) X ds) (sym (t .next-stands)) in
+      ∙ ap (λ (X : Formula). choices-events (s .form) (order-of s i) (used-after (order-of s i) (i .highest) (cs ++ (c ∷ []))) X ds) (sym (t .next-stands)) in
       omega (
         arith,
         ap (added numbers) (lines-++ es rest),
@@ -168,9 +168,9 @@ module _ (i : Input) (a : Accepted input-limits i) (s : Settings) where
       )
 
   choosing-added : added numbers (lines (choosing s i)) ≤ length (chosen s i) * 1_300_000
-  unfolding choosing events-of-others standing-after-first events-of-first choices-events new-variables sum-of lines for-each after
+  unfolding choosing events-of-others standing-after-first events-of-first choices-events used-after lines for-each after
   choosing-added =
-      let n : i .variables + 0 ≡ i .variables = omega arith in
+      let n : i .highest + 0 ≡ i .highest = omega arith in
       omega (
         arith,
         choices-added [] (chosen s i) refl,
@@ -178,7 +178,7 @@ module _ (i : Input) (a : Accepted input-limits i) (s : Settings) where
       )
 
   log-numbers : sum-of line-numbers (log s i) ≤ 4_900_000_000
-  unfolding log input input-limits
+  unfolding log input-limits
   log-numbers =
       let f = i .formula in
       let few = chosen-few s i run (chosen-parted s i (a .proper) (a .fits)) .2 in
@@ -191,14 +191,14 @@ module _ (i : Input) (a : Accepted input-limits i) (s : Settings) where
         sum-++ (gained numbers) (lines (clearing f)) (lines (choosing s i)),
         clearing-added,
         choosing-added,
-        a .variables-few,
+        a .highest-few,
         a .clauses-few,
         a .literals-few,
       )
 
   pub log-lines : All-lines (Up-to 70_000) (log s i)
   unfolding input-limits
-  log-lines x m y j = omega (arith, log-to s i run x m .1 y j, chosen-few s i run (chosen-parted s i (a .proper) (a .fits)) .1, a .variables-few)
+  log-lines x m y j = omega (arith, log-to s i run x m .1 y j, chosen-few s i run (chosen-parted s i (a .proper) (a .fits)) .1, a .highest-few, top-most s i run)
 
   pub log-text-length : length (log-text (log s i)) ≤ 34_300_000_000
   log-text-length = omega (arith, lines-short (log s i) log-lines, log-numbers)

@@ -13,7 +13,7 @@ use Rattle.definition.specs.Reading.{Input, input-limits}
 use Rattle.definition.specs.Standing.{after}
 use Rattle.definition.specs.Clearing.{times, unique, clear-clashes, clear-pure}
 use Rattle.definition.specs.Counter.{choice-size, choices, size}
-use Rattle.definition.specs.Reencoding.{Settings, lines, unclashed, cleared, input, chosen, events, log, result}
+use Rattle.definition.specs.Reencoding.{Settings, lines, unclashed, cleared, chosen, events, log, result}
 use Rattle.theory_base.proofs.Tests.{of-true, and-r}
 use Rattle.theory_base.proofs.Members.{those-mem, same-variable}
 use Rattle.theory_base.specs.Clauses.{Disjoint, Parted, Proper-all, Fits}
@@ -49,17 +49,17 @@ module _ (F : Formula) (free : Clash-free F) where
 
 -- ---- the whole log
 
-module _ (s : Settings) (i : Input) (proper : Proper-all (i .formula)) (fits : Fits (i .variables) (i .formula)) where
-  facts : Proper-all (cleared (i .formula)) × Fits (i .variables) (cleared (i .formula)) × Clash-free (cleared (i .formula))
+module _ (s : Settings) (i : Input) (proper : Proper-all (i .formula)) (fits : Fits (i .highest) (i .formula)) where
+  facts : Proper-all (cleared (i .formula)) × Fits (i .highest) (cleared (i .formula)) × Clash-free (cleared (i .formula))
   facts = cleared-facts proper fits
 
   pub chosen-parted : Parted (chosen s i)
-  unfolding chosen choices input
+  unfolding chosen choices
   chosen-parted =
       let F = cleared (i .formula) in
       parted F (facts .2) (λ c. choice-size c && unique F c) (λ c t. and-r (choice-size c) (unique F c) t) F (λ d m. m) (λ x. omega arith)
 
-  pub chosen-ready : (c : Clause) → List·Memᴰ c (chosen s i) → (n : ℕ) → Ready (cleared (i .formula)) (as-choice n (order-of s i) c)
+  pub chosen-ready : (c : Clause) → List·Memᴰ c (chosen s i) → (n : ℕ) → Ready (cleared (i .formula)) c (as-choice n (order-of s i) c)
   unfolding size
   chosen-ready c m n =
       let h = chosen-arranges s i proper fits in
@@ -68,7 +68,7 @@ module _ (s : Settings) (i : Input) (proper : Proper-all (i .formula)) (fits : F
       record {
         proper = o .2;
         proper-clause = o .0 .0;
-        long = ordered-size (i .variables) (order-of s i) (chosen s i) h c m n;
+        long = ordered-size (i .highest) (order-of s i) (chosen s i) h c m n;
         standing = r .0;
         same = o .3;
         alone = λ x j. unique-at (cleared (i .formula)) c (r .3) x (o .3 .0 x j);
@@ -79,22 +79,21 @@ module _ (s : Settings) (i : Input) (proper : Proper-all (i .formula)) (fits : F
   unfolding choosing cleared
   events-sound =
       let f = i .formula in
-      let c = choices-sound (s .form) (order-of s i) (i .variables) (cleared f) (chosen s i) (facts .1) chosen-ready chosen-parted in
-      let p = pure-sound (i .variables) (unclashed f) (choosing s i) (unclashed-proper proper fits .1) (c .1) (c .0) in
-      clashes-sound (i .variables) f (clear-pure (unclashed f) ++ choosing s i) proper fits (p .1) (p .0) .0
+      let c = choices-sound (s .form) (order-of s i) (i .highest) (cleared f) (chosen s i) (facts .1) chosen-ready chosen-parted in
+      let p = pure-sound (i .highest) (unclashed f) (choosing s i) (unclashed-proper proper fits .1) (c .1) (c .0) in
+      clashes-sound (i .highest) f (clear-pure (unclashed f) ++ choosing s i) proper fits (p .1) (p .0) .0
 
-  whole : Sound (input s i) (events s i) (log s i) (after (cleared (i .formula)) (lines (choosing s i))) []
-  unfolding input events log choosing
+  whole : Sound (i .formula) (events s i) (log s i) (after (cleared (i .formula)) (lines (choosing s i))) []
+  unfolding events log choosing
   whole =
       let es = clear-clashes (i .formula) in
       let ps = clear-pure (unclashed (i .formula)) in
       rw (append-assoc es ps (choosing s i), lines-++ es (ps ++ choosing s i), lines-++ ps (choosing s i)) events-sound
 
-  pub log-sound : Sound (input s i) (events s i) (log s i) (result s i) []
+  pub log-sound : Sound (i .formula) (events s i) (log s i) (result s i) []
   unfolding result
   log-sound = rw (leads-after (sound-leads whole)) whole
 
 -- what the bounds ask of a run holds where the formula was accepted
 pub accepted-run : (s : Settings) (i : Input) → Accepted input-limits i → Run s i
-unfolding input
-accepted-run s i a = record { proper = a .proper; fits = a .fits; leads = sound-leads (log-sound s i (a .proper) (a .fits)) }
+accepted-run s i a = record { proper = a .proper; fits = a .fits; formula-few = a .formula-few; leads = sound-leads (log-sound s i (a .proper) (a .fits)) }

@@ -22,7 +22,7 @@ use Rattle.theory_base.proofs.Fitting.{Up-to, proper-fit}
 use Rattle.theory_text.specs.Accepted.{Accepted}
 use Rattle.theory_room.proofs.Weights.{weight, gained, added}
 use Rattle.theory_room.proofs.Additions.{numbers}
-use Rattle.theory_room.proofs.Runs.{choosing}
+use Rattle.theory_room.proofs.Runs.{choosing, top-most}
 use Rattle.theory_room.proofs.Limits.{result-fits, clauses-limit, literals-limit}
 use Rattle.theory_run.proofs.LogSound.{chosen-parted, accepted-run}
 use Rattle.theory_run.proofs.Steps.{steps, events-from-clashes}
@@ -74,17 +74,18 @@ module _ (i : Input) (a : Accepted input-limits i) (s : Settings) where
       let r = accepted-run s i a in
       let parted = chosen-parted s i (a .proper) (a .fits) in
       let few = chosen-few s i r parted in
-      let v : i .variables ≤ 8_000 = a .variables-few in
-      let m = clauses-limit s i r v (a .clauses-few) (a .literals-few) in
-      let l = literals-limit s i r v (a .clauses-few) (a .literals-few) in
-      let h : highest-used s i ≤ 16_000 = omega (arith, highest-is s i r, few .1) in
+      let v : i .highest ≤ 8_000 = a .highest-few in
+      let c : length f ≤ 20_000 = omega (arith, a .formula-few, a .clauses-few) in
+      let m = clauses-limit s i r v c (a .literals-few) in
+      let l = literals-limit s i r v c (a .literals-few) in
+      let h : highest-used s i ≤ 16_000 = omega (arith, highest-is s i r, top-most s i r, few .1) in
       record {
         log-text-short = omega (arith, log-text-length i a s);
         log-short = omega (arith, log-length i a s);
         parts-short = parts-short i a s;
         clashes-short = parts-short i a s [] (clear-clashes f) (clear-pure (unclashed f) ++ choosing s i) (events-from-clashes s i);
         pure-short = parts-short i a s (clear-clashes f) (clear-pure (unclashed f)) (choosing s i) (events-from-clashes s i);
-        choice-short = λ cs ds c e. let t = at-choice i a s cs ds c e in parts-short i a s (events-up-to s i cs) (choice-events (s .form) (standing-after-first s i cs) (next-choice s i cs c)) (t .rest) (t .split);
+        choice-short = λ cs ds c e. let t = at-choice i a s cs ds c e in parts-short i a s (events-up-to s i cs) (choice-events (s .form) (standing-after-first s i cs) c (next-choice s i cs c)) (t .rest) (t .split);
         highest-is = highest-is s i r;
         highest-few = h;
         chosen-proper = chosen-proper s i r parted .0;

@@ -5,34 +5,35 @@ use Prim.Native.Nat.{ℕ}
 use Rattle.definition.specs.Lists.{for-each}
 use Rattle.definition.specs.Literals.{Clause, Formula}
 use Rattle.definition.specs.Standing.{after}
-use Rattle.definition.specs.Counter.{below-new, last-new}
+use Rattle.definition.specs.Counter.{last-new}
 use Rattle.definition.specs.Reencoding.{lines, Form, choice-events, choices-events}
 use Rattle.theory_base.specs.Clauses.{Parted, Fits}
 use Rattle.theory_base.proofs.Replay.{after-++, lines-++}
 use Rattle.theory_counter.specs.Ready.{Ready}
 use Rattle.theory_room.specs.Choices.{as-choice}
-use Rattle.theory_run.proofs.ChoicesSound.{after-events, after-fits, still-ready}
+use Rattle.theory_run.proofs.ChoicesSound.{fits-below, after-events, after-fits, still-ready}
 
 -- all these choices can be taken where F stands
 abbrev pub All-ready : (Clause → Clause) → Formula → List Clause → Type 0
-All-ready order F cs = (c : Clause) → List·Memᴰ c cs → (m : ℕ) → Ready F (as-choice m order c)
+All-ready order F cs = (c : Clause) → List·Memᴰ c cs → (m : ℕ) → Ready F c (as-choice m order c)
 
 module _ (form : Form) (order : Clause → Clause) where
   -- the events of one choice
-  pub choice-alone : (n : ℕ) (f : Formula) (c : Clause) → choices-events form order n f (c ∷ []) ≡ choice-events form f (as-choice n order c)
+  pub choice-alone : (n : ℕ) (f : Formula) (c : Clause) → choices-events form order n f (c ∷ []) ≡ choice-events form f c (as-choice n order c)
   unfolding choices-events
-  choice-alone n f c = append-nil (choice-events form f (as-choice n order c))
+  choice-alone n f c = append-nil (choice-events form f c (as-choice n order c))
 
   -- a choice is ready where those before it have been taken
   pub ready-after : (n : ℕ) (F : Formula) (cs ds : List Clause) → Fits n F → All-ready order F (cs ++ ds) → Parted (cs ++ ds) → All-ready order (after F (lines (choices-events form order n F cs))) ds
-  unfolding choices-events lines for-each after below-new
+  unfolding choices-events lines for-each after
   ready-after n F [] ds f q p = q
   ready-after n F (b ∷ cs) ds f q p =
       let k = as-choice n order b in
-      let es = choice-events form F k in
+      let es = choice-events form F b k in
       let r = q b (here refl) n in
+      let g = fits-below n F f in
       let E = after F (lines es) in
-      let fits : Fits (last-new k) E = rw (after-events F k f r form) (after-fits F k f r form) in
+      let fits : Fits (last-new k) E = rw (after-events F b k g r form) (after-fits F b k g r form) in
       let rest = choices-events form order (last-new k) E cs in
-      let ih = ready-after (last-new k) E cs ds fits (λ d i m. subst (λ (X : Formula). Ready X (as-choice m order d)) (sym (after-events F k f r form)) (still-ready form order n m F b d f r (p .0 d i) (q d (there i) m))) (p .1) in
+      let ih = ready-after (last-new k) E cs ds fits (λ d i m. subst (λ (X : Formula). Ready X d (as-choice m order d)) (sym (after-events F b k g r form)) (still-ready form order n m F b d f r (p .0 d i) (q d (there i) m))) (p .1) in
       subst (λ (X : Formula). All-ready order X ds) (sym (ap (after F) (lines-++ es rest) ∙ after-++ F (lines es) (lines rest))) ih

@@ -9,7 +9,7 @@ use Rattle.definition.specs.Standing.{after}
 use Rattle.definition.specs.Reading.{Input, input-limits}
 use Rattle.definition.specs.Events.{Clash, Event, clash-cleared}
 use Rattle.definition.specs.Clearing.{clash-lines, pure-lines, clear-clashes, clear-pure}
-use Rattle.definition.specs.Reencoding.{Settings, lines-of, lines, choice-events, unclashed, input, chosen, events}
+use Rattle.definition.specs.Reencoding.{Settings, lines-of, lines, choice-events, unclashed, chosen, events}
 use Rattle.definition.specs.Calls.{workspace-need, numbers-of}
 use Rattle.theory_clearing.proofs.Pure.{Eliminates, no-more, next, pure-eliminates}
 use Rattle.theory_text.specs.Accepted.{Accepted}
@@ -26,7 +26,7 @@ pub record Steps (s : Settings) (i : Input) : Type 0 where
   pub clash : (xs ys : List Event) (c : Clash) → clear-clashes (i .formula) ≡ xs ++ (clash-cleared c ∷ ys) → numbers-of (after (i .formula) (lines xs)) + added numbers (clash-lines c) ≤ workspace-need i
   pub pure-pass : numbers-of (unclashed (i .formula)) + added numbers (lines (clear-pure (unclashed (i .formula)))) ≤ workspace-need i
   pub choice : (cs ds : List Clause) (c : Clause) → chosen s i ≡ cs ++ (c ∷ ds) → let F = standing-after-first s i cs in
-      numbers-of F + added numbers (lines (choice-events (s .form) F (next-choice s i cs c))) ≤ workspace-need i
+      numbers-of F + added numbers (lines (choice-events (s .form) F c (next-choice s i cs c))) ≤ workspace-need i
 
 -- the pure pass adds nothing
 pure-adds : {F G : Formula} {es : List Event} → Eliminates F es G → added numbers (lines es) ≡ 0
@@ -36,11 +36,11 @@ pure-adds (next q r s) = omega (arith, pure-adds s)
 
 -- the events, from the clashes on
 pub events-from-clashes : (s : Settings) (i : Input) → events s i ≡ clear-clashes (i .formula) ++ (clear-pure (unclashed (i .formula)) ++ choosing s i)
-unfolding events input choosing
+unfolding events choosing
 events-from-clashes s i = append-assoc (clear-clashes (i .formula)) (clear-pure (unclashed (i .formula))) (choosing s i)
 
 pub steps : (i : Input) → Accepted input-limits i → (s : Settings) → Steps s i
-unfolding input unclashed lines-of
+unfolding unclashed lines-of
 steps i a s =
     let r = accepted-run s i a in
     let rest = clear-pure (unclashed (i .formula)) ++ choosing s i in

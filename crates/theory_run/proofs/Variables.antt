@@ -11,7 +11,7 @@ use Rattle.definition.specs.Literals.{Clause, Formula, literals-of}
 use Rattle.definition.specs.Standing.{Line, addition, deletion, literals, highest-in, after}
 use Rattle.definition.specs.Reading.{Input}
 use Rattle.definition.specs.Events.{Choice}
-use Rattle.definition.specs.Counter.{below-new, last-new, missing-pairs, counter, take-choice}
+use Rattle.definition.specs.Counter.{last-new, missing-pairs, counter, take-choice}
 use Rattle.definition.specs.Order.{order-events}
 use Rattle.definition.specs.Alignment.{choice-literals}
 use Rattle.definition.specs.Reencoding.{lines-of, lines, Form, counter-form, order-form, Settings, choice-events, choices-events, cleared, chosen, log, highest-used}
@@ -24,9 +24,10 @@ use Rattle.theory_counter.specs.Ready.{Well-formed}
 use Rattle.theory_counter.proofs.Front.{taken-lines-are}
 use Rattle.theory_counter.specs.Front.{pair-copies}
 use Rattle.theory_order.proofs.Found.{counter-stands}
-use Rattle.theory_room.specs.Choices.{clearing, new-variables, as-choice, order-of}
-use Rattle.theory_room.proofs.Lines.{Arranges, ordered-formed, ordered-new, others}
+use Rattle.theory_room.specs.Choices.{clearing, new-variables, as-choice, order-of, used-after}
+use Rattle.theory_room.proofs.Lines.{Arranges, ordered-formed, others, used-least}
 use Rattle.theory_room.proofs.Runs.{Run, top, choosing, events-are, arranges, chosen-mem, log-to}
+use Rattle.theory_counter.proofs.NewVariables.{last-new-above}
 
 -- ---- the literals of all choices
 
@@ -70,36 +71,36 @@ unfolding highest-in literals
 added-highest d x (c ∷ cs) (here e) m = omega (arith, highest-at c x (rw e at m))
 added-highest d x (c ∷ cs) (there i) m = omega (arith, added-highest d x cs i m)
 
-taken-highest : (k : Choice) → Well-formed k → (f : Formula) → last-new k ≤ highest-in (lines-of (take-choice f k))
+taken-highest : (c : Clause) (k : Choice) → Well-formed k → (f : Formula) → last-new k ≤ highest-in (lines-of (take-choice f c k))
 unfolding last-new
-taken-highest k u f =
+taken-highest c k u f =
     let l = u .long in
     let r = counter-stands k u (last-new k) (omega arith) (omega arith) in
     let missing = missing-pairs f (k .literals) in
     omega (
       arith,
-      ap highest-in (taken-lines-are f k),
+      ap highest-in (taken-lines-are f c k),
       highest-in-++ (map addition (missing ++ counter k)) (map deletion (k .literals ∷ pair-copies f k)),
       added-highest (r .0) (r .2) (missing ++ counter k) (Memᴰ·append-right missing (r .1)) (r .3),
       r .4,
     )
 
-choice-highest : (form : Form) (k : Choice) → Well-formed k → (f : Formula) → last-new k ≤ highest-in (lines (choice-events form f k))
+choice-highest : (form : Form) (c : Clause) (k : Choice) → Well-formed k → (f : Formula) → last-new k ≤ highest-in (lines (choice-events form f c k))
 unfolding choice-events lines for-each
-choice-highest counter-form k u f = omega (arith, taken-highest k u f, highest-in-++ (lines-of (take-choice f k)) [])
-choice-highest order-form k u f = omega (arith, taken-highest k u f, highest-in-++ (lines-of (take-choice f k)) (lines (order-events k (after f (lines-of (take-choice f k))))))
+choice-highest counter-form c k u f = omega (arith, taken-highest c k u f, highest-in-++ (lines-of (take-choice f c k)) [])
+choice-highest order-form c k u f = omega (arith, taken-highest c k u f, highest-in-++ (lines-of (take-choice f c k)) (lines (order-events k (after f (lines-of (take-choice f c k))))))
 
-choices-highest : (form : Form) (order : Clause → Clause) (n : ℕ) (f : Formula) (cs : List Clause) → Arranges n order cs → n + new-variables cs ≤ max n (highest-in (lines (choices-events form order n f cs)))
-unfolding choices-events below-new new-variables sum-of
+choices-highest : (form : Form) (order : Clause → Clause) (n : ℕ) (f : Formula) (cs : List Clause) → Arranges n order cs → used-after order n cs ≤ max n (highest-in (lines (choices-events form order n f cs)))
+unfolding choices-events used-after
 choices-highest form order n f [] h = omega arith
 choices-highest form order n f (c ∷ cs) h =
     let k = as-choice n order c in
-    let es = choice-events form f k in
+    let es = choice-events form f c k in
     let rest = choices-events form order (last-new k) (after f (lines es)) cs in
     omega (
       arith,
-      ordered-new n order (c ∷ cs) h c (here refl) n,
-      choice-highest form k (ordered-formed n order (c ∷ cs) h c (here refl) n (omega arith)) f,
+      last-new-above (order c) n,
+      choice-highest form c k (ordered-formed n order (c ∷ cs) h c (here refl) n (omega arith)) f,
       choices-highest form order (last-new k) (after f (lines es)) cs (others n order c cs h),
       ap highest-in (lines-++ es rest),
       highest-in-++ (lines es) (lines rest),
@@ -107,24 +108,25 @@ choices-highest form order n f (c ∷ cs) h =
 
 -- ---- of a run
 module _ (s : Settings) (i : Input) (h : Run s i) where
-  pub highest-is : highest-used s i ≡ i .variables + new-variables (chosen s i)
+  pub highest-is : highest-used s i ≡ used-after (order-of s i) (i .highest) (chosen s i)
   unfolding highest-used log choosing
   highest-is =
       let f = i .formula in
       omega (
         arith,
         highest-in-le (top s i) (log s i) (λ x m. highest-le (top s i) (literals x) (log-to s i h x m .1)),
-        choices-highest (s .form) (order-of s i) (i .variables) (cleared f) (chosen s i) (arranges s i h),
+        used-least (order-of s i) (i .highest) (chosen s i),
+        choices-highest (s .form) (order-of s i) (i .highest) (cleared f) (chosen s i) (arranges s i h),
         ap highest-in (ap lines (events-are s i) ∙ lines-++ (clearing f) (choosing s i)),
         highest-in-++ (lines (clearing f)) (lines (choosing s i)),
       )
 
   module _ (parted : Parted (chosen s i)) where
-    pub chosen-proper : Proper-to (i .variables) (choice-literals (chosen s i))
-    chosen-proper = parted-proper (i .variables) (chosen s i) (λ c m. arranges s i h c m .0) parted
+    pub chosen-proper : Proper-to (i .highest) (choice-literals (chosen s i))
+    chosen-proper = parted-proper (i .highest) (chosen s i) (λ c m. arranges s i h c m .0) parted
 
-    pub chosen-few : (literals-of (chosen s i) ≤ i .variables) × (new-variables (chosen s i) ≤ i .variables) × (5 * length (chosen s i) ≤ i .variables)
+    pub chosen-few : (literals-of (chosen s i) ≤ i .highest) × (new-variables (chosen s i) ≤ i .highest) × (5 * length (chosen s i) ≤ i .highest)
     chosen-few =
-        let l = proper-length (i .variables) (choice-literals (chosen s i)) chosen-proper in
+        let l = proper-length (i .highest) (choice-literals (chosen s i)) chosen-proper in
         let r = five-each (chosen s i) (λ c m. chosen-mem s i c m .1) in
         (omega (arith, literals-length (chosen s i)), omega (arith, literals-length (chosen s i), r .0), omega (arith, literals-length (chosen s i), r .1))

@@ -15,7 +15,7 @@ use Rattle.definition.specs.Reencoding.{lines, Settings, choice-events, unclash
 use Rattle.definition.specs.Calls.{workspace-need, numbers-of}
 use Rattle.theory_base.specs.Clauses.{Proper, Proper-all, Fits, Fit-all}
 use Rattle.theory_clearing.specs.Clashes.{Clash-free}
-use Rattle.theory_room.specs.Choices.{new-variables, standing-after-first, next-choice}
+use Rattle.theory_room.specs.Choices.{standing-after-first, next-choice, used-after, order-of}
 use Rattle.theory_run.specs.Choices.{events-up-to}
 
 -- lines ls written after lines ks: places in the log and line numbers stay small
@@ -26,7 +26,7 @@ pub record Short (ks ls : List Line) : Type 0 where
 -- what stands when no clash is left, or when the pure clauses are deleted too; proved as `unclashed-standing` and `cleared-standing` in proofs/Cleared
 pub record Standing-cleared (i : Input) (F : Formula) : Type 0 where
   pub proper : Proper-all F
-  pub fits : Fits (i .variables) F
+  pub fits : Fits (i .highest) F
   pub free : Clash-free F
   pub few : length F ≤ 20_000
 
@@ -39,13 +39,13 @@ pub record Sizes (s : Settings) (i : Input) : Type 0 where
   pub clashes-short : Short [] (lines (clear-clashes (i .formula)))
   pub pure-short : Short (lines (clear-clashes (i .formula))) (lines (clear-pure (unclashed (i .formula))))
   pub choice-short : (cs ds : List Clause) (c : Clause) → chosen s i ≡ cs ++ (c ∷ ds) →
-      Short (lines (events-up-to s i cs)) (lines (choice-events (s .form) (standing-after-first s i cs) (next-choice s i cs c)))
+      Short (lines (events-up-to s i cs)) (lines (choice-events (s .form) (standing-after-first s i cs) c (next-choice s i cs c)))
   -- H
-  pub highest-is : highest-used s i ≡ i .variables + new-variables (chosen s i)
+  pub highest-is : highest-used s i ≡ used-after (order-of s i) (i .highest) (chosen s i)
   pub highest-few : highest-used s i ≤ 16_000
   -- the choices: no literal stands in two, so that there are few
   pub chosen-proper : Proper (choice-literals (chosen s i))
-  pub chosen-reach : Fit-all (i .variables) (choice-literals (chosen s i))
+  pub chosen-reach : Fit-all (i .highest) (choice-literals (chosen s i))
   pub chosen-numbers : numbers-of (chosen s i) ≤ 9_600
   pub chosen-count : length (chosen s i) ≤ 1_600
   -- a resolvent fits beside what stands

@@ -13,13 +13,14 @@ use Rattle.definition.specs.Lists.{sum-of}
 use Rattle.definition.specs.Checked.{value, or-fault, through}
 use Rattle.definition.specs.Literals.{Formula, holds, literals-of}
 use Rattle.definition.specs.Text.{Bytes, TextLine, number, natural, fields, line-text, past-comments, text-lines}
-use Rattle.definition.specs.Reading.{Limits, Input, Header, Reader, read-header-fields, read-header-line, read-header, read-literal, end-clause, read-word, end-text, read-clauses, read-formula}
+use Rattle.definition.specs.Reading.{Limits, Input, as-read, Header, Reader, read-header-fields, read-header-line, read-header, read-literal, end-clause, read-word, end-text, read-clauses, read-formula, input-limits}
 use Rattle.theory_base.proofs.Tests.{differ, or-false-both}
 use Rattle.theory_base.proofs.Members.{mem-holds}
 use Rattle.theory_base.specs.Clauses.{Proper, Proper-all, Fit, Fits}
 use Rattle.theory_base.proofs.Clauses.{literals-snoc, members-snoc, proper-snoc}
 use Rattle.theory_base.proofs.Outcomes.{fault-value, value-same, refuse-value, bind-value, through-keeps}
 use Rattle.theory_text.specs.Accepted.{Accepted}
+use Rattle.definition.specs.Calls.{read-input}
 
 -- ---- between two words
 record Reads (most : Limits) (v c : ℕ) (r : Reader) : Type 0 where
@@ -47,26 +48,26 @@ module _ (most : Limits) (v c : ℕ) where
         here-proper = proper-snoc (r .here) l (p .here-proper) z (λ i. differ (mem-holds l (r .here) i) (e5 .0)) (λ i. differ (mem-holds (negℤ l) (r .here) i) (e6 .0));
       })
 
-  reads-end : (r : Reader) → length (r .done) < c → Reads most v c r → Reads most v c (end-clause r)
+  reads-end : (r s : Reader) → length (r .done) < c → Reads most v c r → end-clause r ≡ value s → Reads most v c s
   unfolding end-clause
-  reads-end r h p = record {
+  reads-end r s h p e = subst (Reads most v c) (value-same _ s e) (record {
     clauses-few = rw (length-append (r .done) (r .here ∷ [])) (omega arith);
     literals-few = rw (literals-snoc (r .done) (r .here)) (omega (arith, p .literals-few));
     fits = members-snoc (λ d. (x : ℤ) → List·Memᴰ x d → Fit v x) (r .done) (r .here) (p .fits) (p .here-fits);
     proper = members-snoc Proper (r .done) (r .here) (p .proper) (p .here-proper);
     here-fits = λ x i. absurd (List·Memᴰ·not-nil i);
     here-proper = tt;
-  }
+  })
 
   reads-word : (r : Reader) (w : Bytes) (s : Reader) → Reads most v c r → read-word most v c r w ≡ value s → Reads most v c s
   unfolding read-word
   reads-word r w s p e =
       let room = refuse-value (leb c (length (r .done))) 8 _ s e in
-      let read = bind-value (or-fault (number w) 3) (λ n. cond (eqb 0 (natAbs n)) (value (end-clause r)) (read-literal most v r n)) s (room .1) in
+      let read = bind-value (or-fault (number w) 3) (λ n. cond (eqb 0 (natAbs n)) (end-clause r) (read-literal most v r n)) s (room .1) in
       go (read .0) (leb-false c (length (r .done)) (room .0)) (eqb 0 (natAbs (read .0))) refl (read .2)
     where
-      go : (n : ℤ) → length (r .done) < c → (b : Bool) → eqb 0 (natAbs n) ≡ b → cond b (value (end-clause r)) (read-literal most v r n) ≡ value s → Reads most v c s
-      go n h true q f = rw (value-same (end-clause r) s f) at (reads-end r h p)
+      go : (n : ℤ) → length (r .done) < c → (b : Bool) → eqb 0 (natAbs n) ≡ b → cond b (end-clause r) (read-literal most v r n) ≡ value s → Reads most v c s
+      go n h true q f = reads-end r s h p f
       go n h false q f = reads-literal r n s (λ z. eqb-false 0 (natAbs n) q (ap natAbs (sym z))) p f
 
   reads-start : Reads most v c (record { done = []; here = [] })
@@ -125,10 +126,12 @@ clauses-accepted most h i few e =
     let p = through-keeps (read-word most v c) (Reads most v c) (reads-word most v c) start (h .after) (er .0) (reads-start most v c) (er .1) in
     rw (value-same _ i (ef .2)) at (of v c (er .0) (ef .0) few p (end-text-done c (er .0) (ef .0) (ef .1)))
   where
-    of : (v c : ℕ) (r : Reader) (f : Formula) → (v ≤ most .variables) × (c ≤ most .clauses) → Reads most v c r → r .done ≡ f → Accepted most (record { variables = v; formula = f })
-    of v c r f few p q = subst (λ (g : Formula). Accepted most (record { variables = v; formula = g })) q (record {
-      variables-few = few .0;
-      clauses-few = omega (arith, p .clauses-few, few .1);
+    of : (v c : ℕ) (r : Reader) (f : Formula) → (v ≤ most .variables) × (c ≤ most .clauses) → Reads most v c r → r .done ≡ f → Accepted most (as-read v c f)
+    of v c r f few p q = subst (λ (g : Formula). Accepted most (as-read v c g)) q (record {
+      variables-few = omega arith;
+      highest-few = few .0;
+      clauses-few = few .1;
+      formula-few = p .clauses-few;
       literals-few = omega (arith, p .literals-few);
       fits = p .fits;
       proper = p .proper;
@@ -139,3 +142,21 @@ unfolding read-formula
 accepted most t i e =
     let eh = bind-value (read-header most t) (read-clauses most) i e in
     clauses-accepted most (eh .0) i (header-few most t (eh .0) (eh .1)) (eh .2)
+
+-- nothing is joined to the text's clauses: the highest variable is V
+pub read-highest : (most : Limits) (t : Bytes) (i : Input) → read-formula most t ≡ value i → i .highest ≡ i .variables
+unfolding read-formula read-clauses
+read-highest most t i e =
+    let h = bind-value (read-header most t) (read-clauses most) i e in
+    let r = bind-value (through (read-word most (h .0 .variables) (h .0 .clauses)) (record { done = []; here = [] }) (h .0 .after)) _ i (h .2) in
+    let f = bind-value (end-text (h .0 .clauses) (r .0)) _ i (r .2) in
+    subst (λ (j : Input). j .highest ≡ j .variables) (value-same (as-read (h .0 .variables) (h .0 .clauses) (f .0)) i (f .2)) refl
+
+-- ---- the input of a call
+pub input-accepted : (t : Bytes) (i : Input) → read-input t ≡ value i → Accepted input-limits i
+unfolding read-input
+input-accepted t i e = accepted input-limits t i e
+
+pub input-highest : (t : Bytes) (i : Input) → read-input t ≡ value i → i .highest ≡ i .variables
+unfolding read-input
+input-highest t i e = read-highest input-limits t i e

@@ -14,7 +14,7 @@ use Rattle.definition.specs.Checked.{value, _>>=_, or-fault, refuse-if, through
 use Rattle.definition.specs.Literals.{Clause, Formula, literals-of}
 use Rattle.definition.specs.Text.{Bytes, bytes, is, line-text, past-comments, add-part, parts, words-by, words, fields, digits, same-bytes, literal-text, number, natural, not-negated, digit, digit-value}
 use Rattle.definition.specs.Log.{clause-text, formula-text}
-use Rattle.definition.specs.Reading.{Limits, Reader, read-header-fields, read-header-line, read-header, read-literal, end-clause, read-word, end-text, read-clauses, read-formula}
+use Rattle.definition.specs.Reading.{Limits, Reader, as-read, read-header-fields, read-header-line, read-header, read-literal, end-clause, read-word, end-text, read-clauses, read-formula}
 use Rattle.theory_base.proofs.Members.{holds-false}
 use Rattle.theory_base.specs.Clauses.{Proper, Proper-all, Fit, Fits}
 use Rattle.theory_base.proofs.Clauses.{literals-snoc, natAbs-zero}
@@ -128,7 +128,7 @@ formula-end : (f : Formula) → end-text (length f) (reader f []) ≡ value f
 unfolding end-text refuse-if
 formula-end f = rw (le-ltb (length f) (length f) (omega arith))
 
-pub formula-read-back : (most : Limits) (h : ℕ) (f : Formula) → h ≤ most .variables → length f ≤ most .clauses → literals-of f ≤ most .literals → Fits h f → Proper-all f → read-formula most (formula-text h f) ≡ value (record { variables = h; formula = f })
+pub formula-read-back : (most : Limits) (h : ℕ) (f : Formula) → h ≤ most .variables → length f ≤ most .clauses → literals-of f ≤ most .literals → Fits h f → Proper-all f → read-formula most (formula-text h f) ≡ value (as-read h (length f) f)
 unfolding read-formula read-clauses _>>=_ literals-of sum-of
 formula-read-back most h f v c l fits p =
     rw (

@@ -1,7 +1,12 @@
 pub mod Digits
 pub mod Accepted
 pub mod Words
+pub mod Runs
+pub mod TextLines
+pub mod HeaderLine
 pub mod ClauseText
 pub mod FormulaText
+pub mod LineWords
 pub mod LogText
+pub mod LogLines
 pub mod AnswerText

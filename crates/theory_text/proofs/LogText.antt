@@ -8,19 +8,20 @@ use native.Mathlib.Omega.{arith}
 use lib.IntN.{natAbs}
 use lib.ListN.{length, take}
 use lib.Seq.{append-snoc, length-take-le}
-use borrow.Author.Tests.{le-ltb, le-leb, ne-eqb}
+use borrow.Author.Tests.{le-ltb, ne-eqb}
 use Rattle.definition.specs.Lists.{for-each}
 use Rattle.definition.specs.Checked.{value, _>>=_, refuse-if, through}
 use Rattle.definition.specs.Literals.{Clause, highest}
 use Rattle.definition.specs.Text.{Bytes, TextLine, bytes, is, text-lines, same-bytes, fields, number, literal-text}
 use Rattle.definition.specs.Standing.{Line, addition, deletion, literals}
 use Rattle.definition.specs.Log.{log-line-text, log-text}
-use Rattle.definition.specs.LogReading.{with-literal, read-line-clause, line-clause-allowed, allowed-clause, read-line-fields, read-line, read-log}
+use Rattle.definition.specs.LogReading.{with-literal, read-line-clause, allowed-clause, read-line-fields, read-line, read-log}
 use Rattle.theory_base.specs.Clauses.{Proper}
 use Rattle.theory_base.proofs.Fitting.{Line-fits}
-use Rattle.theory_base.proofs.Clauses.{natAbs-zero, proper-unrepeated, proper-not-opposed}
+use Rattle.theory_base.proofs.Clauses.{natAbs-zero}
 use Rattle.theory_text.proofs.Digits.{Between, number-literal, literal-between}
 use Rattle.theory_text.proofs.Words.{first-field, first-line}
+use Rattle.theory_text.proofs.LineWords.{proper-allowed}
 use Rattle.theory_text.specs.Words.{Free}
 use Rattle.theory_text.proofs.ClauseText.{newline-outside, literal-words, clause-words, clause-text-line, fields-clause-line, clause-line-free}
 use Rattle.theory_text.specs.ClauseText.{clause-line}
@@ -38,8 +39,7 @@ clause-words-read (l ∷ c) p =
     more-words (literal-text l) c ∙ rw (number-literal l, clause-words-read c (p .3), ne-eqb 0 (natAbs l) (λ e. p .0 (natAbs-zero l (sym e))))
 
 clause-allowed : (c : Clause) → Proper c → highest c ≤ 70_000 → allowed-clause (read-line-clause (clause-words c)) ≡ value c
-unfolding allowed-clause line-clause-allowed refuse-if
-clause-allowed c p h = rw (clause-words-read c p, proper-unrepeated c p, proper-not-opposed c p, le-leb (highest c) 70_000 h)
+clause-allowed c p h = rw (clause-words-read c p) (proper-allowed c p h)
 
 -- ---- a line
 number-not-d : (t : Bytes) → Between 45 57 t → same-bytes t (bytes "d") ≡ false

@@ -10,7 +10,7 @@ use native.Mathlib.Omega.{arith}
 use lib.ListN.{length, drop}
 use Rattle.definition.specs.Lists.{any}
 use Rattle.definition.specs.Text.{Bytes, is, add-part, parts, words-by, longer, text-lines, without-last-cr, fields-from, fields, same-bytes}
-use Rattle.theory_base.proofs.Tests.{or-false-both, to-true, of-true, differ, and-r, by-test}
+use Rattle.theory_base.proofs.Tests.{or-false-both, to-true, of-true, differ, and-l, and-r, by-test}
 use Rattle.theory_text.proofs.Digits.{Between}
 use Rattle.theory_text.specs.Words.{Free}
 
@@ -105,13 +105,18 @@ last-line (b ∷ c ∷ u) h f = rw (f .0, last-line (c ∷ u) (omega arith) (f .
 
 -- ---- the same bytes
 
+pub same-eq : (p t : Bytes) → same-bytes p t ≡ true → p ≡ t
+unfolding same-bytes
+same-eq [] [] e = refl
+same-eq [] (c ∷ u) e = differ {b = true} tt (sym e)
+same-eq (b ∷ t) [] e = differ {b = true} tt (sym e)
+same-eq (b ∷ t) (c ∷ u) e =
+    let x : b ≡ c = eqb-true b c (to-true (and-l (eqb b c) (same-bytes t u) (of-true e))) in
+    rw x (ap (λ (v : Bytes). c ∷ v) (same-eq t u (to-true (and-r (eqb b c) (same-bytes t u) (of-true e)))))
+
 -- the same bytes are equally many
 pub same-length : (p t : Bytes) → same-bytes p t ≡ true → length p ≡ length t
-unfolding same-bytes
-same-length [] [] e = refl
-same-length [] (c ∷ u) e = differ {b = true} tt (sym e)
-same-length (b ∷ t) [] e = differ {b = true} tt (sym e)
-same-length (b ∷ t) (c ∷ u) e = ap suc (same-length t u (to-true (and-r (eqb b c) (same-bytes t u) (of-true e))))
+same-length p t e = ap length (same-eq p t e)
 
 pub same-turned : (p t : Bytes) → same-bytes p t ≡ same-bytes t p
 unfolding same-bytes

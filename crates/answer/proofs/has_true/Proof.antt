@@ -6,7 +6,7 @@ use lib.ListN.{length, drop, getD}
 use Rattle.definition.specs.Assignments.{true-in, has-true}
 use Rattle.literals.proofs.Laws.{answered}
 use Rattle.answer.specs.Table.{marked}
-use Rattle.answer.proofs.Table.{has-true-found, has-true-step, has-true-end}
+use Rattle.theory_base.proofs.Slices.{any-hit, any-miss, any-end}
 use Rattle.answer.proofs.has_true.Statement.{statement}
 use Rattle.answer.proofs.has_true.Tie as tie
 
@@ -29,13 +29,14 @@ true-literal-requires : tie.Need-true-literal-requires Inv-loop μ-loop
 true-literal-requires c κs = search needs
 
 returns : tie.Need-returns Inv-loop μ-loop
+unfolding has-true
 returns c =
     let back = c .before .before .before .before in let loop = back .loop in
     let start = back .before .before in
     let a = marked (start .args .marks .now) in
     let s = start .args .clause .now in
     let i = loop .i in
-    has-true-found a s i (search needs)
+    any-hit (true-in a) s i (pos 0) (search needs)
     (answered (true-in a) (getD s i (pos 0)) (sfits-of (c .before .before .true-literal-arg .given))
     (c .before .true-literal .ensures) (c .if1 .taken))
     ∙ loop .inv
@@ -47,23 +48,25 @@ loop-less : tie.Need-loop-less Inv-loop μ-loop
 loop-less c = search needs
 
 loop-again : tie.Need-loop-again Inv-loop μ-loop
+unfolding has-true
 loop-again c =
     let back = c .before .before .before .before in let loop = back .loop in
     let start = back .before .before in
     let a = marked (start .args .marks .now) in
     let s = start .args .clause .now in
     let i = loop .i in
-    has-true-step a s i (search needs)
+    any-miss (true-in a) s i (pos 0) (search needs)
     (answered (true-in a) (getD s i (pos 0)) (sfits-of (c .before .before .true-literal-arg .given))
     (c .before .true-literal .ensures) (c .if1 .left))
     ∙ loop .inv
 
 returns-2 : tie.Need-returns-2 Inv-loop μ-loop
+unfolding has-true
 returns-2 c =
     let back = c .before in let loop = back .loop in
     let start = back .before .before in
     let a = marked (start .args .marks .now) in
-    let s = start .args .clause .now in let i = loop .i in has-true-end a s i (search needs) ∙ loop .inv
+    let s = start .args .clause .now in let i = loop .i in any-end (true-in a) s i (search needs) ∙ loop .inv
 
 pub has-true-spec : {M : Type 1} → statement M
 has-true-spec =

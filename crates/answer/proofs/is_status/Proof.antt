@@ -1,6 +1,6 @@
 use mathlib.Core.Path.{_∙_}
 use Rattle.definition.specs.Text.{bytes}
-use Rattle.answer.proofs.Lines.{same-begins, same-other}
+use Rattle.theory_text.proofs.TextLines.{same-begins, same-other}
 use borrow.Author.Needs.{needs}
 use Rattle.answer.proofs.is_status.Statement.{statement}
 use Rattle.answer.proofs.is_status.Tie as tie

@@ -3,7 +3,7 @@ use mathlib.Core.Path.{_≡_, refl}
 use Prim.Native.Nat.{_-_}
 use native.Mathlib.Omega.{arith}
 use lib.ListN.{length}
-use Rattle.answer.specs.Lines.{First-line}
+use Rattle.theory_text.specs.TextLines.{First-line}
 use Rattle.answer.proofs.Reading.{Lines-walked, lines-start, lines-step, lines-end}
 use Rattle.answer.proofs.read_answer.Statement.{statement}
 use Rattle.answer.proofs.read_answer.Tie as tie

@@ -1,27 +1,31 @@
+use Rattle.definition.specs.Checked.{fault}
 use borrow.Author.Needs.{needs}
-use mathlib.Core.Path.{_≡_, refl, sym, _∙_}
+use mathlib.Core.Path.{_≡_, refl, sym, ap, _∙_}
 use Prim.Native.Nat.{_-_}
 use native.Mathlib.Omega.{arith}
-use lib.ListN.{length}
+use lib.IntN.{ℤ}
+use lib.ListN.{length, set}
 use denote.Ref.{now}
+use borrow.Author.Needs.{needs, sfits-of}
 use Rattle.definition.specs.Text.{blank}
 use Rattle.text.proofs.Words.{word-answer}
-use Rattle.dimacs.specs.HeaderLine.{limits-of}
-use Rattle.dimacs.proofs.Marking.{Going, going-start, going-end, going-fault, going-done, going-on}
+use Rattle.literals.proofs.Laws.{at-arg}
+use Rattle.dimacs.specs.declared.Item.the-variants as Item
+use Rattle.dimacs.proofs.Marking.{Going, going-start, going-end, going-fault, going-done, going-full, going-on}
 use Rattle.dimacs.proofs.read_clause.Statement.{statement}
 use Rattle.dimacs.proofs.read_clause.Tie as tie
 
 abbrev Inv-loop : tie.InvT-loop
-Inv-loop text seen₀ stamp variables most before at₀ total₀ seen at total = Going (limits-of most) variables before stamp text seen at total × (length seen ≡ length seen₀)
+Inv-loop text seen₀ stamp variables room store₀ at₀ n₀ seen store at n = Going variables room stamp text store₀ seen store at n × (length seen ≡ length seen₀)
 
 abbrev μ-loop : tie.MeasureT-loop
-μ-loop text seen₀ stamp variables most before at₀ total₀ seen at total = length text - at
+μ-loop text seen₀ stamp variables room store₀ at₀ n₀ seen store at n = length text - at
 
 loop-holds : tie.Need-loop-holds Inv-loop μ-loop
 loop-holds c =
     let entry = c .before .before in (
-      going-start (limits-of (entry .args .most)) (entry .args .variables) (entry .args .before) (entry .args .stamp)
-          (now (entry .args .text)) (now (entry .args .seen)) (entry .pre .1 .1 .0) (entry .pre .1 .1 .1),
+      going-start (entry .args .variables) (entry .args .room) (entry .args .stamp) (now (entry .args .text))
+          (now (entry .args .store)) (now (entry .args .seen)) (entry .pre .1 .1 .0),
       refl,
     )
 
@@ -31,149 +35,181 @@ next-word-requires c κs = search needs
 enum-told : tie.Need-enum-told Inv-loop μ-loop
 enum-told c = search needs
 
-sub-t14 : tie.Need-sub-t14 Inv-loop μ-loop
-sub-t14 c =
-    let loop = c .before .before .before .loop in
-    omega (arith, loop .inv .0 .counted)
+ended-requires : tie.Need-ended-requires Inv-loop μ-loop
+ended-requires c κs = search needs
 
 same-length : tie.Need-same-length Inv-loop μ-loop
 same-length c =
-    let loop = c .before .before .before .loop in
+    let loop = c .before .before .before .before .loop in
     loop .inv .1
+
+same-length-2 : tie.Need-same-length-2 Inv-loop μ-loop
+same-length-2 c =
+    let loop = c .before .before .before .before .loop in
+    loop .inv .0 .size
 
 returns : tie.Need-returns Inv-loop μ-loop
 returns c =
-    let back = c .before .before .before in let loop = back .loop in
+    let back = c .before .before .before in let next-word = back .next-word in
+    let back = back .before in let loop = back .loop in
     let entry = back .before .before .before in
-    going-end (limits-of (entry .args .most)) (entry .args .variables) (entry .args .before) (entry .args .stamp)
-    (now (entry .args .text)) (loop .seen) (loop .at) (loop .total) (loop .inv .0)
-    (word-answer blank (now (entry .args .text)) (loop .at)
-    (sym (c .enum-told .given .1) ∙ c .before .before .next-word .ensures))
+    going-end (loop .inv .0)
+    (word-answer blank (now (entry .args .text)) (loop .at) (sym (c .before .enum-told .given .1) ∙ next-word .ensures))
+    ∙ ap fault (sym (c .ended .ensures))
 
 enum-known-start : tie.Need-enum-known-start Inv-loop μ-loop
 enum-known-start c = search needs
 
 sub-read-item : tie.Need-sub-read-item Inv-loop μ-loop
 sub-read-item c =
-    let back = c .before .before .before .before in let next-word = back .next-word in
+    let back = c .before .before .before in let next-word = back .next-word in
     let back = back .before in let loop = back .loop in
     let entry = back .before .before .before in
     let f = word-answer blank (now (entry .args .text)) (loop .at)
-    (sym (c .before .before .start .given .1) ∙ next-word .ensures) in
+    (sym (c .before .start .given .1) ∙ next-word .ensures) in
     omega (arith, f .some)
 
 part-read-item-start : tie.Need-part-read-item-start Inv-loop μ-loop
 part-read-item-start c =
-    let back = c .before .before .before .before in let next-word = back .next-word in
+    let back = c .before .before .before in let next-word = back .next-word in
     let back = back .before in let loop = back .loop in
     let entry = back .before .before .before in
     let f = word-answer blank (now (entry .args .text)) (loop .at)
-    (sym (c .before .before .start .given .1) ∙ next-word .ensures) in
+    (sym (c .before .start .given .1) ∙ next-word .ensures) in
     omega (arith, f .some)
 
 part-read-item-end : tie.Need-part-read-item-end Inv-loop μ-loop
 part-read-item-end c =
-    let back = c .before .before .before .before in let next-word = back .next-word in
+    let back = c .before .before .before in let next-word = back .next-word in
     let back = back .before in let loop = back .loop in
     let entry = back .before .before .before in
     let f = word-answer blank (now (entry .args .text)) (loop .at)
-    (sym (c .before .before .start .given .1) ∙ next-word .ensures) in
-    omega (arith, f .within)
+    (sym (c .before .start .given .1) ∙ next-word .ensures) in
+    omega (arith, f .some, f .within)
 
 read-item-requires : tie.Need-read-item-requires Inv-loop μ-loop
 read-item-requires c κs =
-    let back = c .before .before .before .before .before .before .before in let loop = back .loop in
+    let back = c .before .before .before .before .before .before in let loop = back .loop in
     let entry = back .before .before .before in
-    (entry .pre .0, omega (arith, entry .pre .1, loop .inv .1))
+    (entry .pre .0, omega (arith, loop .inv .1, entry .pre .1 .0))
 
-enum-known-n : tie.Need-enum-known-n Inv-loop μ-loop
-enum-known-n c = search needs
+enum-known-f : tie.Need-enum-known-f Inv-loop μ-loop
+enum-known-f c = search needs
 
-same-length-2 : tie.Need-same-length-2 Inv-loop μ-loop
-same-length-2 c = search needs
+same-length-3 : tie.Need-same-length-3 Inv-loop μ-loop
+same-length-3 c =
+    let back = c .before .before .before .before .before in let read-item = back .read-item in
+    let loop = back .before .before .before .before .before .before .before .loop in
+    read-item .kept .1 .0 ∙ loop .inv .1
+
+same-length-4 : tie.Need-same-length-4 Inv-loop μ-loop
+same-length-4 c =
+    let loop = c .before .before .before .before .before .before .before .before .before .before .before .before .loop in
+    loop .inv .0 .size
 
 returns-2 : tie.Need-returns-2 Inv-loop μ-loop
 returns-2 c =
     let back = c .before .before .before .before .before in let read-item = back .read-item in
-    let back = back .before .before .before .before .before in let start = back .start in
+    let back = back .before .before .before .before in let start = back .start in
     let back = back .before .before in let next-word = back .next-word in
     let back = back .before in let loop = back .loop in
     let entry = back .before .before .before in
     let f = word-answer blank (now (entry .args .text)) (loop .at) (sym (start .given .1) ∙ next-word .ensures) in
-    let g = loop .inv .0 in
-    going-fault (limits-of (entry .args .most)) (entry .args .variables) (entry .args .before) (entry .args .stamp)
-    (now (entry .args .text)) (loop .seen) (loop .at) (loop .total) g _ _ f _ _
-    (read-item .ensures (g .here) (g .marks)) _ (c .before .n .given .1)
+    going-fault (loop .inv .0) f (read-item .ensures (loop .inv .0 .here) (loop .inv .0 .marks)) _
+    (c .before .f .given .1)
 
 enum-told-2 : tie.Need-enum-told-2 Inv-loop μ-loop
 enum-told-2 c = search needs
 
-sub-t22 : tie.Need-sub-t22 Inv-loop μ-loop
-sub-t22 c =
-    let loop = c .before .before .before .before .before .before .before .before .before .before .before .before .loop in
-    omega (arith, loop .inv .0 .counted)
+header-requires : tie.Need-header-requires Inv-loop μ-loop
+header-requires c κs = search needs
 
-same-length-3 : tie.Need-same-length-3 Inv-loop μ-loop
-same-length-3 c = search needs
+put-requires : tie.Need-put-requires Inv-loop μ-loop
+put-requires c κs = search needs
+
+same-length-5 : tie.Need-same-length-5 Inv-loop μ-loop
+same-length-5 c =
+    let back = c .before .before .before .before .before .before .before .before in let read-item = back .read-item in
+    let loop = back .before .before .before .before .before .before .before .loop in
+    read-item .kept .1 .0 ∙ loop .inv .1
+
+same-length-6 : tie.Need-same-length-6 Inv-loop μ-loop
+same-length-6 c =
+    let loop = c .before .before .before .before .before .before .before .before .before .before .before .before .before .before .before .loop in
+    c .before .put .kept .0 ∙ loop .inv .0 .size
 
 returns-3 : tie.Need-returns-3 Inv-loop μ-loop
 returns-3 c =
-    let back = c .before .before .before .before in let read-item = back .read-item in
-    let back = back .before .before .before .before .before in let start = back .start in
+    let back = c .before .before in let header = back .header in
+    let back = back .before .before in let enum-told2 = back .enum-told2 in
+    let back = back .before .before .before .before in let read-item = back .read-item in
+    let back = back .before .before .before .before in let start = back .start in
     let back = back .before .before in let next-word = back .next-word in
     let back = back .before in let loop = back .loop in
     let entry = back .before .before .before in
     let f = word-answer blank (now (entry .args .text)) (loop .at) (sym (start .given .1) ∙ next-word .ensures) in
-    let g = loop .inv .0 in
-    going-done (limits-of (entry .args .most)) (entry .args .variables) (entry .args .before) (entry .args .stamp)
-    (now (entry .args .text)) (loop .seen) (loop .at) (loop .total) g _ _ f _ _
-    (read-item .ensures (g .here) (g .marks)) (c .enum-told2 .given .1)
+    going-done (loop .inv .0) f (read-item .ensures (loop .inv .0 .here) (loop .inv .0 .marks)) (entry .pre .1 .1 .1)
+    (enum-told2 .given .1)
+    (c .before .put .ensures
+    ∙ ap (set (loop .store) 0) (at-arg (λ (z : ℤ). z) (header .result) (sfits-of (header .ok)) ∙ header .ensures))
 
-enum-told-3 : tie.Need-enum-told-3 Inv-loop μ-loop
-enum-told-3 c = search needs
+enum-known-l : tie.Need-enum-known-l Inv-loop μ-loop
+enum-known-l c = search needs
 
-add-total : tie.Need-add-total Inv-loop μ-loop
-add-total c =
-    let back = c .before .before .before .before in let read-item = back .read-item in
-    let back = back .before .before .before in let struct-known = back .struct-known in
-    let back = back .before .before in let start = back .start in
+same-length-7 : tie.Need-same-length-7 Inv-loop μ-loop
+same-length-7 c =
+    let back = c .before .before .before .before .before .before in let read-item = back .read-item in
+    let loop = back .before .before .before .before .before .before .before .loop in
+    read-item .kept .1 .0 ∙ loop .inv .1
+
+same-length-8 : tie.Need-same-length-8 Inv-loop μ-loop
+same-length-8 c =
+    let loop = c .before .before .before .before .before .before .before .before .before .before .before .before .before .loop in
+    loop .inv .0 .size
+
+returns-4 : tie.Need-returns-4 Inv-loop μ-loop
+returns-4 c =
+    let back = c .before .before .before .before .before .before in let read-item = back .read-item in
+    let back = back .before .before .before .before in let start = back .start in
     let back = back .before .before in let next-word = back .next-word in
     let back = back .before in let loop = back .loop in
     let entry = back .before .before .before in
     let f = word-answer blank (now (entry .args .text)) (loop .at) (sym (start .given .1) ∙ next-word .ensures) in
-    let g = loop .inv .0 in
-    record {
-      fits = omega (
-        arith,
-        going-on (limits-of (entry .args .most)) (entry .args .variables) (entry .args .before) (entry .args .stamp)
-            (now (entry .args .text)) (loop .seen) (loop .at) (loop .total) g _ _ f _ _
-            (read-item .ensures (g .here) (g .marks)) _ (c .enum-told3 .given .1) .few,
-        struct-known .given,
-      );
-    }
+    going-full (loop .inv .0) f (read-item .ensures (loop .inv .0 .here) (loop .inv .0 .marks)) _
+    (c .before .before .l .given .1) (c .if1 .taken)
+
+add-n : tie.Need-add-n Inv-loop μ-loop
+add-n c =
+    let entry = c .before .before .before .before .before .before .before .before .before .before .before .before .before .before .before .before in
+    record { fits = omega (arith, c .if1 .left, entry .pre .1 .1 .1) }
+
+put-requires-2 : tie.Need-put-requires-2 Inv-loop μ-loop
+put-requires-2 c κs = search needs
 
 loop-less : tie.Need-loop-less Inv-loop μ-loop
 loop-less c =
-    let back = c .before .before .before .before .before .before .before .before .before in let start = back .start in
+    let back = c .before .before .before .before .before .before .before .before .before .before .before .before .before in let start = back .start in
     let back = back .before .before in let next-word = back .next-word in
     let back = back .before in let loop = back .loop in
     let entry = back .before .before .before in
     let f = word-answer blank (now (entry .args .text)) (loop .at) (sym (start .given .1) ∙ next-word .ensures) in
-    let g = loop .inv .0 in omega (arith, f .after, f .some, f .within)
+    omega (arith, f .after, f .some, f .within)
 
 loop-again : tie.Need-loop-again Inv-loop μ-loop
 loop-again c =
-    let back = c .before .before .before .before in let read-item = back .read-item in
-    let back = back .before .before .before .before .before in let start = back .start in
+    let back = c .before .before .before in let if1 = back .if1 in
+    let back = back .before .before in let l = back .l in
+    let back = back .before .before .before .before in let read-item = back .read-item in
+    let back = back .before .before .before .before in let start = back .start in
     let back = back .before .before in let next-word = back .next-word in
     let back = back .before in let loop = back .loop in
     let entry = back .before .before .before in
-    let f = word-answer blank (now (entry .args .text)) (loop .at) (sym (start .given .1) ∙ next-word .ensures) in
-    let g = loop .inv .0 in (
-      going-on (limits-of (entry .args .most)) (entry .args .variables) (entry .args .before) (entry .args .stamp)
-          (now (entry .args .text)) (loop .seen) (loop .at) (loop .total) g _ _ f _ _
-          (read-item .ensures (g .here) (g .marks)) _ (c .enum-told3 .given .1),
-      search needs,
+    let x = l .given .0 .0 in
+    let q = l .given .1 ∙ sym (at-arg (λ (z : ℤ). Item.Literal z) x (search needs)) in
+    let f = word-answer blank (now (entry .args .text)) (loop .at) (sym (start .given .1) ∙ next-word .ensures) in (
+      going-on (loop .inv .0) f (read-item .ensures (loop .inv .0 .here) (loop .inv .0 .marks)) _ q (if1 .left)
+          (c .before .put2 .ensures),
+      read-item .kept .1 .0 ∙ loop .inv .1,
     )
 
 pub read-clause-spec : {M : Type 1} → statement M
@@ -185,22 +221,30 @@ read-clause-spec =
     loop-holds
     next-word-requires
     enum-told
-    sub-t14
+    ended-requires
     same-length
+    same-length-2
     returns
     enum-known-start
     sub-read-item
     part-read-item-start
     part-read-item-end
     read-item-requires
-    enum-known-n
-    same-length-2
+    enum-known-f
+    same-length-3
+    same-length-4
     returns-2
     enum-told-2
-    sub-t22
-    same-length-3
+    header-requires
+    put-requires
+    same-length-5
+    same-length-6
     returns-3
-    enum-told-3
-    add-total
+    enum-known-l
+    same-length-7
+    same-length-8
+    returns-4
+    add-n
+    put-requires-2
     loop-less
     loop-again)

@@ -5,7 +5,7 @@ use mathlib.Core.Bool.{Bool, false}
 use native.Mathlib.Omega.{arith}
 use lib.ListN.{length, drop}
 use Rattle.definition.specs.Text.{past-comments}
-use Rattle.dimacs.proofs.HeaderLine.{comment-goes-on, comment-begins, comments-end, comments-all}
+use Rattle.theory_text.proofs.HeaderLine.{comment-goes-on, comment-begins, comments-end, comments-all}
 use Rattle.dimacs.proofs.skip_comments.Statement.{statement}
 use Rattle.dimacs.proofs.skip_comments.Tie as tie
 

@@ -1,10 +1,10 @@
-use Rattle.drat.proofs.Line.{short-start, deletion-start, other-start}
+use Rattle.theory_text.proofs.LogLines.{deletion-short, deletion-by-blank, deletion-not-d}
 use borrow.Author.Needs.{needs}
 use Rattle.drat.proofs.starts_deletion.Statement.{statement}
 use Rattle.drat.proofs.starts_deletion.Tie as tie
 
 returns : tie.Need-returns
-returns c = short-start (c .before .args .text .now) (c .if1 .taken)
+returns c = deletion-short (c .before .args .text .now) (c .if1 .taken)
 
 shared-slice-read-if2 : tie.Need-shared-slice-read-if2
 shared-slice-read-if2 c = search needs
@@ -16,12 +16,12 @@ returns-2 : tie.Need-returns-2
 returns-2 c =
     let back = c .before .before .before in let if1 = back .if1 in
     let start = back .before in
-    deletion-start (start .args .text .now) (if1 .left) (c .before .if2 .taken)
+    deletion-by-blank (start .args .text .now) (if1 .left) (c .before .if2 .taken)
 
 returns-3 : tie.Need-returns-3
 returns-3 c =
     let start = c .before .before .before in
-    other-start (start .args .text .now) (c .before .before .if1 .left) (c .if2 .left)
+    deletion-not-d (start .args .text .now) (c .if2 .left)
 
 pub starts-deletion-spec : {M : Type 1} → statement M
 starts-deletion-spec =

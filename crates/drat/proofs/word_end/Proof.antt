@@ -3,8 +3,8 @@ use mathlib.Core.Path.{_≡_, refl, _∙_}
 use mathlib.Core.Bool.{false}
 use Prim.Native.Nat.{_-_}
 use lib.ListN.{length}
-use Rattle.text.specs.Words.{run-end}
-use Rattle.text.proofs.Words.{run-step, run-stop, run-stop-end}
+use Rattle.theory_text.specs.Runs.{run-end}
+use Rattle.theory_text.proofs.Runs.{run-step, run-stop, run-stop-end}
 use Rattle.drat.specs.Reading.{stops}
 use Rattle.drat.proofs.Words.{goes-on, blank-stops, newline-stops}
 use Rattle.drat.proofs.word_end.Statement.{statement}

@@ -4,7 +4,7 @@ use mathlib.Core.List.{List, [], _∷_}
 use denote.Ref.{now}
 use Rattle.definition.specs.Literals.{Clause}
 use Rattle.pass_order.specs.Order.{Deletable, Deletes}
-use Rattle.pass_order.proofs.Writing.{unwanted}
+use Rattle.replacement.proofs.Writing.{unwanted}
 use Rattle.pass_order.proofs.Deleting.{pair-is, deletes-none}
 use borrow.Author.Needs.{needs}
 use Rattle.pass_order.proofs.delete_pair_if.Statement.{statement}

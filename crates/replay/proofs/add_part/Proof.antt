@@ -5,7 +5,7 @@ use lib.ListN.{length, take, drop, length-drop, getD, set}
 use lib.Seq.{length-take-le}
 use denote.Ref.{now}
 use Rattle.literals.specs.Literal.{header-of}
-use Rattle.replay.specs.Replayed.{between}
+use Rattle.theory_base.specs.Slices.{between}
 use Rattle.replay.specs.Index.{key-at}
 use Rattle.replay.proofs.Indexing.{part-rest, part-link, added-so, linked-added}
 use borrow.Author.Needs.{needs}

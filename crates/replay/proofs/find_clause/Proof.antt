@@ -5,7 +5,7 @@ use lib.IntN.{ℤ}
 use denote.Ref.{now}
 use Rattle.theory_base.proofs.Slices.{part-is}
 use Rattle.store.specs.Store.{place-of}
-use Rattle.replay.specs.Replayed.{between}
+use Rattle.theory_base.specs.Slices.{between}
 use Rattle.replay.proofs.Indexing.{links-reach, linked-index}
 use borrow.Author.Needs.{needs}
 use Rattle.replay.proofs.find_clause.Statement.{statement}

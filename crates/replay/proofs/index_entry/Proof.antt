@@ -1,7 +1,7 @@
 use native.Mathlib.Omega.{arith}
 use denote.Ref.{now}
 use Rattle.store.specs.Store.{clause-at}
-use Rattle.replay.specs.Replayed.{between}
+use Rattle.theory_base.specs.Slices.{between}
 use Rattle.replay.proofs.Index.{key-within}
 use borrow.Author.Needs.{needs}
 use Rattle.replay.proofs.index_entry.Statement.{statement}

@@ -1,64 +1,36 @@
-use mathlib.Core.Path.{refl, _∙_}
+use mathlib.Core.Path.{_∙_}
 use denote.Ref.{now}
-use Rattle.replay.proofs.Replaying.{linkable, same-front, still-replayable, still-room, replays-so}
+use Rattle.replay.proofs.Replaying.{copy-front, copy-laid-out, copy-replays}
 use borrow.Author.Needs.{needs}
 use Rattle.replay.proofs.replay.Statement.{statement}
 use Rattle.replay.proofs.replay.Tie as tie
 
-sub-links : tie.Need-sub-links
-sub-links c = search needs
+copy-up-requires : tie.Need-copy-up-requires
+copy-up-requires c κs = search needs
 
-add-links : tie.Need-add-links
-add-links c = search needs
+add-replay-over : tie.Need-add-replay-over
+add-replay-over c = search needs
 
-slice-aggregate-index-all : tie.Need-slice-aggregate-index-all
-slice-aggregate-index-all c = search needs
-
-index-all-requires : tie.Need-index-all-requires
-index-all-requires c κs =
-    let start = c .before .before in
-    linkable (now (start .args .work)) (start .args .lines) (start .args .store) (start .args .end) _ (start .pre) refl
-    _ refl
-
-slice-aggregate-replay-lines : tie.Need-slice-aggregate-replay-lines
-slice-aggregate-replay-lines c = search needs
-
-replay-lines-requires : tie.Need-replay-lines-requires
-replay-lines-requires c κs =
-    let back = c .before .before .before .before in let index-all = back .index-all in
-    let start = back .before .before .before in (
-      still-replayable (now (start .args .work)) (start .args .lines) (start .args .store) (start .args .end) _
-          (start .pre) refl (index-all .last .0) (index-all .kept .0) (index-all .ensures .1),
-      still-room (now (start .args .work)) (start .args .lines) (start .args .store) (start .args .end) _ (start .pre)
-          refl (index-all .last .0) (index-all .kept .0) (index-all .ensures .1),
-      index-all .ensures .0,
-    )
+replay-over-requires : tie.Need-replay-over-requires
+replay-over-requires c κs =
+    let start = c .before .before .before .before in
+    copy-laid-out (now (start .args .work)) _ (start .args .n) (start .args .m) (start .pre)
+    (c .before .before .copy-up .ensures)
 
 same-length : tie.Need-same-length
 same-length c = search needs
 
 returns : tie.Need-returns
 returns c =
-    let back = c .before .before in let replay-lines = back .replay-lines in
-    let back = back .before .before .before .before .before in let index-all = back .index-all in
-    let start = back .before .before .before in (
-      replays-so (now (start .args .work)) (start .args .lines) (start .args .store) (start .args .end) _ (start .pre)
-          refl (index-all .last .0) (index-all .kept .0) (index-all .ensures .1) (replay-lines .result) _
-          (replay-lines .ensures .0),
-      replay-lines .ensures .1
-          ∙ same-front (now (start .args .work)) (start .args .lines) (start .args .store) (start .args .end) _
-          (start .pre) refl (index-all .last .0) (index-all .kept .0) (index-all .ensures .1),
+    let back = c .before in let replay-over = back .replay-over in
+    let back = back .before .before .before in let copy-up = back .copy-up in
+    let start = back .before .before in (
+      copy-replays (now (start .args .work)) _ (start .args .n) (start .args .m) (start .pre) (copy-up .ensures)
+          (replay-over .result) _ (replay-over .ensures .0),
+      replay-over .ensures .1
+          ∙ copy-front (now (start .args .work)) _ (start .args .n) (start .args .m) (start .pre) (copy-up .ensures),
     )
 
 pub replay-spec : {M : Type 1} → statement M
 replay-spec =
-    tie.close
-    (tie.spec
-    sub-links
-    add-links
-    slice-aggregate-index-all
-    index-all-requires
-    slice-aggregate-replay-lines
-    replay-lines-requires
-    same-length
-    returns)
+    tie.close (tie.spec copy-up-requires add-replay-over replay-over-requires same-length returns)

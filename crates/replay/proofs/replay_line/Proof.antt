@@ -9,7 +9,8 @@ use lib.Seq.{length-take-le}
 use Rattle.literals.specs.Literal.{negative, header-literals}
 use Rattle.literals.proofs.Laws.{answer, answered, literals-within}
 use Rattle.store.specs.Store.{stored, header-at, size-at, clause-at}
-use Rattle.replay.specs.Replayed.{between, Clause-added}
+use Rattle.theory_base.specs.Slices.{between}
+use Rattle.replay.specs.Replayed.{Clause-added}
 use Rattle.replay.proofs.Replaying.{added-line, replays-addition, replays-deletion}
 use Rattle.replay.proofs.replay_line.Statement.{statement}
 use Rattle.replay.proofs.replay_line.Tie as tie

@@ -3,7 +3,7 @@ use mathlib.Core.Path.{sym, _≡_, _∙_}
 use Prim.Native.Nat.{_+_, _-_}
 use native.Mathlib.Omega.{arith}
 use denote.Ref.{now}
-use Rattle.replay.specs.Lines.{past-line}
+use Rattle.drat.specs.Loaded.{past-line}
 use Rattle.replay.proofs.Replaying.{Replaying, replaying-start, line-fits, line-room, replaying-step, replaying-none, replaying-end}
 use Rattle.replay.proofs.replay_lines.Statement.{statement}
 use Rattle.replay.proofs.replay_lines.Tie as tie

@@ -1,6 +1,7 @@
 use borrow.Author.Needs.{needs}
-use Rattle.text.proofs.Words.{run-step, run-stop, run-stop-end}
-use Rattle.text.specs.Words.{separator, in-run, leading}
+use Rattle.theory_text.proofs.Runs.{run-step, run-stop, run-stop-end}
+use Rattle.theory_text.specs.Runs.{in-run, leading}
+use Rattle.text.specs.Words.{separator}
 use mathlib.Core.Path.{_≡_, sym, _∙_, refl}
 use Prim.Native.Nat.{_+_, _-_}
 use lib.ListN.{length, drop}

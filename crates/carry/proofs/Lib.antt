@@ -1,0 +1,3 @@
+pub mod LastLine
+pub mod Carrying
+pub mod Writing

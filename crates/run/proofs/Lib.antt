@@ -1,0 +1,4 @@
+pub mod Clearing
+pub mod Choosing
+pub mod Turns
+pub mod Phases

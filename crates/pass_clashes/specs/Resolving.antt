@@ -7,15 +7,15 @@ use lib.IntN.{ℤ, pos, negℤ}
 use lib.ListN.{length, take, drop}
 use lib.Seq.{sets}
 use Rattle.definition.specs.Lists.{only-if}
-use Rattle.definition.specs.Literals.{Clause, same, without, with-first, opposed}
+use Rattle.definition.specs.Literals.{Clause, Formula, same, without, with-first, opposed}
 use Rattle.definition.specs.Text.{Bytes}
-use Rattle.definition.specs.Standing.{Line, addition, deletion, after}
+use Rattle.definition.specs.Standing.{Line, deletion, after}
 use Rattle.definition.specs.Events.{Clash, clash-cleared}
 use Rattle.definition.specs.Clearing.{times, resolvent}
 use Rattle.literals.specs.Literal.{signed-of}
 use Rattle.store.specs.Store.{Formed, stored, clause-at}
 use Rattle.progress.specs.declared.Progress.{Progress}
-use Rattle.progress.specs.Progress.{Written, standing, Good}
+use Rattle.progress.specs.Progress.{Written, Good}
 use Rattle.tables.specs.Sizes.{input-reach}
 use Rattle.tables.specs.Counts.{pure-in}
 use Rattle.pass_clashes.specs.Places.{Stands-at}
@@ -44,11 +44,11 @@ pub record Joinable (work : List ℤ) (end a na b nb v : ℕ) : Type 0 where
   pub other : b + nb ≤ end
   pub space : end + (length (joined work a na b nb v) + 1) ≤ length work
 
--- the addition of a clash, if there is one
-abbrev pub resolvent-lines : Clash → List Line
-resolvent-lines c = only-if (not (opposed (resolvent c))) (addition (resolvent c) ∷ [])
+-- the clause that a clash adds, if it does
+abbrev pub added-by : Clash → Formula
+added-by c = only-if (not (opposed (resolvent c))) (resolvent c ∷ [])
 
--- its deletions
+-- the deletions of a clash
 abbrev pub parent-lines : Clash → List Line
 parent-lines c = deletion (with-first (c .v) (c .one)) ∷ deletion (with-first (negℤ (c .v)) (c .other)) ∷ []
 
@@ -57,15 +57,6 @@ pub record Resolvable (work : List ℤ) (p : Progress) (v x y : ℕ) : Type 0 wh
   pub good : Good input-reach (clash-cleared (clash-there (take (p .end) work) v x y) ∷ []) work p
   pub clash : Clashing (take (p .end) work) v x y
   pub space : opposed (resolvent (clash-there (take (p .end) work) v x y)) ≡ false → p .end + (length (resolvent (clash-there (take (p .end) work) v x y)) + 1) ≤ length work
-
--- the resolvent of the clash c is added behind what stood, unless it is opposed
-pub record Resolvent-added (c : Clash) (work : List ℤ) (log : Bytes) (p : Progress) (new : List ℤ) (new-log : Bytes) (r : Progress) : Type 0 where
-  pub inside : r .end ≤ length new
-  pub longer : p .end ≤ r .end
-  pub before : take (p .end) new ≡ take (p .end) work
-  pub formed : Formed (take (r .end) new)
-  pub stands : standing new r ≡ after (standing work p) (resolvent-lines c)
-  pub written : Written (resolvent-lines c) log p new-log r
 
 -- v stands once, in the clause at x, and -v once, in the one at y
 pub record Parents (s : List ℤ) (v x y : ℕ) : Type 0 where

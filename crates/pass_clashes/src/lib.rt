@@ -8,7 +8,7 @@ ghost use lib.ListN.{length, take, drop, getD, replicate};
 ghost use lib.Seq.{sets};
 ghost use Rattle.definition.specs.Lists.{any};
 ghost use Rattle.definition.specs.Literals.{without, with-first};
-ghost use Rattle.definition.specs.Standing.{deletion, addition};
+ghost use Rattle.definition.specs.Standing.{deletion};
 ghost use Rattle.definition.specs.Events.{clash-cleared};
 ghost use Rattle.definition.specs.Clearing.{clear-clashes};
 ghost use Rattle.literals.specs.Literal.{signed-of};
@@ -16,9 +16,10 @@ ghost use Rattle.tables.specs.Sizes.{input-reach, input-size};
 ghost use Rattle.tables.specs.Entries.{entry-of, tallied};
 ghost use Rattle.store.specs.Store.{Formed, stored, entry, marked, clause-at, Counted};
 ghost use Rattle.progress.specs.Progress.{Written, Log-room, standing, Good, Runs};
+ghost use Rattle.progress.specs.Growth.{Grown};
 ghost use Rattle.pass_clashes.specs.Places.{placed-at, Placed};
 ghost use Rattle.pass_clashes.specs.Clashes.{both, Next, clash-there};
-ghost use Rattle.pass_clashes.specs.Resolving.{opposite-in, part-without, Copied, joined, Joinable, parent-lines, Resolvable, Resolvent-added, Parents, Parents-gone};
+ghost use Rattle.pass_clashes.specs.Resolving.{opposite-in, part-without, Copied, joined, Joinable, added-by, parent-lines, Resolvable, Parents, Parents-gone};
 ghost use Rattle.pass_clashes.specs.Scan.{Clash-ready, events-left, Scanned};
 use progress::Progress;
 
@@ -223,22 +224,6 @@ fn delete_first(work: &mut [i32], at: usize, log: &mut [u8], p: Progress, l: i32
 
 // ---- one clash
 
-// Records the clause whose entry was written from the store's end up to another place as added.
-fn record_added(work: &[i32], log: &mut [u8], p: Progress, next: usize) -> Progress
-    requires { ⌜ (p .end < next) × (next ≤ length (now work)) × (length (now work) < 2 ^ 31) ⌝ }
-    requires { ⌜ (p .at < 2 ^ 63) × (p .lines < 2 ^ 63) ⌝ }
-    ensures written { λ r. ⌜ Written (addition (take (next - (p .end + 1)) (drop (p .end + 1) (now (work .entry)))) ∷ []) (now (log .entry)) p (now (log .exit)) r ⌝ }
-    ensures end { λ r. ⌜ r .end ≡ next ⌝ }
-{
-    let first = p.end + 1;
-    let q = progress::record_line(log, p, false, &work[first..next]);
-    Progress {
-        end: next,
-        at: q.at,
-        lines: q.lines,
-    }
-}
-
 // Adds the resolvent of the clauses at x and y, and records it, unless it has a literal and its negation.
 fn add_resolvent(
     work: &mut [i32],
@@ -249,7 +234,7 @@ fn add_resolvent(
     y: usize,
 ) -> Progress
     requires { ⌜ Resolvable (now work) p v x y ⌝ }
-    ensures { λ r. ⌜ Resolvent-added (clash-there (take (p .end) (now (work .entry))) v x y) (now (work .entry)) (now (log .entry)) p (now (work .exit)) (now (log .exit)) r ⌝ }
+    ensures { λ r. ⌜ Grown (added-by (clash-there (take (p .end) (now (work .entry))) v x y)) (now (work .entry)) (now (log .entry)) p (now (work .exit)) (now (log .exit)) r ⌝ }
 {
     let a = x + 1;
     let b = y + 1;
@@ -260,7 +245,7 @@ fn add_resolvent(
     }
     let end = p.end;
     let next = append_resolvent(work, end, a, past_a - a, b, past_b - b, v);
-    record_added(work, log, p, next)
+    progress::record_added(work, log, p, next)
 }
 
 // Deletes the two clauses of a clash: that with v at x, that with -v at y.

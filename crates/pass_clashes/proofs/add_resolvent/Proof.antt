@@ -2,7 +2,7 @@
 use native.Mathlib.Omega.{arith}
 use mathlib.Core.Path.{sym, _∙_}
 use denote.Ref.{now}
-use Rattle.pass_clashes.proofs.Adding.{one-within, other-within, one-inside, other-inside, parts-opposed, none-added, parts-joinable, added-within, one-added}
+use Rattle.pass_clashes.proofs.Adding.{one-within, other-within, one-inside, other-inside, parts-opposed, none-grown, parts-joinable, added-within, resolvent-grown}
 use borrow.Author.Needs.{needs}
 use Rattle.pass_clashes.proofs.add_resolvent.Statement.{statement}
 use Rattle.pass_clashes.proofs.add_resolvent.Tie as tie
@@ -71,7 +71,7 @@ returns c =
     let back = c .before .before .before .before .before in let next-at2 = back .next-at2 in
     let back = back .before .before in let next-at = back .next-at in
     let start = back .before .before .before in
-    none-added (start .pre) (now (start .args .log))
+    none-grown (start .pre) (now (start .args .log))
     (sym (parts-opposed (start .pre) (next-at .ensures) (next-at2 .ensures) (c .before .is-opposed .ensures))
     ∙ c .if1 .taken)
 
@@ -120,7 +120,7 @@ returns-2 c =
     let back = back .before .before in let next-at = back .next-at in
     let start = back .before .before .before in
     let o = sym (parts-opposed (start .pre) (next-at .ensures) (next-at2 .ensures) (is-opposed .ensures)) ∙ if1 .left in
-    one-added (start .pre) (next-at .ensures) (next-at2 .ensures) o (append-resolvent .ensures .0)
+    resolvent-grown (start .pre) (next-at .ensures) (next-at2 .ensures) o (append-resolvent .ensures .0)
     (append-resolvent .ensures .1) (record-added .ensures .0) (record-added .ensures .1)
 
 pub add-resolvent-spec : {M : Type 1} → statement M

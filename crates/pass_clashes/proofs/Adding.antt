@@ -1,36 +1,39 @@
 -- Adding the resolvent of a clash: the parts copied from the workspace are the two clauses without the variable. Assumes nothing.
-use mathlib.Core.Path.{_≡_, refl, sym, ap, ap₂, subst, _∙_}
+use mathlib.Core.Path.{_≡_, sym, ap, ap₂, _∙_}
 use mathlib.Core.Bool.{Bool, true, false, not, cond}
-use mathlib.Core.List.{List, [], _∷_, _++_, List·Memᴰ, append-assoc}
+use mathlib.Core.List.{List, [], _∷_, _++_, List·Memᴰ}
 use Prim.Native.Nat.{ℕ, _+_, _-_, _≤_, _<_, _^_}
 use native.Mathlib.Omega.{arith}
 use lib.IntN.{ℤ, pos, negℤ}
-use lib.ListN.{length, take, drop, length-append, replicate, take-append-drop}
-use lib.Seq.{length-take-le, drop-at, sets, length-sets}
+use lib.ListN.{length, take, drop, length-append, replicate}
+use lib.Seq.{length-take-le, sets, length-sets}
 use Rattle.definition.specs.Lists.{any, only-if, those}
 use Rattle.definition.specs.Literals.{Clause, same, without, opposed}
 use Rattle.definition.specs.Text.{Bytes}
-use Rattle.definition.specs.Standing.{addition, changed, after}
+use Rattle.definition.specs.Standing.{addition}
 use Rattle.definition.specs.Events.{Clash}
 use Rattle.definition.specs.Clearing.{resolvent}
 use Rattle.theory_base.proofs.Members.{proper-unopposed}
+use Rattle.theory_base.proofs.Tests.{by-test}
+use Rattle.theory_base.proofs.Clauses.{numbers-none, numbers-first}
+use Rattle.definition.specs.Calls.{numbers-of}
 use Rattle.theory_base.proofs.Fitting.{proper-fits, proper-length}
 use Rattle.theory_soundness.proofs.Times.{unique-at}
 use Rattle.theory_clearing.proofs.Clash.{Is-clash}
 use Rattle.theory_clearing.proofs.Clashes.{clash-at-some}
 use Rattle.literals.specs.Literal.{header-literals, signed-of}
 use Rattle.literals.proofs.Laws.{signed-small}
-use Rattle.store.specs.Store.{stored, entry, size-at, clause-at, past}
-use Rattle.store.specs.declared.Added.the-variants.{To}
+use Rattle.store.specs.Store.{stored, entry, clause-at, past}
 use Rattle.tables.specs.Entries.{tallied}
-use Rattle.store.proofs.Laws.{formed-next, prefix-header, prefix-clause, entry-clause, entry-size, Appended, appended, fits-within, part-there}
+use Rattle.store.proofs.Laws.{formed-next, prefix-header, prefix-clause, part-there}
 use Rattle.progress.specs.declared.Progress.{Progress}
 use Rattle.progress.specs.Progress.{Written}
-use Rattle.progress.proofs.Laws.{written-none}
+use Rattle.progress.specs.Growth.{Grown}
+use Rattle.progress.proofs.Growing.{grown-none, added-grown}
 use Rattle.tables.specs.Sizes.{input-reach, input-size}
 use Rattle.pass_clashes.specs.Places.{Stands-at}
 use Rattle.pass_clashes.specs.Clashes.{clash-there}
-use Rattle.pass_clashes.specs.Resolving.{opposite-in, joined, Resolvable, Resolvent-added, Parents}
+use Rattle.pass_clashes.specs.Resolving.{opposite-in, joined, Joinable, added-by, Resolvable, Parents}
 use Rattle.pass_clashes.proofs.Opposed.{opposed-is}
 
 -- ---- a clause of the store, as a part of the workspace
@@ -104,17 +107,27 @@ module _ {work : List ℤ} {p : Progress} {v x y : ℕ} (r : Resolvable work p v
         short (c .other) (is-clash .other-stands),
       )
 
+  pub one-within : x < length work
+  one-within = omega (arith, r .clash .one-stands .inside, length-take-le (p .end) work (r .good .inside), r .good .inside)
+
+  pub other-within : y < length work
+  other-within = omega (arith, r .clash .other-stands .inside, length-take-le (p .end) work (r .good .inside), r .good .inside)
+
+  pub one-inside : {e : ℕ} → e ≡ past work x → (x + 1 ≤ e) × (e ≤ p .end) × (e ≤ length work)
+  one-inside i = let k = part-inside work (p .end) x (r .clash .one-stands) (r .good .inside) i in (k .0, k .1, omega (arith, k .1, r .good .inside))
+
+  pub other-inside : {e : ℕ} → e ≡ past work y → (y + 1 ≤ e) × (e ≤ p .end) × (e ≤ length work)
+  other-inside i = let k = part-inside work (p .end) y (r .clash .other-stands) (r .good .inside) i in (k .0, k .1, omega (arith, k .1, r .good .inside))
+
+  -- the store has room for what is added
+  pub added-room : p .end + numbers-of (added-by c) ≤ length work
+  unfolding only-if
+  added-room = by-test (opposed (resolvent c)) (λ e. rw e (omega (arith, numbers-none, r .good .inside))) (λ e. rw e (omega (arith, numbers-first (resolvent c) [], numbers-none, r .space e)))
+
   -- nothing is added
-  pub none-added : (log : Bytes) → opposed (resolvent c) ≡ true → Resolvent-added c work log p work log p
-  unfolding only-if after
-  none-added log e = record {
-    inside = r .good .inside;
-    longer = omega arith;
-    before = refl;
-    formed = r .good .formed;
-    stands = rw e refl;
-    written = rw e (written-none log p p refl refl);
-  }
+  pub none-grown : (log : Bytes) → opposed (resolvent c) ≡ true → Grown (added-by c) work log p work log p
+  unfolding only-if
+  none-grown log e = rw e (grown-none work log p)
 
   -- by the places past the two clauses
   module _ {e f : ℕ} (i : e ≡ past work x) (j : f ≡ past work y) where
@@ -129,12 +142,6 @@ module _ {work : List ℤ} {p : Progress} {v x y : ℕ} (r : Resolvable work p v
 
     abbrev nb : ℕ
     nb = f - b
-
-    pub one-inside : (x + 1 ≤ e) × (e ≤ p .end)
-    one-inside = part-inside work (p .end) x (r .clash .one-stands) (r .good .inside) i
-
-    pub other-inside : (y + 1 ≤ f) × (f ≤ p .end)
-    other-inside = part-inside work (p .end) y (r .clash .other-stands) (r .good .inside) j
 
     one-part : take na (drop a work) ≡ c .one
     one-part = part-clause work (p .end) x (r .clash .one-stands) (r .good .inside) i
@@ -157,37 +164,18 @@ module _ {work : List ℤ} {p : Progress} {v x y : ℕ} (r : Resolvable work p v
         (ap₂ without (signed-small false v (omega (arith, variable-small))) one-part)
         (ap₂ without (signed-small true v (omega (arith, variable-small))) other-part)
 
-    pub joined-room : opposed (resolvent c) ≡ false → p .end + (length (joined work a na b nb v) + 1) ≤ length work
-    joined-room o = omega (arith, r .space o, ap length joined-is)
+    pub parts-joinable : opposed (resolvent c) ≡ false → Joinable work (p .end) a na b nb v
+    parts-joinable o = record { one = omega (arith, one-inside i); other = omega (arith, other-inside j); space = omega (arith, r .space o, ap length joined-is) }
 
     module _ (o : opposed (resolvent c) ≡ false) {n : ℕ} {new : List ℤ} (d : n ≡ p .end + (length (joined work a na b nb v) + 1)) (w : new ≡ sets work (p .end) (entry (joined work a na b nb v))) where
-      resolvent-appended : Appended work (p .end) (resolvent c) n new
-      resolvent-appended =
-          let f = fits-within (length work) (p .end) (resolvent c) (omega (arith, resolvent-short)) (r .space o) in
-          appended work new (p .end) n (resolvent c) (r .good .inside)
-          (rw f (ap To (omega (arith, d, ap length joined-is))))
-          (rw f (w ∙ ap (λ (x : Clause). sets work (p .end) (entry x)) joined-is))
+      pub added-within : (p .end < n) × (n ≤ length new) × (n ≤ p .end + 2 ^ 32)
+      added-within = (
+        omega (arith, d),
+        omega (arith, d, parts-joinable o .space, ap length w, length-sets work (p .end) (entry (joined work a na b nb v))),
+        omega (arith, d, ap length joined-is, resolvent-short),
+      )
 
-      pub added-within : (p .end < n) × (n ≤ length new) × (length new < 2 ^ 31)
-      added-within = (omega (arith, d), resolvent-appended .within, omega (arith, r .good .small, ap length w, length-sets work (p .end) (entry (joined work a na b nb v))))
-
-      written-entry : drop (p .end) new ≡ entry (resolvent c) ++ drop n work
-      written-entry =
-          ap (drop (p .end)) (sym (take-append-drop n new) ∙ ap₂ (λ (x y : List ℤ). x ++ y) (resolvent-appended .filled) (resolvent-appended .behind) ∙ append-assoc s (entry (resolvent c)) (drop n work))
-          ∙ drop-at s (entry (resolvent c) ++ drop n work) (p .end) (length-take-le (p .end) work (r .good .inside))
-
-      added-part : take (n - (p .end + 1)) (drop (p .end + 1) new) ≡ resolvent c
-      added-part =
-          let m : n - (p .end + 1) ≡ size-at new (p .end) = omega (arith, resolvent-appended .next, entry-size new (p .end) (resolvent c) (resolvent-appended .small) (drop n work) written-entry) in
-          ap (λ (k : ℕ). take k (drop (p .end + 1) new)) m ∙ entry-clause new (p .end) (resolvent c) (resolvent-appended .small) (drop n work) written-entry
-
-      pub one-added : {log new-log : Bytes} {q : Progress} → Written (addition (take (n - (p .end + 1)) (drop (p .end + 1) new)) ∷ []) log p new-log q → q .end ≡ n → Resolvent-added c work log p new new-log q
-      unfolding only-if after changed
-      one-added {log} {new-log} {q} t e = record {
-        inside = omega (arith, e, resolvent-appended .within);
-        longer = omega (arith, e, d);
-        before = resolvent-appended .before;
-        formed = rw e (resolvent-appended .formed (r .good .formed));
-        stands = ap (λ (k : ℕ). stored (take k new)) e ∙ resolvent-appended .standing (r .good .formed) ∙ rw o refl;
-        written = rw o (subst (λ (z : Clause). Written (addition z ∷ []) log p new-log q) added-part t);
-      }
+      pub resolvent-grown : {log new-log : Bytes} {q : Progress} → Written (addition (take (n - (p .end + 1)) (drop (p .end + 1) new)) ∷ []) log p new-log q → q .end ≡ n → Grown (added-by c) work log p new new-log q
+      unfolding only-if
+      resolvent-grown t e =
+          rw o (added-grown (resolvent c) (omega (arith, resolvent-short)) (r .space o) (omega (arith, d, ap length joined-is)) (w ∙ ap (λ (x : Clause). sets work (p .end) (entry x)) joined-is) t e)

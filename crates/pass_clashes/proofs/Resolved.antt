@@ -2,7 +2,7 @@
 use mathlib.Core.Path.{_≡_, refl, sym, ap, ap₂, subst, _∙_}
 use mathlib.Core.Logic.{⊎-elim}
 use mathlib.Core.Bool.{Bool, true, false, not}
-use mathlib.Core.List.{List, [], _∷_, _++_, List·Memᴰ, List·Memᴰ·append-cases}
+use mathlib.Core.List.{List, [], _∷_, _++_, map, append-nil, List·Memᴰ, List·Memᴰ·append-cases}
 use Prim.Native.Nat.{ℕ, _≤_, _<_, _^_}
 use native.Mathlib.Omega.{arith}
 use lib.IntN.{ℤ, pos, negℤ}
@@ -11,12 +11,12 @@ use lib.Seq.{length-take-le, take-take, take-at}
 use Rattle.definition.specs.Lists.{bit, only-if}
 use Rattle.definition.specs.Literals.{Clause, Formula, without, opposed}
 use Rattle.definition.specs.Text.{Bytes}
-use Rattle.definition.specs.Standing.{addition, changed, after}
+use Rattle.definition.specs.Standing.{addition, after}
 use Rattle.definition.specs.Events.{Clash, clash-cleared}
 use Rattle.definition.specs.Clearing.{times, resolvent, clash-lines}
 use Rattle.definition.specs.Reencoding.{lines, lines-of}
 use Rattle.theory_base.proofs.Members.{proper-unopposed, holds-false}
-use Rattle.theory_base.proofs.Replay.{after-++}
+use Rattle.theory_base.proofs.Replay.{after-++, after-additions}
 use Rattle.theory_soundness.proofs.Times.{times-++, times-cons, times-nil}
 use Rattle.theory_soundness.proofs.Without.{without-mem}
 use Rattle.literals.specs.Literal.{negative, header-literals}
@@ -24,11 +24,13 @@ use Rattle.store.specs.Store.{Formed, stored, clause-at, past}
 use Rattle.store.proofs.Laws.{place-within, formed-next, prefix-header, prefix-clause}
 use Rattle.progress.specs.declared.Progress.{Progress}
 use Rattle.progress.specs.Progress.{Log-room, Runs}
-use Rattle.progress.proofs.Laws.{lines-one, written-then, room-rest}
+use Rattle.progress.specs.Growth.{entries, Grown}
+use Rattle.progress.proofs.Laws.{lines-one, written-then, room-rest, Holds, runs-lines}
+use Rattle.progress.proofs.Growing.{grown-filled, grown-holds}
 use Rattle.pass_clashes.specs.Places.{Stands-at}
 use Rattle.pass_clashes.specs.Clashes.{clash-there}
-use Rattle.pass_clashes.specs.Resolving.{resolvent-lines, parent-lines, Resolvable, Resolvent-added, Parents, Parents-gone}
-use Rattle.pass_clashes.proofs.Adding.{is-clash, parents}
+use Rattle.pass_clashes.specs.Resolving.{added-by, parent-lines, Resolvable, Parents, Parents-gone}
+use Rattle.pass_clashes.proofs.Adding.{is-clash, parents, added-room}
 
 -- a clause keeps its place in a longer store
 longer-standing : (t : List ℤ) (end at : ℕ) → end ≤ length t → Formed t → Stands-at (take end t) at → Stands-at t at × (clause-at t at ≡ clause-at (take end t) at)
@@ -42,17 +44,21 @@ longer-standing t end at l f p =
     )
 
 -- a literal that the resolvent does not hold stands as often as before
-times-kept : (l : ℤ) (F : Formula) (c : Clash) → (List·Memᴰ l (resolvent c) → ⊥) → times l (after F (resolvent-lines c)) ≡ times l F
-unfolding only-if after changed
+times-kept : (l : ℤ) (F : Formula) (c : Clash) → (List·Memᴰ l (resolvent c) → ⊥) → times l (F ++ added-by c) ≡ times l F
+unfolding only-if
 times-kept l F c n = go (opposed (resolvent c))
   where
-    go : (b : Bool) → times l (after F (only-if (not b) (addition (resolvent c) ∷ []))) ≡ times l F
-    go true = refl
+    go : (b : Bool) → times l (F ++ only-if (not b) (resolvent c ∷ [])) ≡ times l F
+    go true = ap (times l) (append-nil F)
     go false = omega (arith, times-++ l F (resolvent c ∷ []), times-cons l (resolvent c) [], times-nil l, ap bit (holds-false l (resolvent c) n))
 
-all-lines : (c : Clash) → lines-of (clash-cleared c) ≡ resolvent-lines c ++ parent-lines c
-unfolding lines-of clash-lines
-all-lines c = refl
+clash-parts : (c : Clash) → lines (clash-cleared c ∷ []) ≡ map addition (added-by c) ++ parent-lines c
+unfolding lines-of clash-lines only-if
+clash-parts c = lines-one (clash-cleared c) ∙ go (opposed (resolvent c))
+  where
+    go : (b : Bool) → only-if (not b) (addition (resolvent c) ∷ []) ++ parent-lines c ≡ map addition (only-if (not b) (resolvent c ∷ [])) ++ parent-lines c
+    go true = refl
+    go false = refl
 
 module _ {work : List ℤ} {p : Progress} {v x y : ℕ} (r : Resolvable work p v x y) where
   abbrev s : List ℤ
@@ -75,17 +81,24 @@ module _ {work : List ℤ} {p : Progress} {v x y : ℕ} (r : Resolvable work p v
       (λ j. without-mem (negℤ (pos v)) (c .other) (negℤ (pos v)) j .1 refl)
       (List·Memᴰ·append-cases (without (pos v) (c .one)) i)
 
-  module _ {new : List ℤ} {log mid-log : Bytes} {q : Progress} (d : Resolvent-added c work log p new mid-log q) where
+  module _ {new : List ℤ} {log mid-log : Bytes} {q : Progress} (d : Grown (added-by c) work log p new mid-log q) where
     abbrev t : List ℤ
     t = take (q .end) new
 
+    there : Holds (stored s ++ added-by c) new (q .end)
+    there = grown-holds d (added-room r) (r .good .formed)
+
+    pub end-inside : q .end ≤ length new
+    end-inside = there .inside
+
     size : length t ≡ q .end
-    size = length-take-le (q .end) new (d .inside)
+    size = length-take-le (q .end) new (there .inside)
 
     kept : (at : ℕ) → Stands-at s at → Stands-at t at × (clause-at t at ≡ clause-at s at)
     kept at k =
-        let e : take (p .end) t ≡ s = take-take (p .end) (q .end) new (d .longer) ∙ d .before in
-        subst (λ (z : List ℤ). Stands-at t at × (clause-at t at ≡ clause-at z at)) e (longer-standing t (p .end) at (omega (arith, size, d .longer)) (d .formed) (rw e k))
+        let n : length s ≡ p .end = length-take-le (p .end) work (r .good .inside) in
+        let e : take (p .end) t ≡ s = ap (take (p .end)) (grown-filled d (added-room r)) ∙ take-at s (entries (added-by c)) (p .end) n in
+        subst (λ (z : List ℤ). Stands-at t at × (clause-at t at ≡ clause-at z at)) e (longer-standing t (p .end) at (omega (arith, size, d .next)) (there .formed) (rw e k))
 
     one-kept : Stands-at t x × (clause-at t x ≡ c .one)
     one-kept = kept x (parents r .one-stands)
@@ -100,32 +113,27 @@ module _ {work : List ℤ} {p : Progress} {v x y : ℕ} (r : Resolvable work p v
     parents-kept = record {
       one-stands = one-kept .0;
       one-holds = rw (one-kept .1) (parents r .one-holds);
-      one-once = ap (times (pos v)) (d .stands) ∙ times-kept (pos v) (stored s) c v-gone ∙ parents r .one-once;
+      one-once = ap (times (pos v)) (there .stands) ∙ times-kept (pos v) (stored s) c v-gone ∙ parents r .one-once;
       other-stands = other-kept .0;
       other-holds = rw (other-kept .1) (parents r .other-holds);
-      other-once = ap (times (negℤ (pos v))) (d .stands) ∙ times-kept (negℤ (pos v)) (stored s) c negation-gone ∙ parents r .other-once;
+      other-once = ap (times (negℤ (pos v))) (there .stands) ∙ times-kept (negℤ (pos v)) (stored s) c negation-gone ∙ parents r .other-once;
       apart = λ i. parents r .apart (rw (one-kept .1) at i);
       small = parents r .small;
     }
 
     pub part-short : length new ≡ length work → length t < 2 ^ 31
-    part-short m = omega (arith, m, size, d .inside, r .good .small)
+    part-short m = omega (arith, m, size, there .inside, r .good .small)
 
     pub room-kept : Log-room (parent-lines (clash-there t v x y)) q
-    room-kept = subst (λ (e : Clash). Log-room (parent-lines e) q) (sym same-clash) (room-rest (resolvent-lines c) (parent-lines c) (rw (lines-one (clash-cleared c) ∙ all-lines c) at (r .good .room)) (d .written))
+    room-kept = subst (λ (e : Clash). Log-room (parent-lines e) q) (sym same-clash) (room-rest (map addition (added-by c)) (parent-lines c) (rw (clash-parts c) at (r .good .room)) (d .written))
 
     pub resolved : {u : List ℤ} {new-log : Bytes} {w : Progress} → length u ≡ length t → length new ≡ length work → Parents-gone (clash-there t v x y) t mid-log q u new-log w → Runs (clash-cleared c ∷ []) work log p (u ++ drop (q .end) new) new-log w
     resolved {u} {new-log} {w} n m g =
         let o = length-append u (drop (q .end) new) in
         let k : take (w .end) (u ++ drop (q .end) new) ≡ u = take-at u (drop (q .end) new) (w .end) (omega (arith, n, size, g .kept)) in
         let h : Parents-gone c t mid-log q u new-log w = subst (λ (e : Clash). Parents-gone e t mid-log q u new-log w) same-clash g in
-        let l : lines (clash-cleared c ∷ []) ≡ resolvent-lines c ++ parent-lines c = lines-one (clash-cleared c) ∙ all-lines c in
-        let z = written-then (d .written) (h .written) in
-        record {
-          size = omega (arith, o, n, m, size, length-drop (q .end) new, d .inside);
-          inside = omega (arith, n, m, size, g .kept, d .inside);
-          formed = rw k (g .formed);
-          stands = ap stored k ∙ h .stands ∙ ap (λ (f : Formula). after f (parent-lines c)) (d .stands) ∙ sym (after-++ (stored s) (resolvent-lines c) (parent-lines c)) ∙ ap (after (stored s)) (sym l);
-          written = rw l (z .written);
-          counted = rw l (z .counted);
-        }
+        let l = clash-parts c in
+        runs-lines (omega (arith, o, n, m, size, length-drop (q .end) new, there .inside))
+        (record { inside = omega (arith, o, n, size, g .kept); formed = rw k (g .formed); stands = ap stored k })
+        (h .stands ∙ ap (λ (f : Formula). after f (parent-lines c)) (there .stands ∙ sym (after-additions (stored s) (added-by c))) ∙ sym (after-++ (stored s) (map addition (added-by c)) (parent-lines c)) ∙ ap (after (stored s)) (sym l))
+        (rw l (written-then (d .written) (h .written)))

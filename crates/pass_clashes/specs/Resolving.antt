@@ -5,16 +5,17 @@ use mathlib.Core.List.{List, [], _∷_, _++_, List·Memᴰ}
 use Prim.Native.Nat.{ℕ, _+_, _≤_}
 use lib.IntN.{ℤ, pos, negℤ}
 use lib.ListN.{length, take, drop}
+use lib.Seq.{sets}
 use Rattle.definition.specs.Lists.{only-if}
-use Rattle.definition.specs.Literals.{Clause, same, without, with-first, opposed}
+use Rattle.definition.specs.Literals.{Clause, Formula, same, without, with-first, opposed}
 use Rattle.definition.specs.Text.{Bytes}
-use Rattle.definition.specs.Standing.{Line, addition, deletion, after}
+use Rattle.definition.specs.Standing.{Line, deletion, after}
 use Rattle.definition.specs.Events.{Clash, clash-cleared}
 use Rattle.definition.specs.Clearing.{times, resolvent}
 use Rattle.literals.specs.Literal.{signed-of}
 use Rattle.store.specs.Store.{Formed, stored, clause-at}
 use Rattle.progress.specs.declared.Progress.{Progress}
-use Rattle.progress.specs.Progress.{Written, standing, Good}
+use Rattle.progress.specs.Progress.{Written, Good}
 use Rattle.tables.specs.Sizes.{input-reach}
 use Rattle.tables.specs.Counts.{pure-in}
 use Rattle.pass_clashes.specs.Places.{Stands-at}
@@ -24,15 +25,30 @@ use Rattle.pass_clashes.specs.Clashes.{clash-there, Clashing}
 abbrev pub opposite-in : List ℕ → ℤ → ℤ → Bool
 opposite-in t out l = not (same out l) && not (pure-in t l)
 
+-- n literals of a store from a place on, without a variable or its negation
+abbrev pub part-without : List ℤ → ℕ → ℕ → Bool → ℕ → Clause
+part-without s from n is-negative v = without (signed-of is-negative v) (take n (drop from s))
+
+-- they are copied to another place; r is the one past them
+pub record Copied (work : List ℤ) (to from n : ℕ) (is-negative : Bool) (v : ℕ) (new : List ℤ) (r : ℕ) : Type 0 where
+  pub next : r ≡ to + length (part-without work from n is-negative v)
+  pub copied : new ≡ sets work to (part-without work from n is-negative v)
+
 -- na literals of a store from a on without v, then nb from b on without -v
 abbrev pub joined : List ℤ → ℕ → ℕ → ℕ → ℕ → ℕ → Clause
-joined s a na b nb v = without (signed-of false v) (take na (drop a s)) ++ without (signed-of true v) (take nb (drop b s))
+joined s a na b nb v = part-without s a na false v ++ part-without s b nb true v
 
--- the addition of a clash, if there is one
-abbrev pub resolvent-lines : Clash → List Line
-resolvent-lines c = only-if (not (opposed (resolvent c))) (addition (resolvent c) ∷ [])
+-- both parts lie before the end, and the entry of what they give fits behind it
+pub record Joinable (work : List ℤ) (end a na b nb v : ℕ) : Type 0 where
+  pub one : a + na ≤ end
+  pub other : b + nb ≤ end
+  pub space : end + (length (joined work a na b nb v) + 1) ≤ length work
 
--- its deletions
+-- the clause that a clash adds, if it does
+abbrev pub added-by : Clash → Formula
+added-by c = only-if (not (opposed (resolvent c))) (resolvent c ∷ [])
+
+-- the deletions of a clash
 abbrev pub parent-lines : Clash → List Line
 parent-lines c = deletion (with-first (c .v) (c .one)) ∷ deletion (with-first (negℤ (c .v)) (c .other)) ∷ []
 
@@ -41,15 +57,6 @@ pub record Resolvable (work : List ℤ) (p : Progress) (v x y : ℕ) : Type 0 wh
   pub good : Good input-reach (clash-cleared (clash-there (take (p .end) work) v x y) ∷ []) work p
   pub clash : Clashing (take (p .end) work) v x y
   pub space : opposed (resolvent (clash-there (take (p .end) work) v x y)) ≡ false → p .end + (length (resolvent (clash-there (take (p .end) work) v x y)) + 1) ≤ length work
-
--- the resolvent of the clash c is added behind what stood, unless it is opposed
-pub record Resolvent-added (c : Clash) (work : List ℤ) (log : Bytes) (p : Progress) (new : List ℤ) (new-log : Bytes) (r : Progress) : Type 0 where
-  pub inside : r .end ≤ length new
-  pub longer : p .end ≤ r .end
-  pub before : take (p .end) new ≡ take (p .end) work
-  pub formed : Formed (take (r .end) new)
-  pub stands : standing new r ≡ after (standing work p) (resolvent-lines c)
-  pub written : Written (resolvent-lines c) log p new-log r
 
 -- v stands once, in the clause at x, and -v once, in the one at y
 pub record Parents (s : List ℤ) (v x y : ℕ) : Type 0 where

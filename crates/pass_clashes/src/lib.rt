@@ -16,9 +16,10 @@ ghost use Rattle.tables.specs.Sizes.{input-reach, input-size};
 ghost use Rattle.tables.specs.Entries.{entry-of, tallied};
 ghost use Rattle.store.specs.Store.{Formed, stored, entry, marked, clause-at, Counted};
 ghost use Rattle.progress.specs.Progress.{Written, Log-room, standing, Good, Runs};
+ghost use Rattle.progress.specs.Growth.{Grown};
 ghost use Rattle.pass_clashes.specs.Places.{placed-at, Placed};
 ghost use Rattle.pass_clashes.specs.Clashes.{both, Next, clash-there};
-ghost use Rattle.pass_clashes.specs.Resolving.{opposite-in, joined, parent-lines, Resolvable, Resolvent-added, Parents, Parents-gone};
+ghost use Rattle.pass_clashes.specs.Resolving.{opposite-in, part-without, Copied, joined, Joinable, added-by, parent-lines, Resolvable, Parents, Parents-gone};
 ghost use Rattle.pass_clashes.specs.Scan.{Clash-ready, events-left, Scanned};
 use progress::Progress;
 
@@ -172,9 +173,8 @@ fn copy_without(
     is_negative: bool,
     v: u32,
 ) -> usize
-    requires { ⌜ (from + n ≤ to) × (to + length (without (signed-of «is_negative» v) (take n (drop from (now work)))) ≤ length (now work)) ⌝ }
-    ensures next { λ r. ⌜ r ≡ to + length (without (signed-of «is_negative» v) (take n (drop from (now (work .entry))))) ⌝ }
-    ensures copied { λ _. ⌜ now (work .exit) ≡ sets (now (work .entry)) to (without (signed-of «is_negative» v) (take n (drop from (now (work .entry))))) ⌝ }
+    requires { ⌜ (from + n ≤ to) × (to + length (part-without (now work) from n «is_negative» v) ≤ length (now work)) ⌝ }
+    ensures { λ r. ⌜ Copied (now (work .entry)) to from n «is_negative» v (now (work .exit)) r ⌝ }
 {
     let gone = literals::signed(is_negative, v);
     let mut end = to;
@@ -196,7 +196,7 @@ fn append_resolvent(
     nb: usize,
     v: u32,
 ) -> usize
-    requires { ⌜ (a + na ≤ end) × (b + nb ≤ end) × (end + (length (joined (now work) a na b nb v) + 1) ≤ length (now work)) ⌝ }
+    requires { ⌜ Joinable (now work) end a na b nb v ⌝ }
     ensures next { λ r. ⌜ r ≡ end + (length (joined (now (work .entry)) a na b nb v) + 1) ⌝ }
     ensures written { λ _. ⌜ now (work .exit) ≡ sets (now (work .entry)) end (entry (joined (now (work .entry)) a na b nb v)) ⌝ }
 {
@@ -234,7 +234,7 @@ fn add_resolvent(
     y: usize,
 ) -> Progress
     requires { ⌜ Resolvable (now work) p v x y ⌝ }
-    ensures { λ r. ⌜ Resolvent-added (clash-there (take (p .end) (now (work .entry))) v x y) (now (work .entry)) (now (log .entry)) p (now (work .exit)) (now (log .exit)) r ⌝ }
+    ensures { λ r. ⌜ Grown (added-by (clash-there (take (p .end) (now (work .entry))) v x y)) (now (work .entry)) (now (log .entry)) p (now (work .exit)) (now (log .exit)) r ⌝ }
 {
     let a = x + 1;
     let b = y + 1;

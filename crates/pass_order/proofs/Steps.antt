@@ -2,11 +2,10 @@
 use mathlib.Core.Path.{_≡_, refl, sym, ap, subst, _∙_}
 use mathlib.Core.Bool.{Bool, true, false, not}
 use mathlib.Core.List.{List, [], _∷_, _++_, map}
-use Prim.Native.Nat.{ℕ, suc, _+_, _*_, _-_, _≤_, _<_, _^_}
+use Prim.Native.Nat.{ℕ, _+_, _*_, _-_, _≤_, _<_, _^_}
 use native.Mathlib.Omega.{arith}
-use native.Mathlib.Numerals.{add-one}
 use lib.IntN.{ℤ}
-use lib.ListN.{length, set, take, drop, length-take, length-set}
+use lib.ListN.{length, take, drop, length-take}
 use lib.Seq.{sets, length-sets}
 use mir.Syntax.{w32}
 use mir.Val.{SFits}
@@ -29,8 +28,7 @@ use Rattle.progress.specs.declared.Progress.{Progress}
 use Rattle.progress.specs.Progress.{Written, Log-room}
 use Rattle.progress.specs.Growth.{entries, Grown}
 use Rattle.progress.proofs.Laws.{written-then, room-rest}
-use Rattle.progress.proofs.Growing.{grown-none, grown-one}
-use Rattle.replacement.proofs.Writing.{part-back}
+use Rattle.progress.proofs.Growing.{grown-none, added-grown}
 use Rattle.pass_order.specs.Pass.{result-of, Tabled, Replaceable, touched, Step-ready, Step}
 
 -- ---- the result of a clause
@@ -84,14 +82,8 @@ module _ {t : List ℕ} {l : Clause} {below : ℕ} (v : Tabled t l below) (work 
       pub added-room : ((p .end < next) × (next ≤ length new) × (length new < 2 ^ 31)) × ((p .at < 2 ^ 63) × (p .lines < 2 ^ 63))
       added-room = ((omega arith, omega (arith, entry-room, ap length h, length-sets work (p .end) (entry W)), omega (arith, a .small, ap length h, length-sets work (p .end) (entry W))), (omega (arith, a .room .text), omega (arith, a .room .count)))
 
-      written-part : take (next - (p .end + 1)) (drop (p .end + 1) new) ≡ W
-      written-part =
-          let i : next - (p .end + 1) ≡ length W = omega arith in
-          let o : p .end + 1 ≡ suc (p .end) = add-one (p .end) in
-          rw (i, o, h) (part-back W (set work (p .end) (header-of (length W))) (suc (p .end)) (omega (arith, length-set work (p .end) (header-of (length W)), entry-room)))
-
       pub result-added : {x y : Bytes} {r : Progress} → Written (addition (take (next - (p .end + 1)) (drop (p .end + 1) new)) ∷ []) x p y r → r .end ≡ next → Grown (result-of (choice-of l below) (take len (drop from work))) work x p new y r
-      result-added {x} {y} {r} w i = rw (result-one k d e) (grown-one W short (omega (arith, i, g)) h (subst (λ (c : Clause). Written (addition c ∷ []) x p y r) written-part w))
+      result-added w i = rw (result-one k d e) (added-grown W short (omega (arith, entry-room)) (omega arith) h w i)
 
 -- ---- the clause at a place
 module _ {t : List ℕ} {l : Clause} {below : ℕ} (s : List ℤ) (at : ℕ) {p : Progress} (u : Step-ready t l below s at p) where

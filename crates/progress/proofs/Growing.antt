@@ -1,11 +1,12 @@
 -- Clauses added one after another. Assumes nothing.
-use mathlib.Core.Path.{_≡_, refl, sym, ap, ap₂, _∙_}
-use mathlib.Core.List.{List, [], _∷_, _++_, map, map-append, append-nil}
+use mathlib.Core.Path.{_≡_, refl, sym, ap, ap₂, subst, _∙_}
+use mathlib.Core.List.{List, [], _∷_, _++_, map, map-append, append-nil, append-assoc}
 use Prim.Native.Nat.{ℕ, suc, _+_, _-_, _≤_, _<_}
 use native.Mathlib.Omega.{arith}
+use native.Mathlib.Numerals.{add-one}
 use lib.IntN.{ℤ}
-use lib.ListN.{length, length-append}
-use lib.Seq.{sets, length-sets}
+use lib.ListN.{length, take, drop, set, length-append, length-set}
+use lib.Seq.{sets, sets-eq, length-sets, take-at, drop-at, length-take-le}
 use Rattle.definition.specs.Lists.{for-each, for-from}
 use Rattle.definition.specs.Literals.{Clause, Formula}
 use Rattle.definition.specs.Text.{Bytes}
@@ -13,14 +14,14 @@ use Rattle.definition.specs.Standing.{addition}
 use Rattle.definition.specs.Calls.{numbers-of}
 use Rattle.theory_base.proofs.Clauses.{numbers-none, numbers-first, numbers-++}
 use Rattle.theory_base.proofs.Loops.{for-each-++, for-from-around, for-from-next}
-use Rattle.theory_base.proofs.Slices.{sets-then}
-use Rattle.literals.specs.Literal.{largest}
-use Rattle.store.specs.Store.{stored, entry, end-after, with-entry}
+use Rattle.theory_base.proofs.Slices.{sets-then, taken-sets}
+use Rattle.literals.specs.Literal.{largest, header-of}
+use Rattle.store.specs.Store.{Formed, stored, entry, end-after, with-entry}
 use Rattle.store.specs.declared.Added.the-variants.{To, Full}
 use Rattle.store.proofs.Laws.{formed-++, stored-++, stored-none, entry-formed, entry-stored, fits-within}
 use Rattle.progress.specs.declared.Progress.{Progress}
-use Rattle.progress.specs.Progress.{Written}
-use Rattle.progress.proofs.Laws.{written-none, written-then, room-first, room-rest}
+use Rattle.progress.specs.Progress.{Written, standing}
+use Rattle.progress.proofs.Laws.{written-none, written-then, room-first, room-rest, Holds}
 use Rattle.progress.specs.Growth.{entries, Grow-room, Grown}
 
 -- ---- entries
@@ -97,6 +98,38 @@ put-grown {w} {v} {p = p} {end = end} c h r e f t =
     let b : v ≡ sets w (p .end) (entry c) = rw fit at f in
     let g : p .end + (length c + 1) ≡ end = cc in
     grown-one c (omega arith) (sym g) b (record { written = t .written; counted = t .counted })
+
+-- elements that were set are read back
+part-back : (xs s : List ℤ) (at : ℕ) → at + length xs ≤ length s → take (length xs) (drop at (sets s at xs)) ≡ xs
+part-back xs s at h =
+    ap (λ (r : List ℤ). take (length xs) (drop at r)) (sets-eq xs s at h ∙ append-assoc (take at s) xs (drop (at + length xs) s))
+    ∙ ap (take (length xs)) (drop-at (take at s) (xs ++ drop (at + length xs) s) at (length-take-le at s (omega arith)))
+    ∙ take-at xs (drop (at + length xs) s) (length xs) refl
+
+-- by what record_added answers of an entry that was written
+pub added-grown : {w v : List ℤ} {x y : Bytes} {p q : Progress} (c : Clause) {n : ℕ} → length c ≤ largest → p .end + (length c + 1) ≤ length w → n ≡ p .end + (length c + 1) → v ≡ sets w (p .end) (entry c)
+    → Written (addition (take (n - (p .end + 1)) (drop (p .end + 1) v)) ∷ []) x p y q → q .end ≡ n → Grown (c ∷ []) w x p v y q
+added-grown {w} {v} {x} {y} {p} {q} c {n} h r e f t d =
+    grown-one c h (d ∙ e) f (subst (λ (a : Clause). Written (addition a ∷ []) x p y q) part t)
+  where
+    part : take (n - (p .end + 1)) (drop (p .end + 1) v) ≡ c
+    part =
+        let i : n - (p .end + 1) ≡ length c = omega arith in
+        rw (i, add-one (p .end), f) (part-back c (set w (p .end) (header-of (length c))) (suc (p .end)) (omega (arith, length-set w (p .end) (header-of (length c)))))
+
+-- ---- what stands then
+module _ {f : Formula} {w v : List ℤ} {x y : Bytes} {p q : Progress} (g : Grown f w x p v y q) (r : p .end + numbers-of f ≤ length w) where
+  pub grown-filled : take (q .end) v ≡ take (p .end) w ++ entries f
+  grown-filled =
+      let e : q .end ≡ p .end + length (entries f) = omega (arith, g .next, entries-length f) in
+      ap₂ (λ (k : ℕ) (s : List ℤ). take k s) e (g .put) ∙ taken-sets (entries f) w (p .end) (omega (arith, entries-length f))
+
+  pub grown-holds : Formed (take (p .end) w) → Holds (standing w p ++ f) v (q .end)
+  grown-holds a = record {
+    inside = omega (arith, g .next, grown-length g);
+    formed = rw grown-filled (formed-++ (take (p .end) w) (entries f) a (g .formed));
+    stands = ap stored grown-filled ∙ stored-++ (take (p .end) w) (entries f) a ∙ ap (λ (G : Formula). standing w p ++ G) (g .stands);
+  }
 
 -- ---- a loop that adds the clauses f j for each j from k on
 

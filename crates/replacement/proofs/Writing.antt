@@ -1,14 +1,14 @@
 -- Writing the result behind the store, literal by literal. Assumes nothing.
 use mathlib.Core.Path.{_≡_, refl, sym, ap, ap₂, _∙_}
 use mathlib.Core.Bool.{Bool, true, false}
-use mathlib.Core.List.{List, [], _∷_, _++_, append-nil, append-assoc}
+use mathlib.Core.List.{List, [], _∷_, _++_, append-nil}
 use Prim.Native.Nat.{ℕ, _+_, _-_, _≤_, _<_, _^_}
 use native.Mathlib.Omega.{arith}
 use native.Mathlib.Numerals.{add-one}
 use lib.Dec.{ltb}
 use lib.IntN.{ℤ, pos, negℤ}
 use lib.ListN.{length, getD, set, take, drop, length-append, length-drop, take-append-drop}
-use lib.Seq.{take-suc, take-take, take-at, drop-at, length-take-le, getD-drop, sets, sets-eq, length-sets}
+use lib.Seq.{take-suc, take-take, getD-drop, sets, length-sets}
 use borrow.Author.Tests.{lt-ltb, le-ltb}
 use Rattle.definition.specs.Lists.{only-if, for-each}
 use Rattle.definition.specs.Literals.{Clause}
@@ -189,10 +189,3 @@ pub array-clause : (A B base : List ℤ) (l : ℤ) {w1 w2 : List ℤ} {a b : ℕ
 array-clause A B base l {w1} {w2} {a} {b} f h p q e g =
     let j = runs-joined base 1 A B p q e g in
     ap₂ (λ (k : ℕ) (s : List ℤ). take k s) (j .0) (j .1) ∙ taken-sets (A ++ B) base 1 h ∙ ap (λ (s : List ℤ). s ++ (A ++ B)) f
-
--- a run is read back
-pub part-back : (W s : List ℤ) (a : ℕ) → a + length W ≤ length s → take (length W) (drop a (sets s a W)) ≡ W
-part-back W s a h =
-    ap (λ (r : List ℤ). take (length W) (drop a r)) (sets-eq W s a h ∙ append-assoc (take a s) W (drop (a + length W) s))
-    ∙ ap (take (length W)) (drop-at (take a s) (W ++ drop (a + length W) s) a (length-take-le a s (omega arith)))
-    ∙ take-at W (drop (a + length W) s) (length W) refl

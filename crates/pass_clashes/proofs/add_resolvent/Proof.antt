@@ -1,68 +1,34 @@
+-- The parts between the places past the headers and those past the entries are the two clauses (Adding).
 use native.Mathlib.Omega.{arith}
 use mathlib.Core.Path.{sym, _∙_}
 use denote.Ref.{now}
-use lib.Seq.{length-take-le}
-use Rattle.pass_clashes.proofs.Adding.{one-inside, other-inside, parts-opposed, none-added, joined-room, added-within, one-added}
+use Rattle.pass_clashes.proofs.Adding.{one-within, other-within, one-inside, other-inside, parts-opposed, none-grown, parts-joinable, added-within, resolvent-grown}
 use borrow.Author.Needs.{needs}
 use Rattle.pass_clashes.proofs.add_resolvent.Statement.{statement}
 use Rattle.pass_clashes.proofs.add_resolvent.Tie as tie
 
 add-a : tie.Need-add-a
 add-a c =
-    let start = c .before in
-    record {
-      fits = omega (
-        arith,
-        start .pre .clash .one-stands .inside,
-        length-take-le (start .args .p .end) (now (start .args .work)) (start .pre .good .inside),
-        start .pre .good .small,
-        start .pre .good .inside,
-      );
-    }
+    let r = c .before .pre in
+    record { fits = omega (arith, one-within r, r .good .small) }
 
 add-b : tie.Need-add-b
 add-b c =
-    let start = c .before in
-    record {
-      fits = omega (
-        arith,
-        start .pre .clash .other-stands .inside,
-        length-take-le (start .args .p .end) (now (start .args .work)) (start .pre .good .inside),
-        start .pre .good .small,
-        start .pre .good .inside,
-      );
-    }
+    let r = c .before .pre in
+    record { fits = omega (arith, other-within r, r .good .small) }
 
 next-at-requires : tie.Need-next-at-requires
-next-at-requires c κs =
-    let start = c .before .before in
-    omega (
-      arith,
-      start .pre .clash .one-stands .inside,
-      length-take-le (start .args .p .end) (now (start .args .work)) (start .pre .good .inside),
-      start .pre .good .inside,
-    )
+next-at-requires c κs = one-within (c .before .before .pre)
 
 next-at-requires-2 : tie.Need-next-at-requires-2
 next-at-requires-2 c κs =
     let start = c .before .before .before .before in
-    omega (
-      arith,
-      start .pre .clash .other-stands .inside,
-      length-take-le (start .args .p .end) (now (start .args .work)) (start .pre .good .inside),
-      start .pre .good .inside,
-    )
+    other-within (start .pre)
 
 mul-is-opposed : tie.Need-mul-is-opposed
 mul-is-opposed c =
     let start = c .before .before .before .before .before in
-    record {
-      fits = omega (
-        arith,
-        one-inside (start .pre) (c .before .before .next-at .ensures) (c .next-at2 .ensures),
-        start .pre .good .inside,
-      );
-    }
+    record { fits = omega (arith, one-inside (start .pre) (c .before .before .next-at .ensures)) }
 
 sub-is-opposed : tie.Need-sub-is-opposed
 sub-is-opposed c = search needs
@@ -74,19 +40,13 @@ part-is-opposed-end : tie.Need-part-is-opposed-end
 part-is-opposed-end c =
     let back = c .before .before .before in let next-at = back .next-at in
     let start = back .before .before .before in
-    omega (arith, one-inside (start .pre) (next-at .ensures) (c .before .next-at2 .ensures), start .pre .good .inside)
+    omega (arith, one-inside (start .pre) (next-at .ensures))
 
 mul-is-opposed-2 : tie.Need-mul-is-opposed-2
 mul-is-opposed-2 c =
-    let back = c .before .before .before .before in let next-at = back .next-at in
-    let start = back .before .before .before in
-    record {
-      fits = omega (
-        arith,
-        other-inside (start .pre) (next-at .ensures) (c .before .before .next-at2 .ensures),
-        start .pre .good .inside,
-      );
-    }
+    let back = c .before .before in let next-at2 = back .next-at2 in
+    let start = back .before .before .before .before .before in
+    record { fits = omega (arith, other-inside (start .pre) (next-at2 .ensures)) }
 
 sub-is-opposed-2 : tie.Need-sub-is-opposed-2
 sub-is-opposed-2 c = search needs
@@ -96,13 +56,9 @@ part-is-opposed-start-2 c = search needs
 
 part-is-opposed-end-2 : tie.Need-part-is-opposed-end-2
 part-is-opposed-end-2 c =
-    let back = c .before .before .before .before in let next-at = back .next-at in
-    let start = back .before .before .before in
-    omega (
-      arith,
-      other-inside (start .pre) (next-at .ensures) (c .before .before .next-at2 .ensures),
-      start .pre .good .inside,
-    )
+    let back = c .before .before in let next-at2 = back .next-at2 in
+    let start = back .before .before .before .before .before in
+    omega (arith, other-inside (start .pre) (next-at2 .ensures))
 
 is-opposed-requires : tie.Need-is-opposed-requires
 is-opposed-requires c κs = search needs
@@ -115,7 +71,7 @@ returns c =
     let back = c .before .before .before .before .before in let next-at2 = back .next-at2 in
     let back = back .before .before in let next-at = back .next-at in
     let start = back .before .before .before in
-    none-added (start .pre) (now (start .args .log))
+    none-grown (start .pre) (now (start .args .log))
     (sym (parts-opposed (start .pre) (next-at .ensures) (next-at2 .ensures) (c .before .is-opposed .ensures))
     ∙ c .if1 .taken)
 
@@ -130,13 +86,9 @@ append-resolvent-requires c κs =
     let back = c .before .before .before .before .before .before in let next-at2 = back .next-at2 in
     let back = back .before .before in let next-at = back .next-at in
     let start = back .before .before .before in
-    let o = sym
-    (parts-opposed (start .pre) (next-at .ensures) (next-at2 .ensures) (c .before .before .is-opposed .ensures))
-    ∙ c .before .if1 .left in (
-      omega (arith, one-inside (start .pre) (next-at .ensures) (next-at2 .ensures)),
-      omega (arith, other-inside (start .pre) (next-at .ensures) (next-at2 .ensures)),
-      joined-room (start .pre) (next-at .ensures) (next-at2 .ensures) o,
-    )
+    parts-joinable (start .pre) (next-at .ensures) (next-at2 .ensures)
+    (sym (parts-opposed (start .pre) (next-at .ensures) (next-at2 .ensures) (c .before .before .is-opposed .ensures))
+    ∙ c .before .if1 .left)
 
 record-added-requires : tie.Need-record-added-requires
 record-added-requires c κs =
@@ -168,7 +120,7 @@ returns-2 c =
     let back = back .before .before in let next-at = back .next-at in
     let start = back .before .before .before in
     let o = sym (parts-opposed (start .pre) (next-at .ensures) (next-at2 .ensures) (is-opposed .ensures)) ∙ if1 .left in
-    one-added (start .pre) (next-at .ensures) (next-at2 .ensures) o (append-resolvent .ensures .0)
+    resolvent-grown (start .pre) (next-at .ensures) (next-at2 .ensures) o (append-resolvent .ensures .0)
     (append-resolvent .ensures .1) (record-added .ensures .0) (record-added .ensures .1)
 
 pub add-resolvent-spec : {M : Type 1} → statement M

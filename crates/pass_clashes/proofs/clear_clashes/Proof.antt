@@ -1,3 +1,4 @@
+-- Invariant: what happened and what is left are all the events (Scan, Scanned; Scanning).
 use Prim.Native.Nat.{_+_, _-_}
 use native.Mathlib.Omega.{arith}
 use denote.Ref.{now}

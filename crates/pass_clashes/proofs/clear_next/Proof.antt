@@ -1,3 +1,4 @@
+-- Sliding down runs no event; the next clash is then the first event left (Scanning).
 use borrow.Author.Needs.{needs}
 use native.Mathlib.Omega.{arith}
 use denote.Ref.{now}

@@ -1,18 +1,17 @@
+-- Invariant: the first i literals are copied (Copying).
 use borrow.Author.Needs.{needs}
-use native.Mathlib.Omega.{arith}
+use mathlib.Core.Path.{_∙_}
 use Prim.Native.Nat.{_-_}
 use denote.Ref.{now}
-use borrow.Author.Needs.{sfits-of}
-use Rattle.literals.specs.Literal.{signed-of}
-use mathlib.Core.Path.{_∙_}
 use mir.Syntax.{w32}
 use mir.ValLaws.{toZ-ofZ}
+use borrow.Author.Needs.{sfits-of}
 use Rattle.pass_clashes.proofs.Copying.{Copying, copying-start, copying-room, copying-step, copying-end}
 use Rattle.pass_clashes.proofs.copy_without.Statement.{statement}
 use Rattle.pass_clashes.proofs.copy_without.Tie as tie
 
 abbrev Inv-loop : tie.InvT-loop
-Inv-loop work₀ to from n is-negative v gone end₀ i₀ work end i = Copying work₀ to from n (signed-of is-negative v) i end work
+Inv-loop work₀ to from n is-negative v gone end₀ i₀ work end i = Copying work₀ to from n is-negative v i end work
 
 abbrev μ-loop : tie.MeasureT-loop
 μ-loop work₀ to from n is-negative v gone end₀ i₀ work end i = n - i
@@ -24,21 +23,17 @@ loop-holds : tie.Need-loop-holds Inv-loop μ-loop
 loop-holds c =
     let start = c .before in
     copying-start (now (start .args .work)) (start .args .to) (start .args .from) (start .args .n)
-    (signed-of (start .args .is-negative) (start .args .v))
+    (start .args .is-negative) (start .args .v)
 
 add-copy-one : tie.Need-add-copy-one Inv-loop μ-loop
 add-copy-one c = search needs
 
 copy-one-requires : tie.Need-copy-one-requires Inv-loop μ-loop
 copy-one-requires c κs =
-    let back = c .before in let loop-test = back .loop-test in
-    let back = back .before in let loop = back .loop in
-    let back = back .before in let signed = back .signed in
+    let back = c .before .before .before in let signed = back .signed in
     let start = back .before in
-    let e = toZ-ofZ w32 (signed .result) (sfits-of (signed .ok)) ∙ signed .ensures in (
-      omega (arith, loop .inv .size, start .pre .0, start .pre .1, loop-test .taken),
-      rw e (copying-room (loop .inv) (loop-test .taken) (start .pre .0) (omega (arith, start .pre .1)) (start .pre .1)),
-    )
+    let e = toZ-ofZ w32 (signed .result) (sfits-of (signed .ok)) ∙ signed .ensures in
+    rw e (copying-room (c .before .before .loop .inv) (c .before .loop-test .taken) (start .pre .0) (start .pre .1))
 
 add-i : tie.Need-add-i Inv-loop μ-loop
 add-i c = search needs
@@ -54,8 +49,8 @@ loop-again c =
     let back = back .before in let signed = back .signed in
     let start = back .before in
     let e = toZ-ofZ w32 (signed .result) (sfits-of (signed .ok)) ∙ signed .ensures in
-    copying-step (loop .inv) (loop-test .taken) (start .pre .0) (omega (arith, start .pre .1))
-    (rw e at (copy-one .ensures .0)) (rw e at (copy-one .ensures .1))
+    copying-step (loop .inv) (loop-test .taken) (start .pre .0) (start .pre .1) (rw e at (copy-one .ensures .0))
+    (rw e at (copy-one .ensures .1))
 
 same-length : tie.Need-same-length Inv-loop μ-loop
 same-length c = c .before .loop .inv .size

@@ -1,3 +1,4 @@
+-- Each clause is the only one with its literal, and the second stays where the first is marked (Parents).
 use native.Mathlib.Omega.{arith}
 use mathlib.Core.Path.{_∙_}
 use mathlib.Core.Bool.{true, false}

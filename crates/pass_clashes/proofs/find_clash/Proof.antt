@@ -1,3 +1,4 @@
+-- Invariant: no variable of the range before v clashes.
 use borrow.Author.Needs.{needs}
 use mathlib.Core.Path.{_≡_, sym, _∙_}
 use mathlib.Core.Bool.{false}

@@ -1,3 +1,4 @@
+-- A variable clashes exactly if it and its negation have places (Search).
 use borrow.Author.Needs.{needs}
 use native.Mathlib.Omega.{arith}
 use mathlib.Core.Path.{refl, sym}

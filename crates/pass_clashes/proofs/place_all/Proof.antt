@@ -1,3 +1,4 @@
+-- Invariant: the unique literal clauses before `at` have their places (Filling).
 use mathlib.Core.Path.{_≡_, refl, _∙_}
 use native.Mathlib.Omega.{arith}
 use Prim.Native.Nat.{_-_}

@@ -2,16 +2,15 @@
 
 mod common;
 
-use common::formulas::{any_kind, values_for};
+use common::formulas::any_kind;
 use common::{
     compare_read_back, compare_reencode, compare_walk_back, new_formula, over_seeds, run_model,
     sum, walk_back_work, work_for, Room, WAYS,
 };
 use model::encoding::Encoding;
-use model::generator::{answer_for, damage, damage_log, text_of, Random};
+use model::generator::{answer_after, damage, damage_log, text_of, Random};
 use model::reading::Formula;
-use model::texts::{log_text, Line};
-use model::walk_back::replay;
+use model::texts::log_text;
 use std::collections::BTreeMap;
 
 const FORMULAS: u64 = 22_000;
@@ -94,7 +93,7 @@ fn in_order(seed: u64, occurred: &mut Occurred) {
         } else {
             random.below(lines + 1)
         };
-        let answer = some_answer(&mut random, &formula, &encoding.log[..kept]);
+        let answer = answer_after(&mut random, &formula, &encoding.log[..kept]);
         let work = around(&mut random, walk_back_work(&formula, &log, kept));
         let longest = 4 + 5 * formula.variables as usize;
         let room = if random.chance(50) {
@@ -105,20 +104,6 @@ fn in_order(seed: u64, occurred: &mut Occurred) {
         let number = compare_walk_back(&text, &log, kept, &answer, work, room);
         outcome(occurred, "walk-back", number);
     }
-}
-
-/// An answer that mostly satisfies what stands after the lines.
-fn some_answer(random: &mut Random, formula: &Formula, kept: &[Line]) -> Vec<u8> {
-    let standing = replay(&formula.clauses, kept).unwrap_or_default();
-    let literals = standing
-        .iter()
-        .chain(kept.iter().map(|line| &line.literals))
-        .flatten();
-    let highest = literals
-        .map(|literal| literal.abs())
-        .fold(formula.variables, i32::max);
-    let values = values_for(random, &standing, highest as usize);
-    answer_for(random, &values)
 }
 
 /// Texts, logs and answers with a few changes.
@@ -153,7 +138,7 @@ fn changed(seed: u64, occurred: &mut Occurred) {
     } else {
         random.below(lines.len() + 2)
     };
-    let mut answer = some_answer(&mut random, &formula, &lines[..kept.min(lines.len())]);
+    let mut answer = answer_after(&mut random, &formula, &lines[..kept.min(lines.len())]);
     let mut log = log_text(&lines);
     if random.chance(20) {
         log = damage(&mut random, &log);

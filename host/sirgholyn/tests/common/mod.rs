@@ -197,13 +197,7 @@ pub fn work_for(formula: &Formula) -> usize {
 /// The workspace that walk-back asks for, for a formula and a log that are in order.
 pub fn walk_back_work(formula: &Formula, log: &[u8], kept: usize) -> usize {
     let lines = model::log_reading::read_kept_lines(log, kept).unwrap_or_default();
-    let numbers: usize = lines.iter().map(|line| line.literals.len() + 1).sum();
-    let highest = lines
-        .iter()
-        .flat_map(|line| &line.literals)
-        .map(|literal| literal.unsigned_abs() as usize)
-        .fold(formula.variables as usize, usize::max);
-    4 * (formula.literal_count() as usize + formula.clauses.len() + numbers) + 4 * highest + 64
+    model::walk_back::workspace_needed(formula, &lines) as usize
 }
 
 /// Does the work for each seed on all processors, and gives what each processor has counted.

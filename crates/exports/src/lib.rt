@@ -137,9 +137,9 @@ pub extern "C" fn sirgholyn_walk_back(
     out: &mut [u8],
     tally: &mut [u64],
 ) -> u32
-    ensures number { λ r. ⌜ r ≡ number-of (walk-back (length (now (work .entry))) (length (now (out .entry))) kept (now (formula .entry)) (now (log .entry)) (now (answer .entry))) ⌝ }
-    ensures buffer { λ _. ⌜ now (out .exit) ≡ buffer-after 0 (walk-back (length (now (work .entry))) (length (now (out .entry))) kept (now (formula .entry)) (now (log .entry)) (now (answer .entry))) (λ t. t) (now (out .entry)) ⌝ }
-    ensures counts { λ _. ⌜ now (tally .exit) ≡ tally-after (walk-back (length (now (work .entry))) (length (now (out .entry))) kept (now (formula .entry)) (now (log .entry)) (now (answer .entry))) walk-back-counts (now (tally .entry)) ⌝ }
+    ensures number { λ r. ⌜ r ≡ number-of (walk-back-outcome (now (work .entry)) (now (out .entry)) kept (now (formula .entry)) (now (log .entry)) (now (answer .entry))) ⌝ }
+    ensures buffer { λ _. ⌜ now (out .exit) ≡ buffer-after 0 (walk-back-outcome (now (work .entry)) (now (out .entry)) kept (now (formula .entry)) (now (log .entry)) (now (answer .entry))) (λ t. t) (now (out .entry)) ⌝ }
+    ensures counts { λ _. ⌜ now (tally .exit) ≡ tally-after (walk-back-outcome (now (work .entry)) (now (out .entry)) kept (now (formula .entry)) (now (log .entry)) (now (answer .entry))) walk-back-counts (now (tally .entry)) ⌝ }
 {
     match call_walk_back::walk_back(formula, log, kept, answer, work, out) {
         call_walk_back::WalkedBack::Line(n) => {

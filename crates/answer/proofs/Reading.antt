@@ -37,8 +37,8 @@ module _ (x : ℕ) (l : ℤ) (m : Bytes) where
   not-zero : (natAbs l ≡ 0 → ⊥) → eqb 0 (natAbs l) ≡ false
   not-zero n = ne-eqb 0 (natAbs l) (λ e. n (sym e))
 
-  twice : (natAbs l ≡ 0 → ⊥) → (c : Clause) → Table c m → holds l c || holds (negℤ l) c ≡ not (eqb (getD m (natAbs l) 0) 0)
-  twice n c t = variable-named c m t l (λ e. n (ap natAbs e))
+  twice-named : (natAbs l ≡ 0 → ⊥) → (c : Clause) → Table c m → holds l c || holds (negℤ l) c ≡ not (eqb (getD m (natAbs l) 0) 0)
+  twice-named n c t = variable-named c m t l (λ e. n (ap natAbs e))
 
   pub literal-above : (natAbs l ≡ 0 → ⊥) → x < natAbs l → (c : Clause) → Table c m → read-literal x c l ≡ fault 42
   unfolding read-literal refuse-if
@@ -46,7 +46,7 @@ module _ (x : ℕ) (l : ℤ) (m : Bytes) where
 
   pub literal-twice : (natAbs l ≡ 0 → ⊥) → natAbs l ≤ x → 0 < getD m (natAbs l) 0 → (c : Clause) → Table c m → read-literal x c l ≡ fault 43
   unfolding read-literal refuse-if
-  literal-twice n h k c t = rw (not-zero n, le-ltb x (natAbs l) h, twice n c t, ne-eqb (getD m (natAbs l) 0) 0 (λ e. omega arith)) refl
+  literal-twice n h k c t = rw (not-zero n, le-ltb x (natAbs l) h, twice-named n c t, ne-eqb (getD m (natAbs l) 0) 0 (λ e. omega arith)) refl
 
   pub literal-named : (natAbs l ≡ 0 → ⊥) → natAbs l ≤ x → x < length m → getD m (natAbs l) 0 ≤ 0 → Steps-open (λ c. read-literal x c l) m Progress.Open (naming l m)
   unfolding read-literal refuse-if
@@ -54,7 +54,7 @@ module _ (x : ℕ) (l : ℤ) (m : Bytes) where
       let e : getD m (natAbs l) 0 ≡ 0 = omega arith in
       λ c t. (
         c ++ (l ∷ []),
-        rw (not-zero n, le-ltb x (natAbs l) h, twice n c t, eq-eqb (getD m (natAbs l) 0) 0 e) refl,
+        rw (not-zero n, le-ltb x (natAbs l) h, twice-named n c t, eq-eqb (getD m (natAbs l) 0) 0 e) refl,
         table-naming c m t l (omega arith) e,
       )
 
@@ -91,9 +91,9 @@ module _ (x : ℕ) (w : Bytes) where
   word-closed m a r = rw (r .1) refl
 
 -- after a fault nothing is read
-pub faulty : {B : Type 0} (step : Answer → Checked B) (n : ℕ) (a : Checked Answer) → a ≡ fault n → (a >>= step) ≡ fault n
+pub fault-stays : {B : Type 0} (step : Answer → Checked B) (n : ℕ) (a : Checked Answer) → a ≡ fault n → (a >>= step) ≡ fault n
 unfolding _>>=_
-faulty step n a e = rw e refl
+fault-stays step n a e = rw e refl
 
 -- ---- a walk through the words of a line, or the lines of a text
 
@@ -176,7 +176,7 @@ ends-closed m a r = (r .0, rw (r .1) refl, r .2)
 
 -- ---- the lines of a text
 
-abbrev pub line-step : ℕ → Answer → TextLine → Checked Answer
+abbrev line-step : ℕ → Answer → TextLine → Checked Answer
 line-step x a l = read-answer-line x a (line-text l)
 
 module _ (x : ℕ) (t : Bytes) where

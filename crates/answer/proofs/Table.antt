@@ -40,16 +40,16 @@ table-start n = record { names = λ l. rw (getD-zeros n (natAbs l)) (sym (no-ent
 
 -- ---- whether a variable is named is one look at its entry
 
-either : (e : ℕ) → e ≤ 2 → eqb e 1 || eqb e 2 ≡ not (eqb e 0)
-either zero h = refl
-either (suc zero) h = refl
-either (suc (suc zero)) h = refl
-either (suc (suc (suc e))) h = absurd (omega arith)
+one-or-two : (e : ℕ) → e ≤ 2 → eqb e 1 || eqb e 2 ≡ not (eqb e 0)
+one-or-two zero h = refl
+one-or-two (suc zero) h = refl
+one-or-two (suc (suc zero)) h = refl
+one-or-two (suc (suc (suc e))) h = absurd (omega arith)
 
 pub variable-named : (c : Clause) (m : Bytes) → Table c m → (l : ℤ) → l ≢ pos 0 → holds l c || holds (negℤ l) c ≡ not (eqb (getD m (natAbs l) 0) 0)
 variable-named c m t (pos zero) z = absurd (z refl)
-variable-named c m t (pos (suc n)) z = rw (t .names (pos (suc n)), t .names (negsuc n)) (either (getD m (suc n) 0) (t .at-most (suc n)))
-variable-named c m t (negsuc n) z = rw (t .names (pos (suc n)), t .names (negsuc n)) (or-comm (eqb (getD m (suc n) 0) 2) (eqb (getD m (suc n) 0) 1) ∙ either (getD m (suc n) 0) (t .at-most (suc n)))
+variable-named c m t (pos (suc n)) z = rw (t .names (pos (suc n)), t .names (negsuc n)) (one-or-two (getD m (suc n) 0) (t .at-most (suc n)))
+variable-named c m t (negsuc n) z = rw (t .names (pos (suc n)), t .names (negsuc n)) (or-comm (eqb (getD m (suc n) 0) 2) (eqb (getD m (suc n) 0) 1) ∙ one-or-two (getD m (suc n) 0) (t .at-most (suc n)))
 
 -- ---- the entry of a literal that is named, and the others
 

@@ -8,7 +8,7 @@ use lib.Dec.{ltb}
 use lib.IntN.{ℤ}
 use lib.ListN.{length, take, drop, replicate}
 use lib.Seq.{sets-eq, length-sets, take-at, take-take, length-take-le}
-use borrow.Author.Tests.{lt-ltb, le-ltb, ltb-true, ltb-false}
+use borrow.Author.Tests.{lt-ltb, le-ltb, ltb-false}
 use Rattle.definition.specs.Checked.{Checked, fault, value, _>>=_, refuse-if}
 use Rattle.definition.specs.Literals.{Formula, literals-of}
 use Rattle.definition.specs.Text.{Bytes}
@@ -16,12 +16,11 @@ use Rattle.definition.specs.Reading.{Limits, Input, as-read, input-limits, read
 use Rattle.definition.specs.Log.{log-text, formula-text}
 use Rattle.definition.specs.Reencoding.{Settings, chosen, events, log, result, highest-used}
 use Rattle.definition.specs.Calls.{read-input, Reencoded, reencoded, workspace-need, numbers-of, reencode, buffer-after}
-use Rattle.theory_base.proofs.Tests.{by-test}
 use Rattle.theory_text.specs.Accepted.{Accepted}
 use Rattle.theory_text.proofs.Accepted.{input-accepted, input-highest}
 use Rattle.text.specs.Output.{Put}
 use Rattle.text.proofs.Output.{put-length}
-use Rattle.store.specs.Store.{Formed, stored}
+use Rattle.store.specs.Store.{stored}
 use Rattle.store.proofs.Laws.{few-stored}
 use Rattle.dimacs.specs.Limits.{limits-of}
 use Rattle.dimacs.specs.Entries.{entries}
@@ -33,14 +32,14 @@ use Rattle.dimacs.proofs.Entries.{entries-formed, entries-stored, entries-numbe
 use Rattle.dimacs.proofs.Outcome.{Formula-is, formula-answer}
 use Rattle.progress.specs.Progress.{standing}
 use Rattle.run.specs.declared.Settings as Code-settings
-use Rattle.run.specs.declared.Run.{Run}
+use Rattle.run.specs.declared.Reached.{Reached}
 use Rattle.run.specs.Settings.{settings-of}
 use Rattle.run.specs.Run.{input-in, Run-ready, Ran-all}
 use Rattle.call_reencode.specs.declared.Reencoding as Code
 use Rattle.call_reencode.specs.declared.Tally.{Tally}
 use Rattle.call_reencode.specs.declared.Reencoding.the-variants as Reencoding
 use Rattle.call_reencode.specs.Outcome.{outcome-of, outcome}
-use Rattle.call_reencode.specs.Result.{Left, answer-by, Finishes, fitted, Answers}
+use Rattle.call_reencode.specs.Result.{Left, Finishes, fitted, Answers}
 
 -- ---- buffers
 
@@ -58,15 +57,15 @@ refused n e = record {
   formula-written = λ r q. absurd (let z : _≡_ {A = ℕ} 0 1 = cc in omega arith);
 }
 
-value-is : {A : Type 0} {P : A → Type 0} {o : Checked A} (a : A) → o ≡ value a → P a → (b : A) → o ≡ value b → P b
-value-is {P = P} a e p b q = let s : a ≡ b = cc in subst P s p
+value-is : {A : Type 0} (P : A → Type 0) {o : Checked A} (a : A) → o ≡ value a → P a → (b : A) → o ≡ value b → P b
+value-is P a e p b q = let s : a ≡ b = cc in subst P s p
 
 done : {o : Checked Reencoded} {log formula new-log new-formula : Bytes} {a : Code.Reencoding} (r : Reencoded) → o ≡ value r → a ≡ outcome-of (value r) → new-log ≡ r .log ++ drop (length (r .log)) log →
     new-formula ≡ r .formula ++ drop (length (r .formula)) formula → Answers o log formula a new-log new-formula
 done {o} {log} {formula} {new-log} {new-formula} r e a x y = record {
   answer = rw e a;
-  log-written = value-is {P = λ (b : Reencoded). new-log ≡ b .log ++ drop (length (b .log)) log} r e x;
-  formula-written = value-is {P = λ (b : Reencoded). new-formula ≡ b .formula ++ drop (length (b .formula)) formula} r e y;
+  log-written = value-is (λ (b : Reencoded). new-log ≡ b .log ++ drop (length (b .log)) log) r e x;
+  formula-written = value-is (λ (b : Reencoded). new-formula ≡ b .formula ++ drop (length (b .formula)) formula) r e y;
 }
 
 -- by the sizes of the buffers
@@ -83,9 +82,30 @@ fits-answers r log formula {new-log} {new-formula} {a} e x y = go (ltb (length l
     go false p true q z = rw z (refused 13 refl)
     go false p false q z = done r refl z (x (ltb-false (length log) (length (r .log)) p)) (y (ltb-false (length formula) (length (r .formula)) q))
 
+-- ---- the formula written
+
+module _ {work : List ℤ} {r : Reached} (l : Left work r) where
+  pub left-few : (length (stored (take (r .progress .end) work)) < 2 ^ 32) × (12 * length (take (r .progress .end) work) + 28 < 2 ^ 64)
+  left-few =
+      let n = length-take-le (r .progress .end) work (l .inside) in
+      (omega (arith, l .small, l .inside, n, few-stored (take (r .progress .end) work)), omega (arith, l .small, l .inside, n))
+
+module _ {work : List ℤ} {r : Reached} {formula new : Bytes} {bytes : ℕ} (log-room : ℕ) (w : Put formula 0 (formula-text (r .highest) (standing work (r .progress))) bytes new) where
+  pub log-short : log-room < r .progress .at → Finishes work log-room formula r (Reencoding.Refused 12) new
+  log-short h = record { bytes = bytes; written = w; answer = rw (lt-ltb log-room (r .progress .at) h) refl }
+
+  module _ (h : r .progress .at ≤ log-room) where
+    pub formula-short : length new < bytes → Finishes work log-room formula r (Reencoding.Refused 13) new
+    formula-short j =
+        record { bytes = bytes; written = w; answer = rw (le-ltb log-room (r .progress .at) h, lt-ltb (length formula) bytes (omega (arith, put-length w))) refl }
+
+    pub both-fit : {count : ℕ} → bytes ≤ length new → count ≡ length (standing work (r .progress)) →
+        Finishes work log-room formula r (Reencoding.Done (record { choices = r .choices; highest = r .highest; clauses = count; lines = r .progress .lines; «log_bytes» = r .progress .at; «formula_bytes» = bytes })) new
+    both-fit j e = record { bytes = bytes; written = w; answer = rw (le-ltb log-room (r .progress .at) h, le-ltb (length formula) bytes (omega (arith, put-length w)), e) refl }
+
 -- ---- after a run
 
-module _ {s : Settings} {i : Input} {work new : List ℤ} {x y : Bytes} {end : ℕ} {r : Run} (small : length work < 2 ^ 31) (a : Ran-all s i work x end new y r) where
+module _ {s : Settings} {i : Input} {work new : List ℤ} {x y : Bytes} {end : ℕ} {r : Reached} (small : length work < 2 ^ 31) (a : Ran-all s i work x end new y r) where
   pub run-left : Left new r
   run-left = record { small = omega (arith, a .runs .size); inside = omega (arith, a .runs .inside, a .runs .size); formed = a .runs .formed }
 
@@ -120,9 +140,9 @@ module _ {s : Settings} {i : Input} {work new : List ℤ} {x y : Bytes} {end : �
 -- ---- the input in a store
 
 -- a run asks for the formula and the highest variable alone
-reencoded-same : (s : Settings) (i : Input) (v c : ℕ) → reencoded s i ≡ reencoded s (record { variables = v; highest = i .highest; clauses = c; formula = i .formula })
+reencoded-same : (s : Settings) (i : Input) (f : Formula) (v : ℕ) → f ≡ i .formula → v ≡ i .highest → reencoded s (as-read v (length f) f) ≡ reencoded s i
 unfolding reencoded log events result highest-used chosen
-reencoded-same s i v c = refl
+reencoded-same s i f v e h = rw (e, h) refl
 
 module _ (t : Bytes) (s : Code-settings.Settings) (work : List ℤ) (log₀ formula₀ : Bytes) (m : Code-limits.Limits) (k : limits-of m ≡ input-limits) (a : FormulaRead) (p : a ≡ read-of (read-formula (limits-of m) t)) where
   at-limits : read-formula (limits-of m) t ≡ read-input t
@@ -209,8 +229,9 @@ module _ (t : Bytes) (s : Code-settings.Settings) (work : List ℤ) (log₀ form
       pub call-run : {b : Code.Reencoding} {x y : Bytes} → Answers (fitted (settings-of s) (input-in lent filled v) log₀ formula₀) log₀ formula₀ b x y → Answers (outcome s t work log₀ formula₀) log₀ formula₀ b x y
       unfolding reencode _>>=_ refuse-if
       call-run {b} {x} {y} r =
-          let e : reencoded (settings-of s) (input-in lent filled v) ≡ reencoded (settings-of s) i = rw (stored-is, sym highest-is) (sym (reencoded-same (settings-of s) i (i .highest) (length (i .formula)))) in
-          rw (found .is, need-is, le-ltb (length work) need enough, ← e) r
+          let e = reencoded-same (settings-of s) i (stored (take filled lent)) v stored-is (sym highest-is) in
+          rw (found .is, need-is, le-ltb (length work) need enough)
+          (subst (λ (z : Reencoded). Answers (refuse-if (ltb (length log₀) (length (z .log))) 12 (refuse-if (ltb (length formula₀) (length (z .formula))) 13 (value z))) log₀ formula₀ b x y) e r)
 
 -- ---- the buffers made zero on a refusal
 

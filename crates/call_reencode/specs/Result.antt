@@ -15,19 +15,19 @@ use Rattle.definition.specs.Calls.{Reencoded, reencoded}
 use Rattle.text.specs.Output.{Put}
 use Rattle.store.specs.Store.{Formed}
 use Rattle.progress.specs.Progress.{standing}
-use Rattle.run.specs.declared.Run.{Run}
+use Rattle.run.specs.declared.Reached.{Reached}
 use Rattle.call_reencode.specs.declared.Reencoding as Code
 use Rattle.call_reencode.specs.declared.Reencoding.the-variants as Reencoding
 use Rattle.call_reencode.specs.Outcome.{outcome-of}
 
 -- a store that a run has left
-pub record Left (work : List ℤ) (r : Run) : Type 0 where
+pub record Left (work : List ℤ) (r : Reached) : Type 0 where
   pub small : length work < 2 ^ 31
   pub inside : r .progress .end ≤ length work
   pub formed : Formed (take (r .progress .end) work)
 
 -- the answer by the sizes of the buffers and of what is written
-abbrev pub answer-by : ℕ → ℕ → Run → ℕ → ℕ → Code.Reencoding
+abbrev pub answer-by : ℕ → ℕ → Reached → ℕ → ℕ → Code.Reencoding
 answer-by log-room formula-room r clauses bytes =
     cond (ltb log-room (r .progress .at)) (Reencoding.Refused 12)
     (cond (ltb formula-room bytes) (Reencoding.Refused 13)
@@ -42,7 +42,7 @@ answer-by log-room formula-room r clauses bytes =
     })))
 
 -- the formula that stands is written
-pub record Finishes (work : List ℤ) (log-room : ℕ) (formula : Bytes) (r : Run) (a : Code.Reencoding) (new-formula : Bytes) : Type 0 where
+pub record Finishes (work : List ℤ) (log-room : ℕ) (formula : Bytes) (r : Reached) (a : Code.Reencoding) (new-formula : Bytes) : Type 0 where
   pub bytes : ℕ
   pub written : Put formula 0 (formula-text (r .highest) (standing work (r .progress))) bytes new-formula
   pub answer : a ≡ answer-by log-room (length formula) r (length (standing work (r .progress))) bytes

@@ -9,7 +9,7 @@ ghost use Rattle.run.specs.Run.{input-in, Run-ready};
 ghost use Rattle.call_reencode.specs.Counting.{standing-bit};
 ghost use Rattle.call_reencode.specs.Outcome.{outcome-of, outcome as outcome-defined};
 ghost use Rattle.call_reencode.specs.Result.{Left, Finishes, fitted, Answers};
-use run::Run;
+use run::Reached;
 use run::Settings;
 
 // The result: choices, H, M, log lines and both byte lengths.
@@ -58,7 +58,7 @@ fn count_standing(store: &[i32]) -> usize
 // ---- the call; a refusal may leave anything in the buffers
 
 // Writes the formula that stands after a run, and tests both buffers.
-fn finish(work: &[i32], log: &[u8], formula: &mut [u8], r: Run) -> Reencoding
+fn finish(work: &[i32], log: &[u8], formula: &mut [u8], r: Reached) -> Reencoding
     requires { ⌜ Left (now work) r ⌝ }
     ensures { λ a. ⌜ Finishes (now (work .entry)) (length (now (log .entry))) (now (formula .entry)) r a (now (formula .exit)) ⌝ }
 {

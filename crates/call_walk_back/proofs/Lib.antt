@@ -1,3 +1,3 @@
-pub mod TextsRead
 pub mod Workspace
+pub mod TextsRead
 pub mod Outcome

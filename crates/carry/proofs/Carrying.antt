@@ -1,9 +1,9 @@
 -- An assignment in a table, tested against a store, repaired, and carried back over loaded lines.
 use Rattle.theory_base.proofs.Fitting.{highest-snoc}
 use mathlib.Core.Path.{_≡_, refl, sym, ap, _∙_}
-use mathlib.Core.Bool.{true, false}
+use mathlib.Core.Bool.{Bool, true, false}
 use mathlib.Core.List.{List, [], _∷_}
-use Prim.Native.Nat.{ℕ, _≤_, _<_, max}
+use Prim.Native.Nat.{ℕ, _+_, _≤_, _<_, max}
 use native.Mathlib.Omega.{arith}
 use lib.IntN.{ℤ, pos}
 use lib.ListN.{length, getD, take, drop}
@@ -14,8 +14,9 @@ use Rattle.definition.specs.Literals.{Clause, Formula, highest}
 use Rattle.definition.specs.Standing.{literals, highest-in}
 use Rattle.definition.specs.Assignments.{Assignment, has-true, satisfies, repaired, carried, carried-back}
 use Rattle.theory_base.proofs.Tests.{differ, by-test}
-use Rattle.store.specs.Store.{stored, deleted-at, clause-at, past}
-use Rattle.store.proofs.Laws.{rest-deleted, rest-stands, stored-end}
+use Rattle.literals.specs.Literal.{negative, header-literals}
+use Rattle.store.specs.Store.{Formed, header-at, stored, deleted-at, clause-at, past}
+use Rattle.store.proofs.Laws.{part-within, rest-deleted, rest-stands, stored-end}
 use Rattle.answer.specs.Table.{marked, naming}
 use Rattle.answer.proofs.Table.{marked-naming}
 use Rattle.theory_base.proofs.Lines.{carried-back-snoc}
@@ -26,11 +27,16 @@ use Rattle.carry.specs.Carried.{holds-at}
 
 -- ---- what stands is satisfied
 
-pub holds-deleted : (a : Assignment) (s : List ℤ) (at : ℕ) → deleted-at s at ≡ true → true ≡ holds-at a s at
-holds-deleted a s at e = rw e refl
+-- by the header at a place, and the n literals behind it
+module _ (s : List ℤ) (at : ℕ) (h : ℤ) (e : h ≡ header-at s at) (n : ℕ) (l : n ≡ header-literals h) where
+  pub clause-within : at < length s → Formed (drop at s) → at + 1 + n ≤ length s
+  clause-within i f = rw (l, e) (part-within s at i f)
 
-pub holds-standing : (a : Assignment) (s : List ℤ) (at : ℕ) → deleted-at s at ≡ false → has-true a (clause-at s at) ≡ holds-at a s at
-holds-standing a s at e = rw e refl
+  pub holds-standing : (a : Assignment) (c : Clause) (r : Bool) → negative h ≡ false → c ≡ take n (drop (at + 1) s) → r ≡ has-true a c → r ≡ holds-at a s at
+  holds-standing a c r d k t = t ∙ ap (has-true a) (k ∙ ap (λ (m : ℕ). take m (drop (at + 1) s)) (l ∙ ap header-literals e)) ∙ rw (sym (ap negative e) ∙ d) refl
+
+pub holds-deleted : (a : Assignment) (s : List ℤ) (at : ℕ) (h : ℤ) → h ≡ header-at s at → negative h ≡ true → true ≡ holds-at a s at
+holds-deleted a s at h e d = rw (sym (ap negative e) ∙ d) refl
 
 first-true : (a : Assignment) (c : Clause) (f : Formula) → has-true a c ≡ true → satisfies a f ≡ satisfies a (c ∷ f)
 unfolding satisfies all
@@ -40,16 +46,16 @@ first-false : (a : Assignment) (c : Clause) (f : Formula) → has-true a c ≡ f
 unfolding satisfies all
 first-false a c f e = rw e refl
 
-module _ (a : Assignment) (s : List ℤ) (at : ℕ) (h : at < length s) where
-  pub satisfied-more : holds-at a s at ≡ true → satisfies a (stored (drop (past s at) s)) ≡ satisfies a (stored (drop at s))
+module _ (a : Assignment) (s : List ℤ) (at : ℕ) (h : at < length s) (r : Bool) (q : r ≡ holds-at a s at) where
+  pub satisfied-more : r ≡ true → satisfies a (stored (drop (past s at) s)) ≡ satisfies a (stored (drop at s))
   satisfied-more e =
       by-test (deleted-at s at) (λ d. ap (satisfies a) (sym (rest-deleted s at h d)))
-      (λ d. first-true a (clause-at s at) (stored (drop (past s at) s)) (holds-standing a s at d ∙ e) ∙ ap (satisfies a) (sym (rest-stands s at h d)))
+      (λ d. first-true a (clause-at s at) (stored (drop (past s at) s)) (rw d at (sym q ∙ e)) ∙ ap (satisfies a) (sym (rest-stands s at h d)))
 
-  pub satisfied-not : holds-at a s at ≡ false → false ≡ satisfies a (stored (drop at s))
+  pub satisfied-not : r ≡ false → false ≡ satisfies a (stored (drop at s))
   satisfied-not e =
-      by-test (deleted-at s at) (λ d. differ {b = true} tt (holds-deleted a s at d ∙ e))
-      (λ d. first-false a (clause-at s at) (stored (drop (past s at) s)) (holds-standing a s at d ∙ e) ∙ ap (satisfies a) (sym (rest-stands s at h d)))
+      by-test (deleted-at s at) (λ d. differ {b = true} tt (rw d at (sym q ∙ e)))
+      (λ d. first-false a (clause-at s at) (stored (drop (past s at) s)) (rw d at (sym q ∙ e)) ∙ ap (satisfies a) (sym (rest-stands s at h d)))
 
 pub satisfied-end : (a : Assignment) (s : List ℤ) (at : ℕ) → length s ≤ at → true ≡ satisfies a (stored (drop at s))
 unfolding satisfies all

@@ -12,7 +12,7 @@ use lib.Seq.{sets}
 use borrow.Author.Tests.{le-leb, lt-leb, lt-ltb, le-ltb, ltb-false, ne-eqb}
 use Rattle.definition.specs.Checked.{Checked, fault}
 use Rattle.definition.specs.Literals.{Clause}
-use Rattle.definition.specs.Text.{Bytes, blank, words-by, words, number}
+use Rattle.definition.specs.Text.{Bytes, blank, words, number}
 use Rattle.theory_base.proofs.Slices.{sets-then, sets-first}
 use Rattle.literals.specs.Literal.{header-of}
 use Rattle.literals.proofs.Laws.{header-small}
@@ -20,6 +20,9 @@ use Rattle.text.specs.Numbers.{number-class}
 use Rattle.text.specs.declared.Number.the-variants as Number
 use Rattle.text.proofs.Numbers.{number-answer}
 use Rattle.theory_text.proofs.Runs.{First}
+use Rattle.text.specs.Words.{word-at}
+use Rattle.text.specs.declared.Word.the-variants as Word
+use Rattle.text.proofs.Words.{word-answer}
 use Rattle.tables.specs.Stamps.{Marks, Fresh, Mark-post}
 use Rattle.tables.specs.declared.Marked.{Marked}
 use Rattle.tables.specs.declared.Marked.the-variants as Mark
@@ -131,11 +134,21 @@ module _ {v room stamp : ℕ} {text : Bytes} {old : List ℤ} {table : List ℕ}
   abbrev whole : Checked Clause-read
   whole = first-clause v room [] (words text)
 
-  pub going-end : words-by blank (drop at text) ≡ [] → whole ≡ fault (ended n)
+  -- by the next word
+  pub going-end : {m : ℕ} → Word.End ≡ word-at blank text at → m ≡ ended n → whole ≡ fault m
   unfolding words first-clause
-  going-end e = sym (g .same) ∙ rw (e, ← g .counted) refl
+  going-end q e = sym (g .same) ∙ rw (word-answer blank text at q, ← g .counted, e) refl
 
-  module _ {s e : ℕ} (f : First blank text at s e) {after : List ℕ} {a : Item} (p : Item-post v (g .here) (take (e - s) (drop s text)) after stamp a) where
+  pub going-word : {s e : ℕ} → Word.At s e ≡ word-at blank text at → First blank text at s e
+  going-word q = word-answer blank text at q
+
+  module _ {s e : ℕ} (w : Word.At s e ≡ word-at blank text at) (after : List ℕ) (a : Item) (r : (here : Clause) → Marks table stamp here → Item-post v here (take (e - s) (drop s text)) after stamp a) where
+    f : First blank text at s e
+    f = going-word w
+
+    p : Item-post v (g .here) (take (e - s) (drop s text)) after stamp a
+    p = r (g .here) (g .marks)
+
     next : (i : Item) → a ≡ i → whole ≡ clause-by (leb room n) (g .here) (words (drop e text)) (λ h. first-clause v room h (words (drop e text))) i
     unfolding words first-clause
     next i q = sym (g .same) ∙ rw (f .words, ← g .counted, ← p .is, q) refl

@@ -6,18 +6,16 @@ use native.Mathlib.Omega.{arith}
 use lib.IntN.{ℤ}
 use lib.ListN.{length, take, drop, replicate, length-append, length-drop}
 use lib.Seq.{sets, length-sets, drop-drop}
-use lib.Dec.{ltb}
-use borrow.Author.Tests.{ltb-true, ltb-false}
 use Rattle.definition.specs.Lists.{for-each, sum-of}
 use Rattle.definition.specs.Checked.{Checked, fault, value, _>>=_}
 use Rattle.definition.specs.Literals.{Formula, literals-of}
 use Rattle.definition.specs.Text.{Bytes, blank, words-by, words}
 use Rattle.definition.specs.Reading.{Limits, Input, as-read, read-clauses, read-header, read-formula}
 use Rattle.definition.specs.Calls.{numbers-of}
-use Rattle.theory_base.proofs.Tests.{by-test}
 use Rattle.theory_base.proofs.Clauses.{literals-snoc}
 use Rattle.theory_base.proofs.Outcomes.{fault-value, value-same}
-use Rattle.theory_base.proofs.Slices.{sets-then, sets-past, sets-rest}
+use Rattle.theory_base.proofs.Parts.{sets-capped}
+use Rattle.theory_base.proofs.Slices.{sets-then}
 use Rattle.theory_text.proofs.Accepted.{Header-few, header-few}
 use Rattle.theory_text.proofs.Runs.{words-blank}
 use Rattle.tables.specs.Stamps.{At-most, Fresh}
@@ -49,16 +47,6 @@ module _ {o : Checked Input} (old new : List ℤ) where
 numbers-is : (f : Formula) → numbers-of f ≡ literals-of f + length f
 unfolding numbers-of
 numbers-is f = refl
-
--- ---- a run stored at a place, or past the end nothing
-
--- as a call with `&mut s[to..]` leaves s
-stored-at : (xs s new : List ℤ) (end to : ℕ) → to ≡ min end (length s) → new ≡ sets (take (length s - to) (drop to s)) 0 xs → take to s ++ (new ++ drop (length s - to) (drop to s)) ≡ sets s end xs
-stored-at xs s new end to m e =
-    let z : to + 0 ≡ to = omega arith in
-    sets-rest xs s new to 0 e ∙ ap (λ (k : ℕ). sets s k xs) z ∙ by-test (ltb end (length s))
-    (λ l. ap (λ (k : ℕ). sets s k xs) (omega (arith, ltb-true end (length s) l)))
-    (λ l. sets-past xs s to (omega (arith, ltb-false end (length s) l)) ∙ sym (sets-past xs s end (ltb-false end (length s) l)))
 
 -- ---- the clauses
 
@@ -141,7 +129,7 @@ module _ {most : Limits} {v c : ℕ} {text : Bytes} {old : List ℤ} {table : Li
       unfolding _>>=_
       reading-on {j} {n} q =
           let e = subst Told q p in
-          let s : stored-on ≡ sets store end (entry (e .clause)) = stored-at (entry (e .clause)) store new end to m (e .stored) in
+          let s : stored-on ≡ sets store end (entry (e .clause)) = sets-capped (entry (e .clause)) store new end to m (e .stored) in
           let l : literals-of (g .read ++ (e .clause ∷ [])) ≡ total + n = literals-snoc (g .read) (e .clause) ∙ omega (arith, g .literals, e .size) in
           let k : length (g .read ++ (e .clause ∷ [])) ≡ done + 1 = length-append (g .read) (e .clause ∷ []) ∙ omega (arith, g .count) in
           let z : end ≡ 0 + length (entries (g .read)) = omega (arith, g .filled, entries-numbers (g .read)) in

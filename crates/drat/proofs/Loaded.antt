@@ -90,10 +90,10 @@ loaded-from-++ zero (h ∷ s) t f g =
     (ap header-literals (List·getD-append s t (pos 0) (header-literals h) (omega (arith, m .0))) ∙ f .0, loaded-from-++ (suc (header-literals h)) s t (f .1) g)
 loaded-from-++ (suc k) (x ∷ s) t f g = loaded-from-++ k s t f g
 
-pub lines-++ : (s t : List ℤ) → Loaded s → lines-in (s ++ t) ≡ lines-in s ++ lines-in t
+lines-++ : (s t : List ℤ) → Loaded s → lines-in (s ++ t) ≡ lines-in s ++ lines-in t
 lines-++ s t f = lines-from-++ 0 s t f
 
-pub loaded-++ : (s t : List ℤ) → Loaded s → Loaded t → Loaded (s ++ t)
+loaded-++ : (s t : List ℤ) → Loaded s → Loaded t → Loaded (s ++ t)
 loaded-++ s t f g = loaded-from-++ 0 s t f g
 
 -- ---- one line more

@@ -59,8 +59,8 @@ module _ (t : Bytes) (d : Bool) (e : d ≡ begins-deletion t) (from : ℕ) (f : 
   by-clause : first-read t ≡ as-line (line-of d) (rest-read from [] (drop from t))
   by-clause = rw f (line-by-clause t d e)
 
-  pub line-refused-so : r ≡ Read.Fault → first-read t ≡ fault 31
-  line-refused-so q = by-clause ∙ line-fault (line-of d) _ (rw q at k)
+  pub line-refused-by-clause : r ≡ Read.Fault → first-read t ≡ fault 31
+  line-refused-by-clause q = by-clause ∙ line-fault (line-of d) _ (rw q at k)
 
   pub line-stored : {next count top : ℕ} → r ≡ Read.Line next count top → (new : List ℤ) (h : ℤ) → h ≡ line-header d count → new ≡ set mid to h → Stored-read literals line-entry (first-read t) next count top old to new
   line-stored {next} {count} {top} q new h p z =

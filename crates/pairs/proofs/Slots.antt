@@ -34,10 +34,10 @@ ordered-not a b x y = rw (lt-ltb 0 a x, le-ltb a b y) refl
 pub ordered-high : (a b : ℕ) → 0 < a → a < b → 64 < b → ordered-slot a b ≡ slots
 ordered-high a b x y z = rw (lt-ltb 0 a x, lt-ltb a b y, lt-leb b 64 z) refl
 
-pub slot-less : (a b : ℕ) → a < b → slot a b ≡ ordered-slot a b
+slot-less : (a b : ℕ) → a < b → slot a b ≡ ordered-slot a b
 slot-less a b h = rw (lt-ltb a b h) refl
 
-pub slot-more : (a b : ℕ) → b ≤ a → slot a b ≡ ordered-slot b a
+slot-more : (a b : ℕ) → b ≤ a → slot a b ≡ ordered-slot b a
 slot-more a b h = rw (le-ltb a b h) refl
 
 pub slot-long : (t : List ℕ) (d : Clause) → (length d ≡ 2 → ⊥) → slot-of t d ≡ slots

@@ -1,4 +1,4 @@
--- Deletions one after the other. Assumes nothing.
+-- Deletions one after the other: recorded, and the first clause with the same set taken out; the clauses with each literal in turn. Assumes nothing.
 use mathlib.Core.Path.{_≡_, refl, sym, ap, ap₂, subst, _∙_}
 use mathlib.Core.Bool.{Bool, true, false}
 use mathlib.Core.List.{List, [], _∷_, _++_, map, map-append, append-assoc}
@@ -34,14 +34,14 @@ use Rattle.replacement.proofs.Writing.{wanted, new-arg, array-clause}
 pub deletes-none : {s : List ℤ} (log : Bytes) (p : Progress) → Formed s → Deletes [] s log p s log p
 deletes-none log p f = record { formed = f; stands = refl; written = written-none log p p refl refl; kept = refl }
 
-pub deletable-first : (A B : List Clause) {s : List ℤ} {p : Progress} → Deletable (A ++ B) s p → Deletable A s p
+deletable-first : (A B : List Clause) {s : List ℤ} {p : Progress} → Deletable (A ++ B) s p → Deletable A s p
 deletable-first A B d = record { formed = d .formed; room = room-first (map deletion A) (map deletion B) (rw (map-append deletion A B) at (d .room)) }
 
 module _ (A B : List Clause) {s s1 : List ℤ} {x y : Bytes} {p q : Progress} where
-  pub deletable-rest : Deletable (A ++ B) s p → Deletes A s x p s1 y q → Deletable B s1 q
+  deletable-rest : Deletable (A ++ B) s p → Deletes A s x p s1 y q → Deletable B s1 q
   deletable-rest d e = record { formed = e .formed; room = room-rest (map deletion A) (map deletion B) (rw (map-append deletion A B) at (d .room)) (e .written) }
 
-  pub deletes-then : {s2 : List ℤ} {z : Bytes} {r : Progress} → Deletes A s x p s1 y q → Deletes B s1 y q s2 z r → Deletes (A ++ B) s x p s2 z r
+  deletes-then : {s2 : List ℤ} {z : Bytes} {r : Progress} → Deletes A s x p s1 y q → Deletes B s1 y q s2 z r → Deletes (A ++ B) s x p s2 z r
   deletes-then d e = record {
     formed = e .formed;
     stands = e .stands ∙ ap (λ (F : Formula). take-all F B) (d .stands) ∙ sym (take-all-++ (stored s) A B);
@@ -94,8 +94,8 @@ deleting-end {f} {n} {old} {x} {p} {i} {s} {y} {q} d h =
 
 -- ---- the clauses as i32
 
-pub pair-is : (b : Bool) (x y : ℤ) → b ≡ true → SFits w32 x → SFits w32 y → only-if b ((x ∷ y ∷ []) ∷ []) ≡ (toZ w32 (ofZ w32 x) ∷ toZ w32 (ofZ w32 y) ∷ []) ∷ []
-pair-is b x y e f g = wanted b ((x ∷ y ∷ []) ∷ []) e ∙ sym (at-arg2 (λ (m n : ℤ). (m ∷ n ∷ []) ∷ []) x y f g)
+pub pair-wanted : (b : Bool) (x y : ℤ) → b ≡ true → SFits w32 x → SFits w32 y → only-if b ((x ∷ y ∷ []) ∷ []) ≡ (toZ w32 (ofZ w32 x) ∷ toZ w32 (ofZ w32 y) ∷ []) ∷ []
+pair-wanted b x y e f g = wanted b ((x ∷ y ∷ []) ∷ []) e ∙ sym (at-arg2 (λ (m n : ℤ). (m ∷ n ∷ []) ∷ []) x y f g)
 
 one-long : (b : Bool) (x : ℤ) → length (only-if b (x ∷ [])) ≤ 1
 unfolding only-if
@@ -121,14 +121,14 @@ module _ (l : ℤ) (i n below : ℕ) (f : SFits w32 l) (h : i ≤ 64) (k : below
       (omega (arith, length-append A B, one-long (ltb i n) (toZ w32 (ofZ w32 z)), one-long (ltb 1 i) (toZ w32 (ofZ w32 y)))) a b c d
       ∙ ap₂ (λ (r s : Clause). (l ∷ r) ++ s) (new-arg (ltb i n) true below i z p o (omega arith)) (new-arg (ltb 1 i) false below (i - 1) y q u (omega arith))
 
-pub one-room : (b : Bool) (x : ℤ) → 1 + length (only-if b (x ∷ [])) ≤ 3
-one-room b x = omega (arith, one-long b x)
+pub first-fits : (b : Bool) (x : ℤ) → 1 + length (only-if b (x ∷ [])) ≤ 3
+first-fits b x = omega (arith, one-long b x)
 
-pub two-room : (b c : Bool) (x y : ℤ) {a n : ℕ} → a ≡ 1 + length (only-if b (x ∷ [])) → n ≡ 3 → a + length (only-if c (y ∷ [])) ≤ n
-two-room b c x y e f = omega (arith, one-long b x, one-long c y)
+pub second-fits : (b c : Bool) (x y : ℤ) {a n : ℕ} → a ≡ 1 + length (only-if b (x ∷ [])) → n ≡ 3 → a + length (only-if c (y ∷ [])) ≤ n
+second-fits b c x y e f = omega (arith, one-long b x, one-long c y)
 
-pub long-room : (b c : Bool) (x y : ℤ) {a d n m : ℕ} → a ≡ 1 + length (only-if b (x ∷ [])) → n ≡ 3 → d ≡ a + length (only-if c (y ∷ [])) → m ≡ n → (d ≤ m) × (d ≤ 3)
-long-room b c x y e f g h = (omega (arith, one-long b x, one-long c y), omega (arith, one-long b x, one-long c y))
+pub clause-fits : (b c : Bool) (x y : ℤ) {a d n m : ℕ} → a ≡ 1 + length (only-if b (x ∷ [])) → n ≡ 3 → d ≡ a + length (only-if c (y ∷ [])) → m ≡ n → (d ≤ m) × (d ≤ 3)
+clause-fits b c x y e f g h = (omega (arith, one-long b x, one-long c y), omega (arith, one-long b x, one-long c y))
 
 -- ---- the clauses with one literal
 module _ (l : Clause) (below i : ℕ) (h : 1 ≤ i) (b : i ≤ length l) (u : Small l below) (s : SFits w32 (getD l (i - 1) (pos 0)))

@@ -1,4 +1,4 @@
--- What stands after the order form, and its lines. Assumes nothing.
+-- What stands after the order form, and its lines. Each deleted clause holds a new variable, so the deletions pass over what stands before the counter clauses. Assumes nothing.
 use mathlib.Core.Path.{_≡_, refl, sym, ap, ap₂, subst, _∙_}
 use mathlib.Core.Bool.{false}
 use mathlib.Core.List.{List, [], _∷_, _++_, map, append-assoc, List·Memᴰ, List·Memᴰ·head as here, List·Memᴰ·tail as there, Memᴰ·append-left}
@@ -69,7 +69,7 @@ module _ (k : Choice) (E : Formula) (b : Before E k) where
   deletions-new d i = let w : Literals-written k = written k (b .well-formed .long) in from-new (k .below) (w .one) (w .two ∷ w .others) d (rw (deletions-is w) at i)
 
   -- the deletions are carried out among the counter clauses and the results
-  pub ordered-is : ordered E k ≡ kept k E ++ take-all (counter k ++ added k E) (deletions k)
+  ordered-is : ordered E k ≡ kept k E ++ take-all (counter k ++ added k E) (deletions k)
   unfolding ordered
   ordered-is = take-all-past (k .below) (deletions k) (kept k E) (counter k ++ added k E) (λ d i. b .fits d (kept-mem k E d i .0)) deletions-new
 

@@ -2,7 +2,7 @@
 use mathlib.Core.Path.{_≡_, refl, sym, ap, ap₂, subst, _∙_}
 use mathlib.Core.Bool.{Bool, true, false, not}
 use mathlib.Core.List.{List, [], _∷_, _++_, append-nil, append-assoc, List·Memᴰ, List·Memᴰ·head as here, Memᴰ·append-right}
-use Prim.Native.Nat.{ℕ, _+_, _≤_, _<_}
+use Prim.Native.Nat.{ℕ, _+_, _≤_, _<_, _^_}
 use native.Mathlib.Omega.{arith}
 use lib.IntN.{ℤ, pos}
 use lib.ListN.{length, set, take, drop, length-append, length-set, take-append-drop, List·getD-append}
@@ -70,7 +70,7 @@ module _ (k : Choice) (X : Formula) (d : Clause) where
     unfolding those
     kept-gone = those-++ (λ c. not (opposes (k .literals) c)) X (d ∷ []) ∙ rw e (append-nil (kept k X))
 
-    pub lines-replaced : lines (for-each (X ++ (d ∷ [])) (replace k)) ≡ lines (for-each X (replace k)) ++ replacement-lines d (replaced k d)
+    lines-replaced : lines (for-each (X ++ (d ∷ [])) (replace k)) ≡ lines (for-each X (replace k)) ++ replacement-lines d (replaced k d)
     unfolding replace only-if lines-of
     lines-replaced = lines-more ∙ rw e (ap (λ (r : List Line). lines (for-each X (replace k)) ++ r) (lines-one (clause-replaced d (replaced k d))))
 
@@ -131,7 +131,7 @@ module _ {k : Choice} {E : Formula} {middle : List ℤ} {start : ℕ} {x : Bytes
   header : header-at work at ≡ header-at L at
   header = ap (λ (s : List ℤ). header-at s at) (i .parts) ∙ List·getD-append L behind (pos 0) at inside
 
-  pub past-same : past work at ≡ past (i .left) at
+  past-same : past work at ≡ past (i .left) at
   past-same = ap (λ (z : ℤ). at + (1 + header-literals z)) header
 
   past-inside : past L at ≤ start
@@ -252,7 +252,7 @@ module _ {k : Choice} {E : Formula} {middle : List ℤ} {start : ℕ} {x : Bytes
 -- ---- by the test
 module _ {l : Clause} {below : ℕ} {E : Formula} (b : Before E (choice-of l below)) (a : Proper-all E)
     {middle : List ℤ} {start : ℕ} {x : Bytes} {p : Progress} {at : ℕ} {work : List ℤ} {log : Bytes} {q : Progress} (i : Passing (choice-of l below) E middle start x p at work log q) (h : at < start) (m : start + length middle ≡ p .end)
-    (w : p .end + numbers-of (added (choice-of l below) E) ≤ length work) where
+    (w : p .end + numbers-of (added (choice-of l below) E) ≤ length work) (n : length work < 2 ^ 31) where
   abbrev K : Choice
   K = choice-of l below
 
@@ -298,6 +298,7 @@ module _ {l : Clause} {below : ℕ} {E : Formula} (b : Before E (choice-of l bel
     replaceable r = record {
       proper = a C in-E;
       fit = b .fits C in-E;
+      small = n;
       space = space;
       room = room-first (replacement-lines C (replaced K C)) (lines (for-each Others (replace K)))
           (room-rest (lines (for-each (i .done) (replace K))) (replacement-lines C (replaced K C) ++ lines (for-each Others (replace K))) (subst (λ (ls : List Line). Log-room ls p) lines-split r) (i .written));

@@ -2,7 +2,7 @@
 use mathlib.Core.Path.{_≡_}
 use mathlib.Core.Bool.{Bool, true, false, not, cond}
 use mathlib.Core.List.{List, [], _∷_}
-use Prim.Native.Nat.{ℕ, _+_, _≤_}
+use Prim.Native.Nat.{ℕ, _+_, _≤_, _<_, _^_}
 use lib.IntN.{ℤ}
 use lib.ListN.{length}
 use lib.Seq.{sets}
@@ -34,6 +34,7 @@ pub record Tabled (t : List ℕ) (l : Clause) (below : ℕ) : Type 0 where
 pub record Replaceable (k : Choice) (d : Clause) (size : ℕ) (p : Progress) : Type 0 where
   pub proper : Proper d
   pub fit : Fit-all (k .below) d
+  pub small : size < 2 ^ 31
   pub space : p .end + numbers-of (result-of k d) ≤ size
   pub room : Log-room (replacement-lines d (replaced k d)) p
 

@@ -56,10 +56,10 @@ fn replace_at(
     if literals::is_negative(work[at]) {
         return p;
     }
-    let n = literals::header_length(work[at]);
+    let next = store::next_at(work, at);
     let first = at + 1;
-    let next = first + n;
     if replacement::any_negated(places, &work[first..next]) {
+        let n = next - first;
         let q = add_result(work, log, p, first, n, places, choice, below);
         let r = progress::record_line(log, q, true, &work[first..next]);
         store::mark_deleted(work, at);

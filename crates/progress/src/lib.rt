@@ -151,7 +151,7 @@ pub fn add_clause(work: &mut [i32], log: &mut [u8], p: Progress, clause: &[i32])
 
 // Records the clause whose entry was written from the store's end up to another place as added.
 pub fn record_added(work: &[i32], log: &mut [u8], p: Progress, next: usize) -> Progress
-    requires { ⌜ (p .end < next) × (next ≤ length (now work)) × (next ≤ p .end + 2 ^ 32) ⌝ }
+    requires { ⌜ (p .end < next) × (next ≤ length (now work)) × (length (now work) < 2 ^ 31) ⌝ }
     requires { ⌜ (p .at < 2 ^ 63) × (p .lines < 2 ^ 63) ⌝ }
     ensures written { λ r. ⌜ Written (addition (take (next - (p .end + 1)) (drop (p .end + 1) (now (work .entry)))) ∷ []) (now (log .entry)) p (now (log .exit)) r ⌝ }
     ensures end { λ r. ⌜ r .end ≡ next ⌝ }

@@ -43,7 +43,7 @@ module _ (old : List ℤ) (to : ℕ) {w1 : List ℤ} {a : ℕ} (A B : List ℤ) 
   pub second-room : to + length (A ++ B) ≤ length old → a + length B ≤ length w1
   second-room h = omega (arith, length-append A B, ap length q, length-sets old to A)
 
-  pub runs-joined : {w2 : List ℤ} {r : ℕ} → r ≡ a + length B → w2 ≡ sets w1 a B → (r ≡ to + length (A ++ B)) × (w2 ≡ sets old to (A ++ B))
+  runs-joined : {w2 : List ℤ} {r : ℕ} → r ≡ a + length B → w2 ≡ sets w1 a B → (r ≡ to + length (A ++ B)) × (w2 ≡ sets old to (A ++ B))
   runs-joined e f = (
     omega (arith, length-append A B),
     f ∙ ap (λ (s : List ℤ). sets s a B) q ∙ ap (λ (k : ℕ). sets (sets old to A) k B) p ∙ sets-then A B old to,
@@ -51,10 +51,10 @@ module _ (old : List ℤ) (to : ℕ) {w1 : List ℤ} {a : ℕ} (A B : List ℤ) 
 
 -- ---- what stands for a literal
 module _ (n below : ℕ) (m : ℤ) (p : ℕ) where
-  pub instead-none : p ≡ 0 → instead-by n below m p ≡ m ∷ []
+  instead-none : p ≡ 0 → instead-by n below m p ≡ m ∷ []
   instead-none e = rw (le-ltb 0 p (omega arith)) refl
 
-  pub instead-some : (p ≡ 0 → ⊥) → instead-by n below m p ≡ only-if (ltb 1 p) (pos (below + (p - 1)) ∷ []) ++ only-if (ltb p n) (negℤ (pos (below + p)) ∷ [])
+  instead-some : (p ≡ 0 → ⊥) → instead-by n below m p ≡ only-if (ltb 1 p) (pos (below + (p - 1)) ∷ []) ++ only-if (ltb p n) (negℤ (pos (below + p)) ∷ [])
   instead-some e = let k : 0 < p = omega (arith, e) in rw (lt-ltb 0 p k) refl
 
 -- ---- literal by literal
@@ -94,26 +94,30 @@ module _ {g : ℤ → Clause} {old work : List ℤ} {to from n i end : ℕ} (s :
       ∙ for-each-++ (take i (drop from old)) (literal ∷ []) g
       ∙ ap (λ (c : Clause). before ++ c) (one-each g literal)
 
-  pub writing-room : to + length (for-each (take n (drop from old)) g) ≤ length old → end + length (g (getD work (from + i) (pos 0))) ≤ length work
-  writing-room w =
-      omega (
-        arith,
-        w,
-        s .next,
-        s .size,
-        ap length chunk,
-        length-append before (g literal),
-        each-part g (i + 1) (take n (drop from old)),
-        ap (λ (c : Clause). length (for-each c g)) (take-take (i + 1) n (drop from old) (omega arith)),
-      )
+  -- what is written for the literal there, as the code has it
+  module _ {c : Clause} (e : c ≡ g (getD work (from + i) (pos 0))) where
+    pub writing-room : to + length (for-each (take n (drop from old)) g) ≤ length old → end + length c ≤ length work
+    writing-room w =
+        omega (
+          arith,
+          w,
+          s .next,
+          s .size,
+          ap length e,
+          ap length chunk,
+          length-append before (g literal),
+          each-part g (i + 1) (take n (drop from old)),
+          ap (λ (c : Clause). length (for-each c g)) (take-take (i + 1) n (drop from old) (omega arith)),
+        )
 
-  pub writing-step : {new : List ℤ} {q : ℕ} → q ≡ end + length (g (getD work (from + i) (pos 0))) → new ≡ sets work end (g (getD work (from + i) (pos 0))) → Writing g old to from n (i + 1) q new
-  writing-step {new} {q} e f = record {
-    inside = omega arith;
-    size = ap length f ∙ length-sets work end (g literal) ∙ s .size;
-    next = omega (arith, e, s .next, ap length chunk, length-append before (g literal));
-    written = f ∙ ap (λ (k : List ℤ). sets k end (g literal)) (s .written) ∙ ap (λ (k : ℕ). sets (sets old to before) k (g literal)) (s .next) ∙ sets-then before (g literal) old to ∙ ap (sets old to) (sym chunk);
-  }
+    pub writing-step : {new : List ℤ} {q : ℕ} → q ≡ end + length c → new ≡ sets work end c → Writing g old to from n (i + 1) q new
+    writing-step {new} {q} a b =
+        let f : new ≡ sets work end (g literal) = b ∙ ap (sets work end) e in record {
+          inside = omega arith;
+          size = ap length f ∙ length-sets work end (g literal) ∙ s .size;
+          next = omega (arith, a, ap length e, s .next, ap length chunk, length-append before (g literal));
+          written = f ∙ ap (λ (k : List ℤ). sets k end (g literal)) (s .written) ∙ ap (λ (k : ℕ). sets (sets old to before) k (g literal)) (s .next) ∙ sets-then before (g literal) old to ∙ ap (sets old to) (sym chunk);
+        }
 
 pub writing-end : {g : ℤ → Clause} {old work : List ℤ} {to from n i end : ℕ} → Writing g old to from n i end work → n ≤ i →
     (end ≡ to + length (for-each (take n (drop from old)) g)) × (work ≡ sets old to (for-each (take n (drop from old)) g))

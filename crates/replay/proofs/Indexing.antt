@@ -11,6 +11,7 @@ use Rattle.literals.specs.Literal.{largest, header-of, header-literals}
 use Rattle.literals.proofs.Laws.{literals-header}
 use Rattle.definition.specs.Literals.{Clause}
 use Rattle.store.specs.Store.{Formed, entry, header-at, past, marked, Place, place-of}
+use Rattle.store.specs.declared.Found.{Found}
 use Rattle.store.specs.declared.Found.the-variants.{At}
 use Rattle.store.proofs.Finding.{hit}
 use Rattle.store.proofs.Laws.{place-start, place-within, place-next, place-formed, marked-place, added-formed}
@@ -39,7 +40,7 @@ indexing-start old heads store end links p = record {
 }
 
 module _ (old work : List ℤ) (first heads : List ℕ) (store end links at : ℕ) (p : Linkable old first store end links) (i : Indexing old work heads store end links at) where
-  pub same-store : between store end work ≡ between store end old
+  same-store : between store end work ≡ between store end old
   same-store = between-same store end links work old (p .within) (i .kept)
 
   store-length : length (between store end old) ≡ end - store
@@ -93,7 +94,7 @@ module _ (old work : List ℤ) (first heads : List ℕ) (store end links at : �
 -- ---- `&work[store..end]` with its links, `&work[links..]`
 
 module _ (work : List ℤ) (heads : List ℕ) (store end links : ℕ) (p : Linked work heads store end links) where
-  pub linked-length : length (between store end work) ≡ end - store
+  linked-length : length (between store end work) ≡ end - store
   linked-length = length-between store end work (omega (arith, p .room, p .within))
 
   pub links-reach : length (between store end work) ≤ length (take (length work - links) (drop links work))
@@ -102,8 +103,9 @@ module _ (work : List ℤ) (heads : List ℕ) (store end links : ℕ) (p : Linke
   pub linked-index : links - store ≤ largest → Indexed (between store end work) (length (between store end work)) (take (length work - links) (drop links work)) heads
   linked-index small = rw (rest-is work links) (subst (λ (j : ℕ). Indexed (between store end work) j (drop links work) heads) (sym linked-length) (p .index small))
 
--- ---- one clause more
-module _ (old added new : List ℤ) (heads table : List ℕ) (store end links : ℕ) (c : Clause) (p : Linked old heads store end links) (small : length c ≤ largest) (room : end + (length c + 1) ≤ links) (w : added ≡ sets old end (entry c)) where
+-- ---- one clause more, behind which the part ends at r
+
+module _ (old added new : List ℤ) (heads table : List ℕ) (store end links r : ℕ) (c : Clause) (p : Linked old heads store end links) (small : length c ≤ largest) (x : r ≡ end + (length c + 1)) (room : r ≤ links) (w : added ≡ sets old end (entry c)) where
   abbrev part : List ℤ
   part = between store end old ++ entry c
 
@@ -113,14 +115,10 @@ module _ (old added new : List ℤ) (heads table : List ℕ) (store end links : 
   part-length : length (between store end old) ≡ q
   part-length = linked-length old heads store end links p
 
-  fits : end + length (entry c) ≤ length old
-  fits = omega (arith, p .room, p .within)
-
-  next-is : end + (length c + 1) ≡ end + length (entry c)
-  next-is = omega arith
-
-  pub part-added : between store (end + (length c + 1)) added ≡ part
-  part-added = ap₂ (λ (k : ℕ) (v : List ℤ). between store k v) next-is w ∙ sets-between store end old (entry c) (p .order) fits
+  part-added : between store r added ≡ part
+  part-added =
+      let n : r ≡ end + length (entry c) = omega arith in
+      ap₂ (λ (k : ℕ) (v : List ℤ). between store k v) n w ∙ sets-between store end old (entry c) (p .order) (omega (arith, p .room))
 
   part-formed : Formed part
   part-formed = added-formed (between store end old) c (p .formed) small
@@ -128,7 +126,7 @@ module _ (old added new : List ℤ) (heads table : List ℕ) (store end links : 
   part-place : Place part q
   part-place = place-within part-formed (omega (arith, part-length, length-append (between store end old) (entry c))) (rw (take-at (between store end old) (entry c) q part-length) (p .formed))
 
-  pub part-rest : Formed (drop q (between store (end + (length c + 1)) added))
+  pub part-rest : Formed (drop q (between store r added))
   part-rest = rw part-added (part-place .rest)
 
   added-length : length added ≡ length old
@@ -137,17 +135,17 @@ module _ (old added new : List ℤ) (heads table : List ℕ) (store end links : 
   pub part-link : links + q < length added
   part-link = omega (arith, added-length, p .room, p .within)
 
-  module _ (d : new ≡ set added (links + q) (header-of (getD heads (key-at (between store (end + (length c + 1)) added) q) 0))) (e : table ≡ set heads (key-at (between store (end + (length c + 1)) added) q) (q + 1)) where
+  module _ (d : new ≡ set added (links + q) (header-of (getD heads (key-at (between store r added) q) 0))) (e : table ≡ set heads (key-at (between store r added) q) (q + 1)) where
     new-links : take links new ≡ take links added
     new-links = ap (take links) d ∙ take-set-le links added (links + q) _ (omega arith)
 
-    new-part : between store (end + (length c + 1)) new ≡ part
-    new-part = between-same store (end + (length c + 1)) links new added room new-links ∙ part-added
+    new-part : between store r new ≡ part
+    new-part = between-same store r links new added room new-links ∙ part-added
 
-    pub added-so : (r : ℕ) → r ≡ end + (length c + 1) → Clause-added old store end c r new
-    added-so r x = record {
+    pub clause-added : Clause-added old store end c r new
+    clause-added = record {
       next = x;
-      filled = ap (λ (k : ℕ). between store k new) x ∙ new-part;
+      filled = new-part;
       kept =
           sym (take-take store links new (omega (arith, p .order, p .within)))
           ∙ ap (take store) new-links
@@ -156,13 +154,13 @@ module _ (old added new : List ℤ) (heads table : List ℕ) (store end links : 
           ∙ sets-before (entry c) old end store (p .order);
     }
 
-    key-there : key-at (between store (end + (length c + 1)) added) q ≡ key-at part q
-    key-there = ap (λ (r : List ℤ). key-at r q) part-added
+    key-there : key-at (between store r added) q ≡ key-at part q
+    key-there = ap (λ (s : List ℤ). key-at s q) part-added
 
     links-there : drop links added ≡ drop links old
     links-there = ap (drop links) w ∙ sets-after (entry c) old end links (omega arith)
 
-    past-there : past part q ≡ end + (length c + 1) - store
+    past-there : past part q ≡ r - store
     past-there =
         let h : header-at part q ≡ header-of (length c) = getD-at (between store end old) (header-of (length c)) c (pos 0) q part-length in
         omega (arith, ap header-literals h, literals-header (length c) (omega arith), p .order)
@@ -176,22 +174,22 @@ module _ (old added new : List ℤ) (heads table : List ℕ) (store end links : 
         (ap (drop links) d ∙ drop-set-add links added q _ ∙ ap (λ (j : ℕ). set (drop links added) q (header-of (getD heads j 0))) key-there)
         (e ∙ ap (λ (j : ℕ). set heads j (q + 1)) key-there)
 
-    pub linked-added : (r : ℕ) → r ≡ end + (length c + 1) → Linked new table store r links
-    linked-added r x = rw x (record {
+    pub linked-added : Linked new table store r links
+    linked-added = record {
       order = omega (arith, p .order);
       within = room;
       room = omega (arith, ap length d ∙ length-set added (links + q) _, added-length, p .room);
       table = ap length e ∙ length-set heads _ (q + 1) ∙ p .table;
       formed = rw new-part part-formed;
       index = λ s. rw new-part (subst (λ (j : ℕ). Indexed part j (drop links new) table) past-there (part-index s));
-    })
+    }
 
 -- ---- a clause deleted
-pub linked-deleted : (old new : List ℤ) (heads : List ℕ) (store end links : ℕ) (c : Clause) (a : ℕ) → Linked old heads store end links → place-of c (between store end old) ≡ At a → new ≡ marked old (store + a) → Linked new heads store end links
-linked-deleted old new heads store end links c a p e d =
+pub linked-deleted : (old new : List ℤ) (heads : List ℕ) (store end links : ℕ) (c : Clause) → Linked old heads store end links → (f : Found) → f ≡ place-of c (between store end old) → (a : ℕ) → f ≡ At a → new ≡ marked old (store + a) → Linked new heads store end links
+linked-deleted old new heads store end links c p f e a z d =
     let s = between store end old in
     let n = linked-length old heads store end links p in
-    let m = hit c s a e in
+    let m = hit c s a (sym e ∙ z) in
     let l : Place s a = m .place (p .formed) in
     let b : between store end new ≡ marked s a = ap (between store end) d ∙ marked-between store end old a (omega (arith, n, m .inside)) in
     let r : drop links new ≡ drop links old = ap (drop links) d ∙ drop-set-lt links old (store + a) _ (omega (arith, n, m .inside, p .within)) in

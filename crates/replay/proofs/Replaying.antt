@@ -13,6 +13,7 @@ use Rattle.definition.specs.LogReading.{numbers-in}
 use Rattle.definition.specs.Standing.{addition, deletion, literals, take-out, changed, replay-line, replay}
 use Rattle.literals.specs.Literal.{largest, negative, header-literals}
 use Rattle.store.specs.Store.{Formed, stored, header-at, size-at, deleted-at, clause-at, marked, place-of}
+use Rattle.store.specs.declared.Found.{Found}
 use Rattle.store.specs.declared.Found.the-variants.{At, Nothing}
 use Rattle.store.proofs.Laws.{added-formed, added-stored, prefix-clause}
 use Rattle.store.proofs.Finding.{hit, deleted-hit, deleted-miss}
@@ -31,10 +32,10 @@ use Rattle.drat.proofs.Loaded.{lines-end, lines-next, loaded-next, line-deletio
 
 -- ---- one line
 
-pub added-line : (old new : List ℤ) (store end r : ℕ) (c : Clause) → store ≤ end → length c ≤ largest → Formed (between store end old) → Clause-added old store end c r new
+pub addition-replays : (old new : List ℤ) (store end r : ℕ) (c : Clause) → store ≤ end → length c ≤ largest → Formed (between store end old) → Clause-added old store end c r new
     → Replays (replay-line (stored (between store end old)) (addition c)) store (end + (length c + 1)) (Replayed.Standing r) new
 unfolding replay-line changed
-added-line old new store end r c o small f a = (
+addition-replays old new store end r c o small f a = (
   stored (between store end old) ++ (c ∷ []),
   refl,
   record {
@@ -45,21 +46,22 @@ added-line old new store end r c o small f a = (
   },
 )
 
-module _ (old : List ℤ) (store end : ℕ) (c : Clause) (o : store ≤ end) (l : end ≤ length old) (f : Formed (between store end old)) where
-  pub found-inside : (p : ℕ) → place-of c (between store end old) ≡ At p → p < end - store
-  found-inside p e = omega (arith, hit c (between store end old) p e .inside, length-between store end old l)
+-- by the place of the clause that was found, or not
+module _ (old : List ℤ) (store end : ℕ) (c : Clause) (o : store ≤ end) (l : end ≤ length old) (f : Formed (between store end old)) (r : Found) (e : r ≡ place-of c (between store end old)) where
+  pub found-inside : (p : ℕ) → r ≡ At p → p < end - store
+  found-inside p z = omega (arith, hit c (between store end old) p (sym e ∙ z) .inside, length-between store end old l)
 
-  pub deleted-line : (new : List ℤ) (p : ℕ) → place-of c (between store end old) ≡ At p → new ≡ marked old (store + p)
+  pub deletion-found : (new : List ℤ) (p : ℕ) → r ≡ At p → new ≡ marked old (store + p)
       → Replays (replay-line (stored (between store end old)) (deletion c)) store end (Replayed.Standing end) new
   unfolding replay-line changed refuse-if
-  deleted-line new p e w =
-      let b : between store end new ≡ marked (between store end old) p = ap (between store end) w ∙ marked-between store end old p (found-inside p e) in
-      let d = deleted-hit c (between store end old) (between store end new) p f e b in
-      (take-out c (stored (between store end old)), rw (sym (d .found)) refl, record { order = o; small = omega arith; formed = d .formed; same = d .left })
+  deletion-found new p z w =
+      let b : between store end new ≡ marked (between store end old) p = ap (between store end) w ∙ marked-between store end old p (found-inside p z) in
+      let d = deleted-hit c (between store end old) (between store end new) p f (sym e ∙ z) b in
+      (take-out c (stored (between store end old)), rw (sym (d .found)), record { order = o; small = omega arith; formed = d .formed; same = d .left })
 
-  pub not-deleted-line : place-of c (between store end old) ≡ Nothing → replay-line (stored (between store end old)) (deletion c) ≡ fault 32
+  pub deletion-missing : r ≡ Nothing → replay-line (stored (between store end old)) (deletion c) ≡ fault 32
   unfolding replay-line refuse-if
-  not-deleted-line e = let d = deleted-miss c (between store end old) f e in rw (sym (d .found)) refl
+  deletion-missing z = let d = deleted-miss c (between store end old) f (sym e ∙ z) in rw (sym (d .found))
 
 -- ---- the line at a place
 
@@ -203,9 +205,9 @@ module _ (old : List ℤ) (lines store first links : ℕ) (p : Laid-out old line
     pub still-room : first + numbers-in (lines-in (between lines store work)) ≤ links
     still-room = rw same-lines (links-room .0)
 
-    pub replays-so : (r : Replayed) (new : List ℤ) → Replays (replay (stored (between store first work)) (lines-in (between lines store work))) store (length work) r new
+    pub indexed-replays : (r : Replayed) (new : List ℤ) → Replays (replay (stored (between store first work)) (lines-in (between lines store work))) store (length work) r new
         → Replays (replay (stored (between store first old)) (lines-in (between lines store old))) store (length old) r new
-    replays-so r new x = rw (same-standing, same-lines, n) at x
+    indexed-replays r new x = rw (same-standing, same-lines, n) at x
 
 -- ---- over a copy of the formula, made behind the lines
 module _ (old work : List ℤ) (n m : ℕ) (p : Replayable old n m) (e : work ≡ sets old m (take n old)) where

@@ -2,7 +2,7 @@
 use mathlib.Core.Path.{_≡_, refl, sym, ap, _∙_}
 use mathlib.Core.Bool.{_&&_}
 use mathlib.Core.List.{List, [], _∷_, _++_, map}
-use Prim.Native.Nat.{ℕ, _≤_, _<_, _^_}
+use Prim.Native.Nat.{ℕ}
 use native.Mathlib.Omega.{arith}
 use lib.IntN.{ℤ}
 use lib.ListN.{length, take, drop, length-append, length-drop}
@@ -10,7 +10,7 @@ use lib.Seq.{length-take-le, take-at}
 use Rattle.definition.specs.Literals.{Formula}
 use Rattle.definition.specs.Clearing.{unique}
 use Rattle.definition.specs.Counter.{choices, choice-size}
-use Rattle.definition.specs.Alignment.{Arrangement, as-listed, arranged}
+use Rattle.definition.specs.Alignment.{Arrangement, as-listed, alignment, arranged}
 use Rattle.theory_base.specs.Clauses.{Fits}
 use Rattle.theory_base.proofs.Members.{those-mem}
 use Rattle.store.specs.Store.{Formed, stored}
@@ -18,6 +18,9 @@ use Rattle.progress.specs.declared.Progress.{Progress}
 use Rattle.progress.specs.Progress.{standing}
 use Rattle.pass_choose.specs.Collecting.{Collected}
 use Rattle.pass_align.specs.Aligned.{Proper-store, Choices, Mapped}
+use Rattle.run.specs.declared.Arrangement as Code
+use Rattle.run.specs.declared.Arrangement.the-variants as Named
+use Rattle.run.specs.Settings.{named-arrangement}
 use Rattle.run.specs.Choices.{Choosable, Chosen}
 
 -- ---- nothing is arranged
@@ -62,3 +65,11 @@ module _ {work chosen : List ℤ} {p : Progress} (c : Choosable work p chosen) w
           formed = rw e (r .formed);
           stands = rw (e, r .stands, o .stands) refl;
         }
+
+-- ---- by the arrangement that is named
+
+pub listed-returned : {a : Code.Arrangement} → a ≡ Named.AsListed → (s chosen : List ℤ) → Formed chosen → Mapped (arranged (named-arrangement a) (stored s) (stored chosen)) chosen chosen
+listed-returned e s chosen f = rw e (as-listed-stays (stored s) chosen f)
+
+pub aligned-returned : {a : Code.Arrangement} {new : List ℤ} → a ≡ Named.Alignment → (s chosen : List ℤ) → Mapped (arranged alignment (stored s) (stored chosen)) chosen new → Mapped (arranged (named-arrangement a) (stored s) (stored chosen)) chosen new
+aligned-returned e s chosen m = rw e m

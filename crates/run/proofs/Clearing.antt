@@ -1,6 +1,6 @@
 -- Clashes, then pure literals: what stands after the clashes is proper and free of clashes, which is what the pure pass asks for.
 use mathlib.Core.Path.{_≡_}
-use mathlib.Core.List.{List, _++_}
+use mathlib.Core.List.{List}
 use Prim.Native.Nat.{ℕ}
 use lib.IntN.{ℤ}
 use Rattle.definition.specs.Literals.{Formula}
@@ -14,7 +14,7 @@ use Rattle.tables.specs.Sizes.{input-reach}
 use Rattle.progress.specs.declared.Progress.{Progress}
 use Rattle.progress.specs.Progress.{standing, Good, Runs}
 use Rattle.progress.proofs.Laws.{good-first, good-rest, good-up, runs-join}
-use Rattle.pass_clashes.specs.Clashes.{Clash-ready}
+use Rattle.pass_clashes.specs.Scan.{Clash-ready}
 use Rattle.run.specs.Run.{Clear-ready}
 
 module _ {work : List ℤ} {p : Progress} {h : ℕ} (r : Clear-ready work p h) where

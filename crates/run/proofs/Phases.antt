@@ -1,17 +1,17 @@
 -- The phases of a run, one after another: what each asks for follows from what theory says of an accepted input.
-use mathlib.Core.Path.{_≡_, refl, sym, ap, _∙_}
+use mathlib.Core.Path.{_≡_, sym, ap, _∙_}
 use mathlib.Core.List.{List, [], _++_, map}
-use Prim.Native.Nat.{ℕ, _≤_, _<_, _^_}
+use Prim.Native.Nat.{ℕ, _≤_}
 use native.Mathlib.Omega.{arith}
 use lib.IntN.{ℤ}
 use lib.ListN.{length, take, length-map}
 use lib.Seq.{length-take-le}
-use Rattle.definition.specs.Literals.{Clause, Formula}
+use Rattle.definition.specs.Literals.{Formula}
 use Rattle.definition.specs.Text.{Bytes}
 use Rattle.definition.specs.Reading.{Input, input-limits}
 use Rattle.definition.specs.Standing.{after}
 use Rattle.definition.specs.Counter.{choices}
-use Rattle.definition.specs.Reencoding.{lines, Settings, choices-events, cleared, chosen, events, log}
+use Rattle.definition.specs.Reencoding.{lines, Settings, cleared, chosen, events, log}
 use Rattle.theory_base.specs.Clauses.{Proper-all, Fits}
 use Rattle.theory_clearing.proofs.Cleared.{cleared-facts}
 use Rattle.theory_room.specs.Choices.{clearing, order-of, used-after}
@@ -27,7 +27,7 @@ use Rattle.store.specs.Store.{stored}
 use Rattle.progress.specs.declared.Progress.{Progress}
 use Rattle.progress.specs.Progress.{standing, Good, Runs}
 use Rattle.progress.proofs.Laws.{good-first, good-rest, good-up, good-as, runs-join, runs-as}
-use Rattle.run.specs.declared.Run.{Run}
+use Rattle.run.specs.declared.Reached.{Reached}
 use Rattle.run.specs.Choices.{Choosable, Chosen, All-ready, Taken-all}
 use Rattle.run.specs.Run.{Clear-ready, input-in, start-at, Run-ready, Ran-all}
 
@@ -70,7 +70,10 @@ module _ {work : List ℤ} {end h : ℕ} (r : Run-ready work end h) (s : Setting
     cleared-here = a .stands ∙ sym (cleared-after F)
 
     facts : Proper-all (after F (lines (clearing F))) × Fits h (after F (lines (clearing F)))
-    facts = let f = cleared-facts (r .accepted .proper) (r .accepted .fits) in rw (cleared-after F) at (f .0, f .1)
+    facts =
+        let f = cleared-facts (r .accepted .proper) (r .accepted .fits) in
+        let g : Proper-all (cleared F) × Fits h (cleared F) = (f .0, f .1) in
+        rw (cleared-after F) at g
 
     rest-good : Good h (choosing s i) w p
     rest-good = good-rest (clearing F) (choosing s i) whole-good a (facts .0) (facts .1)
@@ -101,9 +104,9 @@ module _ {work : List ℤ} {end h : ℕ} (r : Run-ready work end h) (s : Setting
         takeable = rw (cleared-here, chosen-here, a .size) (all-takeable s i (r .accepted) (length work) (r .enough));
       }
 
-      pub ran-all : {w' : List ℤ} {log' : Bytes} {q : Run} → Taken-all (s .form) w log₁ p (stored (take n full)) h w' log' q → Ran-all s i work log₀ end w' log' q
+      pub ran-all : {w' : List ℤ} {log' : Bytes} {q : Reached} → Taken-all (s .form) w log₁ p (stored (take n full)) h w' log' q → Ran-all s i work log₀ end w' log' q
       ran-all t = record {
         runs = rw (events-are s i) (runs-join a (runs-as taken-here (t .runs)));
-        choices = t .choices ∙ ap length chosen-here ∙ length-map (order-of s i) (chosen s i);
+        choices = t .choices ∙ ap length chosen-here ∙ length-map (chosen s i) (order-of s i);
         highest = t .highest ∙ ap (used-after (λ l. l) h) chosen-here ∙ taken-used (order-of s i) h (chosen s i) ∙ sym (bounds .highest-is);
       }

@@ -1,14 +1,14 @@
 -- One choice: the store is slid down, the choice taken in counter form and, if that is named, in order form.
-use mathlib.Core.Path.{_≡_, refl, sym, ap, _∙_}
-use mathlib.Core.List.{List, [], _∷_, _++_}
-use Prim.Native.Nat.{ℕ, _+_, _≤_}
+use mathlib.Core.Path.{_≡_, refl, ap, _∙_}
+use mathlib.Core.List.{List, [], _∷_}
+use Prim.Native.Nat.{ℕ}
 use native.Mathlib.Omega.{arith}
 use lib.IntN.{ℤ}
 use lib.ListN.{length, take}
 use Rattle.definition.specs.Literals.{Clause, Formula}
 use Rattle.definition.specs.Text.{Bytes}
 use Rattle.definition.specs.Standing.{after}
-use Rattle.definition.specs.Events.{Choice, Event, choice-of}
+use Rattle.definition.specs.Events.{Choice, choice-of}
 use Rattle.definition.specs.Counter.{last-new, take-choice}
 use Rattle.definition.specs.Order.{order-events}
 use Rattle.definition.specs.Reencoding.{lines-of, lines, Form, counter-form, order-form, choice-events}
@@ -24,6 +24,9 @@ use Rattle.progress.specs.Progress.{standing, Good, Runs, Slid-down}
 use Rattle.progress.proofs.Laws.{lines-none, lines-one, good-first, good-rest, good-up, good-still, runs-join}
 use Rattle.pass_counter.specs.Choice.{Choice-ready, Taken}
 use Rattle.pass_order.specs.Order.{Order-ready}
+use Rattle.run.specs.declared.Form as Code
+use Rattle.run.specs.declared.Form.the-variants as Named
+use Rattle.run.specs.Settings.{named-form}
 use Rattle.run.specs.Choices.{One-ready}
 
 -- the taking alone, of the events of a choice
@@ -107,3 +110,18 @@ module _ {work : List ℤ} {p : Progress} {l : Clause} {below : ℕ} (o : One-re
   pub order-runs : {w : List ℤ} {z : Bytes} {s : Progress} → Runs (order-events j (standing new r)) new y r w z s → Runs (choice-events order-form G l j) work x p w z s
   unfolding choice-events
   order-runs a = runs-join (counter-runs o d e) (rw taken-here at a)
+
+-- ---- by the form that is named
+
+module _ {f : Code.Form} {work : List ℤ} {p : Progress} (l : Clause) (below : ℕ) where
+  pub as-order : f ≡ Named.Order → One-ready (named-form f) work p l below → One-ready order-form work p l below
+  as-order e o = rw e at o
+
+  pub order-returned : {w : List ℤ} {x z : Bytes} {s : Progress} → f ≡ Named.Order → Runs (choice-events order-form (standing work p) l (choice-of l below)) work x p w z s →
+      Runs (choice-events (named-form f) (standing work p) l (choice-of l below)) work x p w z s
+  order-returned e a = rw e a
+
+  pub counter-returned : {w : List ℤ} {x z : Bytes} {s : Progress} → f ≡ Named.Counter → Runs (take-choice (standing work p) l (choice-of l below) ∷ []) work x p w z s →
+      Runs (choice-events (named-form f) (standing work p) l (choice-of l below)) work x p w z s
+  unfolding choice-events
+  counter-returned e a = rw e a

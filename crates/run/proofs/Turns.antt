@@ -1,6 +1,6 @@
 -- The choices at their turns: the events so far and those of the choices to come are those of all choices.
 use mathlib.Core.Path.{_≡_, refl, sym, ap, _∙_, subst}
-use mathlib.Core.Bool.{Bool, true, false, cond}
+use mathlib.Core.Bool.{Bool, true, false}
 use mathlib.Core.List.{List, [], _∷_, _++_, append-assoc, append-nil}
 use Prim.Native.Nat.{ℕ, _+_, _-_, _≤_, _<_, _^_}
 use native.Mathlib.Omega.{arith}
@@ -14,17 +14,17 @@ use Rattle.definition.specs.Counter.{below-new, last-new}
 use Rattle.definition.specs.Reencoding.{lines, Form, choice-events, choices-events}
 use Rattle.theory_base.proofs.Replay.{lines-++}
 use Rattle.theory_room.specs.Choices.{used-after}
-use Rattle.theory_run.specs.Choices.{Takeable, All-takeable, finished, at-choice, taken-events}
-use Rattle.store.specs.Store.{Formed, stored, deleted-at, clause-at, past, Place}
-use Rattle.store.proofs.Laws.{place-start, place-next, rest-stands, rest-deleted, stored-end, part-there, few-stored}
+use Rattle.theory_run.specs.Choices.{Takeable, All-takeable, at-choice, taken-events}
+use Rattle.store.specs.Store.{stored, deleted-at, clause-at, past, Place}
+use Rattle.store.proofs.Laws.{place-start, place-next, rest-stands, rest-deleted, stored-end, part-there, clause-length, few-stored}
 use Rattle.progress.specs.declared.Progress.{Progress}
-use Rattle.progress.specs.Progress.{standing, Log-room, Good, Runs}
+use Rattle.progress.specs.Progress.{standing, Log-room, Runs}
 use Rattle.progress.proofs.Laws.{lines-none, room-first, room-rest, runs-nothing, runs-holds, runs-written, runs-join, runs-as}
-use Rattle.run.specs.declared.Run.{Run}
-use Rattle.run.specs.Choices.{One-ready, events-at, used-at, count-at, At-ready, Taken-at, All-ready, Taken-all}
+use Rattle.run.specs.declared.Reached.{Reached}
+use Rattle.run.specs.Choices.{One-ready, events-at, At-ready, Taken-at, All-ready, Taken-all}
 
 -- the choices before `at` are taken: their events, and what is known of those to come
-pub record Turns (form : Form) (work₀ : List ℤ) (log₀ : Bytes) (p₀ : Progress) (n₀ : ℕ) (ls : List Clause) (work : List ℤ) (log : Bytes) (r : Run) (chosen : List ℤ) (at : ℕ) : Type 0 where
+pub record Turns (form : Form) (work₀ : List ℤ) (log₀ : Bytes) (p₀ : Progress) (n₀ : ℕ) (ls : List Clause) (work : List ℤ) (log : Bytes) (r : Reached) (chosen : List ℤ) (at : ℕ) : Type 0 where
   pub small : length work₀ < 2 ^ 31
   pub few : length ls < 2 ^ 31
   pub events : List Event
@@ -37,7 +37,7 @@ pub record Turns (form : Form) (work₀ : List ℤ) (log₀ : Bytes) (p₀ : Pro
   pub used : used-after (λ l. l) (r .highest) (stored (drop at chosen)) ≡ used-after (λ l. l) n₀ ls
 
 -- before the first
-abbrev pub none-yet : Progress → ℕ → Run
+abbrev pub none-yet : Progress → ℕ → Reached
 none-yet p n = record { progress = p; choices = 0; highest = n }
 
 pub turns-start : {form : Form} {work : List ℤ} {p : Progress} {chosen : List ℤ} {n : ℕ} (log : Bytes) → All-ready form work p chosen n → Turns form work log p n (stored chosen) work log (none-yet p n) chosen 0
@@ -75,7 +75,7 @@ rest-takeable (at-choice c t r) = r
 
 -- ---- at a turn
 
-module _ {form : Form} {work₀ : List ℤ} {log₀ : Bytes} {p₀ : Progress} {n₀ : ℕ} {ls : List Clause} {work : List ℤ} {log : Bytes} {r : Run} {chosen : List ℤ} {at : ℕ}
+module _ {form : Form} {work₀ : List ℤ} {log₀ : Bytes} {p₀ : Progress} {n₀ : ℕ} {ls : List Clause} {work : List ℤ} {log : Bytes} {r : Reached} {chosen : List ℤ} {at : ℕ}
     (t : Turns form work₀ log₀ p₀ n₀ ls work log r chosen at) where
   abbrev F : Formula
   F = standing work (r .progress)
@@ -126,7 +126,7 @@ module _ {form : Form} {work₀ : List ℤ} {log₀ : Bytes} {p₀ : Progress} {
 
     -- ---- to the next
 
-    module _ {new : List ℤ} {new-log : Bytes} {q : Run} (a : Taken-at form work log r chosen at new new-log q) where
+    module _ {new : List ℤ} {new-log : Bytes} {q : Reached} (a : Taken-at form work log r chosen at new new-log q) where
       -- where G stands and n is the highest variable used
       turn : (G : Formula) (n m : ℕ) → standing new (q .progress) ≡ G → q .highest ≡ n → q .choices ≡ r .choices + m → m + length behind ≡ length (stored (drop at chosen)) →
           used-after (λ l. l) n behind ≡ used-after (λ l. l) (r .highest) (stored (drop at chosen)) → All-takeable form (length work₀) n G behind →
@@ -177,7 +177,7 @@ module _ {form : Form} {work₀ : List ℤ} {log₀ : Bytes} {p₀ : Progress} {
 
 -- ---- the choice at a place
 
-module _ {form : Form} {work : List ℤ} {r : Run} {chosen : List ℤ} {at : ℕ} (a : At-ready form work r chosen at) where
+module _ {form : Form} {work : List ℤ} {r : Reached} {chosen : List ℤ} {at : ℕ} (a : At-ready form work r chosen at) where
   pub none-taken : (log : Bytes) → deleted-at chosen at ≡ true → Taken-at form work log r chosen at work log r
   none-taken log e = record {
     runs = rw e (runs-nothing log (r .progress) (r .progress) refl (record { inside = a .inside; formed = a .formed; stands = refl }) refl refl);
@@ -185,5 +185,24 @@ module _ {form : Form} {work : List ℤ} {r : Run} {chosen : List ℤ} {at : ℕ
     highest = rw e refl;
   }
 
-  pub one-takeable : (next : ℕ) → deleted-at chosen at ≡ false → next ≡ past chosen at → One-ready form work (r .progress) (take (next - (at + 1)) (drop (at + 1) chosen)) (below-new (r .highest))
-  one-takeable next e n = subst (λ (l : Clause). One-ready form work (r .progress) l (below-new (r .highest))) (sym (part-there chosen at next n)) (a .one e)
+  pub one-takeable : (next below : ℕ) → deleted-at chosen at ≡ false → next ≡ past chosen at → below ≡ below-new (r .highest) → One-ready form work (r .progress) (take (next - (at + 1)) (drop (at + 1) chosen)) below
+  one-takeable next below e n b = rw b (subst (λ (l : Clause). One-ready form work (r .progress) l (below-new (r .highest))) (sym (part-there chosen at next n)) (a .one e))
+
+  -- its literals, and the place past it
+  module _ (next : ℕ) (e : deleted-at chosen at ≡ false) (n : next ≡ past chosen at) where
+    size-here : next ≡ at + (1 + length (clause-at chosen at))
+    size-here = omega (arith, n, clause-length chosen at (a .at-inside) (a .rest))
+
+    pub one-small : (5 ≤ next - (at + 1)) × (next - (at + 1) ≤ 64) × (below-new (r .highest) + 64 ≤ 70_000)
+    one-small = let t = a .one e .takeable in (omega (arith, size-here, t .least), omega (arith, size-here, t .most), t .new-few)
+
+    pub one-taken : {log z : Bytes} {w : List ℤ} {q : Progress} (below m : ℕ) → below ≡ below-new (r .highest) → m ≡ next - (at + 1) - 1 →
+        let part = take (next - (at + 1)) (drop (at + 1) chosen) in
+        Runs (choice-events form (standing work (r .progress)) part (choice-of part below)) work log (r .progress) w z q →
+        Taken-at form work log r chosen at w z (record { progress = q; choices = r .choices + 1; highest = below + m })
+    unfolding last-new
+    one-taken below m b d g = record {
+      runs = rw e (rw (part-there chosen at next n, b) at g);
+      choices = rw e refl;
+      highest = rw e (omega (arith, b, d, size-here));
+    }

@@ -19,7 +19,7 @@ use Rattle.store.specs.Store.{Formed, stored, deleted-at, clause-at}
 use Rattle.progress.specs.declared.Progress.{Progress}
 use Rattle.progress.specs.Progress.{standing, Good, Runs}
 use Rattle.tables.specs.Sizes.{input-reach}
-use Rattle.run.specs.declared.Run.{Run}
+use Rattle.run.specs.declared.Reached.{Reached}
 
 -- ---- chosen
 
@@ -58,7 +58,7 @@ used-at s at n = cond (deleted-at s at) n (last-new (choice-of (clause-at s at) 
 abbrev pub count-at : List ℤ → ℕ → ℕ
 count-at s at = cond (deleted-at s at) 0 1
 
-pub record At-ready (form : Form) (work : List ℤ) (r : Run) (chosen : List ℤ) (at : ℕ) : Type 0 where
+pub record At-ready (form : Form) (work : List ℤ) (r : Reached) (chosen : List ℤ) (at : ℕ) : Type 0 where
   pub inside : r .progress .end ≤ length work
   pub formed : Formed (take (r .progress .end) work)
   pub at-inside : at < length chosen
@@ -66,7 +66,7 @@ pub record At-ready (form : Form) (work : List ℤ) (r : Run) (chosen : List ℤ
   pub few : r .choices < 2 ^ 31
   pub one : deleted-at chosen at ≡ false → One-ready form work (r .progress) (clause-at chosen at) (below-new (r .highest))
 
-pub record Taken-at (form : Form) (work : List ℤ) (log : Bytes) (r : Run) (chosen : List ℤ) (at : ℕ) (new-work : List ℤ) (new-log : Bytes) (q : Run) : Type 0 where
+pub record Taken-at (form : Form) (work : List ℤ) (log : Bytes) (r : Reached) (chosen : List ℤ) (at : ℕ) (new-work : List ℤ) (new-log : Bytes) (q : Reached) : Type 0 where
   pub runs : Runs (events-at form (standing work (r .progress)) chosen at (r .highest)) work log (r .progress) new-work new-log (q .progress)
   pub choices : q .choices ≡ r .choices + count-at chosen at
   pub highest : q .highest ≡ used-at chosen at (r .highest)
@@ -79,7 +79,7 @@ pub record All-ready (form : Form) (work : List ℤ) (p : Progress) (chosen : Li
   pub chosen-formed : Formed chosen
   pub takeable : All-takeable form (length work) n (standing work p) (stored chosen)
 
-pub record Taken-all (form : Form) (work : List ℤ) (log : Bytes) (p : Progress) (ls : List Clause) (n : ℕ) (new-work : List ℤ) (new-log : Bytes) (r : Run) : Type 0 where
+pub record Taken-all (form : Form) (work : List ℤ) (log : Bytes) (p : Progress) (ls : List Clause) (n : ℕ) (new-work : List ℤ) (new-log : Bytes) (r : Reached) : Type 0 where
   pub runs : Runs (taken-events form n (standing work p) ls) work log p new-work new-log (r .progress)
   pub choices : r .choices ≡ length ls
   pub highest : r .highest ≡ used-after (λ l. l) n ls

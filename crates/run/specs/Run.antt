@@ -19,7 +19,7 @@ use Rattle.tables.specs.Sizes.{input-reach}
 use Rattle.store.specs.Store.{Formed, stored}
 use Rattle.progress.specs.declared.Progress.{Progress}
 use Rattle.progress.specs.Progress.{standing, Good, Runs}
-use Rattle.run.specs.declared.Run.{Run}
+use Rattle.run.specs.declared.Reached.{Reached}
 
 -- what clearing needs: a good workspace, and room for each resolvent beside what stands
 pub record Clear-ready (work : List ℤ) (p : Progress) (highest : ℕ) : Type 0 where
@@ -44,7 +44,7 @@ pub record Run-ready (work : List ℤ) (end highest : ℕ) : Type 0 where
   pub enough : workspace-need (input-in work end highest) ≤ length work
 
 -- the events of the input, its choices counted, and its highest variable
-pub record Ran-all (s : Settings) (i : Input) (work : List ℤ) (log : Bytes) (end : ℕ) (new-work : List ℤ) (new-log : Bytes) (r : Run) : Type 0 where
+pub record Ran-all (s : Settings) (i : Input) (work : List ℤ) (log : Bytes) (end : ℕ) (new-work : List ℤ) (new-log : Bytes) (r : Reached) : Type 0 where
   pub runs : Runs (events s i) work log (start-at end) new-work new-log (r .progress)
   pub choices : r .choices ≡ length (chosen s i)
   pub highest : r .highest ≡ highest-used s i

@@ -17,7 +17,7 @@ use Rattle.theory_base.proofs.Loops.{for-each-++}
 use Rattle.literals.proofs.Laws.{at-arg}
 use Rattle.theory_text.specs.ClauseText.{literals-text}
 use Rattle.text.specs.Output.{Put}
-use Rattle.text.proofs.Output.{put-none, put-then, put-same, put-length, literal-length}
+use Rattle.text.proofs.Output.{put-none, put-then, put-same, put-length}
 
 -- ---- bytes
 
@@ -50,10 +50,6 @@ item-argument l f = at-arg (λ (z : ℤ). literal-text z ++ bytes " ") l f
 pub item-put : {x y z : Bytes} {at a r : ℕ} (l : ℤ) → SFits w32 l → Put x at (literal-text (toZ w32 (ofZ w32 l))) a y → Put y a (32 ∷ []) r z → Put x at (literal-text l ++ bytes " ") r z
 unfolding bytes
 item-put l f p q = put-same (put-then p q) (item-argument l f)
-
--- the place past the literal
-pub literal-within : {x y : Bytes} {at a : ℕ} (l : ℤ) → SFits w32 l → Put x at (literal-text (toZ w32 (ofZ w32 l))) a y → a ≤ at + 11
-literal-within l f p = omega (arith, p .next, at-arg (λ (z : ℤ). length (literal-text z)) l f, literal-length l f)
 
 -- ---- the literals of a clause
 

@@ -348,7 +348,8 @@ fn digit_count(n: u32) -> usize
 // Writes a number in decimal, the last digit first.
 pub fn put_number(buf: &mut [u8], at: usize, n: u32) -> usize
     requires { ⌜ at + 10 < 2 ^ 64 ⌝ }
-    ensures { λ r. ⌜ Put (now (buf .entry)) at (digits n) r (now (buf .exit)) ⌝ }
+    ensures written { λ r. ⌜ Put (now (buf .entry)) at (digits n) r (now (buf .exit)) ⌝ }
+    ensures within { λ r. ⌜ r ≤ at + 10 ⌝ }
 {
     let end = at + digit_count(n);
     let mut k = end;
@@ -365,7 +366,8 @@ pub fn put_number(buf: &mut [u8], at: usize, n: u32) -> usize
 // Writes a literal in decimal.
 pub fn put_literal(buf: &mut [u8], at: usize, l: i32) -> usize
     requires { ⌜ at + 11 < 2 ^ 64 ⌝ }
-    ensures { λ r. ⌜ Put (now (buf .entry)) at (literal-text l) r (now (buf .exit)) ⌝ }
+    ensures written { λ r. ⌜ Put (now (buf .entry)) at (literal-text l) r (now (buf .exit)) ⌝ }
+    ensures within { λ r. ⌜ r ≤ at + 11 ⌝ }
 {
     let v = literals::variable(l);
     if literals::is_negative(l) {

@@ -1,6 +1,4 @@
 -- Proper clauses: with a literal more at the end, and what the tests for repeated and opposed literals say. Assumes nothing.
-use Rattle.definition.specs.LogReading.{numbers-in}
-use Rattle.definition.specs.Standing.{Line, literals}
 use Rattle.definition.specs.Calls.{numbers-of}
 use mathlib.Core.Path.{_≡_, refl, sym, ap, ap₂, _∙_}
 use mathlib.Core.Bool.{false, true}
@@ -112,12 +110,6 @@ repeated-after (m ∷ c) l d (there i) = to-true (or-r (holds m (c ++ l ∷ d)) 
 pub opposed-after : (c : Clause) (l : ℤ) (d : Clause) → List·Memᴰ (negℤ l) c → opposed (c ++ l ∷ d) ≡ true
 unfolding opposed
 opposed-after c l d i = to-true (mem-opposes (c ++ l ∷ d) (c ++ l ∷ d) l (Memᴰ·append-right c (here refl)) (Memᴰ·append-left (l ∷ d) i))
-
--- the numbers of a line more
-pub numbers-snoc : (ss : List Line) (s : Line) → numbers-in (ss ++ (s ∷ [])) ≡ numbers-in ss + (length (literals s) + 1)
-unfolding numbers-in sum-of
-numbers-snoc [] s = omega arith
-numbers-snoc (x ∷ ss) s = omega (arith, numbers-snoc ss s)
 
 -- a proper clause with the literals of a pair is the pair, or the pair turned
 pub two-of : (u v : ℤ) (d : Clause) → Proper d → Same (u ∷ v ∷ []) d → u ≢ v → (d ≡ u ∷ v ∷ []) ⊎ (d ≡ v ∷ u ∷ [])

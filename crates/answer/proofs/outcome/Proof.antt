@@ -1,5 +1,5 @@
 use Rattle.answer.specs.Reading.{closing}
-use Rattle.answer.proofs.Reading.{ends-waiting, ends-open, ends-closed, faulty}
+use Rattle.answer.proofs.Reading.{ends-waiting, ends-open, ends-closed, fault-stays}
 use borrow.Author.Needs.{needs}
 use Rattle.answer.proofs.outcome.Statement.{statement}
 use Rattle.answer.proofs.outcome.Tie as tie
@@ -26,7 +26,7 @@ returns-3 : tie.Need-returns-3
 returns-3 c = rw (c .enum-told3 .given .1) ends-closed
 
 returns-4 : tie.Need-returns-4
-returns-4 c = rw (c .before .state .given .1) (λ m. faulty closing _)
+returns-4 c = rw (c .before .state .given .1) (λ m. fault-stays closing _)
 
 pub outcome-spec : {M : Type 1} → statement M
 outcome-spec =

@@ -30,7 +30,7 @@ returns c =
     let back = back .before .before in let signed = back .signed in
     let back = back .before in let entry-at = back .entry-at in
     let start = back .before .before .before in
-    put-same (put-then (put-byte .ensures) (c .before .before .put-literal .ensures))
+    put-same (put-then (put-byte .ensures) (c .before .before .put-literal .ensures .0))
     (value-is (start .args .marks .now) (start .args .i) (search needs) (entry-at .ensures)
     (toZ-ofZ w32 (signed .result) (sfits-of (signed .ok)) ∙ signed .ensures))
 

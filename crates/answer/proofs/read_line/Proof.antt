@@ -1,7 +1,7 @@
 use borrow.Author.Needs.{needs}
 use mathlib.Core.Path.{sym, _∙_}
 use Rattle.definition.specs.Answer.{read-answer-line}
-use Rattle.answer.proofs.Reading.{line-comment, line-status, line-waiting, line-values, line-open, line-closed, faulty}
+use Rattle.answer.proofs.Reading.{line-comment, line-status, line-waiting, line-values, line-open, line-closed, fault-stays}
 use Rattle.answer.proofs.read_line.Statement.{statement}
 use Rattle.answer.proofs.read_line.Tie as tie
 
@@ -90,7 +90,7 @@ returns-6 c =
 returns-7 : tie.Need-returns-7
 returns-7 c =
     let start = c .before .before .before .before .before .before .before in
-    rw (c .before .state .given .1) (faulty (λ a. read-answer-line (start .args .x) a (start .args .line .now)) _)
+    rw (c .before .state .given .1) (fault-stays (λ a. read-answer-line (start .args .x) a (start .args .line .now)) _)
 
 pub read-line-spec : {M : Type 1} → statement M
 read-line-spec =

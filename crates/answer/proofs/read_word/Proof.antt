@@ -1,5 +1,5 @@
 use Rattle.definition.specs.Answer.{read-answer-word}
-use Rattle.answer.proofs.Reading.{word-waiting, word-open, word-closed, faulty}
+use Rattle.answer.proofs.Reading.{word-waiting, word-open, word-closed, fault-stays}
 use borrow.Author.Needs.{needs}
 use Rattle.answer.proofs.read_word.Statement.{statement}
 use Rattle.answer.proofs.read_word.Tie as tie
@@ -54,7 +54,7 @@ returns-3 c =
 returns-4 : tie.Need-returns-4
 returns-4 c =
     let start = c .before .before .before .before .before in
-    rw (c .before .state .given .1) (faulty (λ a. read-answer-word (start .args .x) a (start .args .word .now)) _)
+    rw (c .before .state .given .1) (fault-stays (λ a. read-answer-word (start .args .x) a (start .args .word .now)) _)
 
 pub read-word-spec : {M : Type 1} → statement M
 read-word-spec =

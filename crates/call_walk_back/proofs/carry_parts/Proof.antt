@@ -11,7 +11,7 @@ slice-aggregate-formula c =
     let start = c .before .before .before in
     sym
     (length-take-le (start .args .n) (start .args .work .now)
-    (omega (arith, start .pre .0, start .pre .1, start .pre .2)))
+    (omega (arith, start .pre .before, start .pre .behind, start .pre .within)))
 
 mul-lines : tie.Need-mul-lines
 mul-lines c = search needs

@@ -1,5 +1,5 @@
 use mathlib.Core.Path.{refl}
-use Rattle.call_walk_back.proofs.TextsRead.{short-at-once, short-by-quotient}
+use Rattle.call_walk_back.proofs.Workspace.{short-at-once, short-by-quotient}
 use borrow.Author.Needs.{needs}
 use Rattle.call_walk_back.proofs.is_short.Statement.{statement}
 use Rattle.call_walk_back.proofs.is_short.Tie as tie

@@ -1,5 +1,4 @@
 use denote.Ref.{now}
-use lib.ListN.{length}
 use Rattle.call_walk_back.proofs.Outcome.{line-written, refused-zero}
 use borrow.Author.Needs.{needs}
 use Rattle.call_walk_back.proofs.walk_back.Statement.{statement}
@@ -27,7 +26,7 @@ returns : tie.Need-returns
 returns c =
     let back = c .before .before .before .before .before .before in let walk = back .walk in
     let start = back .before .before .before .before .before .before .before in
-    line-written (length (now (start .args .work))) (start .args .kept) (now (start .args .formula))
+    line-written (now (start .args .work)) (start .args .kept) (now (start .args .formula))
     (now (start .args .log)) (now (start .args .answer)) (now (start .args .out)) _ _ (walk .ensures) _
     (c .before .n .given .1)
 
@@ -42,7 +41,7 @@ returns-2 c =
     let back = c .before .before .before .before .before in let n2 = back .n2 in
     let back = back .before .before .before .before .before in let walk = back .walk in
     let start = back .before .before .before .before .before .before .before in
-    refused-zero (length (now (start .args .work))) (start .args .kept) (now (start .args .formula))
+    refused-zero (now (start .args .work)) (start .args .kept) (now (start .args .formula))
     (now (start .args .log)) (now (start .args .answer)) (now (start .args .out)) _ _ (walk .ensures) _ _ (n2 .given .1)
     (search needs) (c .before .before .zero-all .ensures)
 

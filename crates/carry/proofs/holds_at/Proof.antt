@@ -1,18 +1,15 @@
-use mathlib.Core.Path.{_≡_, sym, ap, _∙_}
 use mathlib.Core.Bool.{cond}
-use Prim.Native.Nat.{ℕ, _+_, _<_}
+use Prim.Native.Nat.{_<_}
 use native.Mathlib.Omega.{arith}
-use lib.ListN.{length, take, drop}
+use lib.ListN.{length}
 use denote.Ref.{now}
 use borrow.Author.Needs.{needs, sfits-of}
 use Rattle.definition.specs.Assignments.{has-true}
 use Rattle.theory_base.proofs.Tests.{by-test}
 use Rattle.literals.specs.Literal.{negative, header-literals}
 use Rattle.literals.proofs.Laws.{answer, answered}
-use Rattle.store.specs.Store.{size-at}
-use Rattle.store.proofs.Laws.{part-within}
 use Rattle.answer.specs.Table.{marked}
-use Rattle.carry.proofs.Carrying.{holds-deleted, holds-standing}
+use Rattle.carry.proofs.Carrying.{clause-within, holds-deleted, holds-standing}
 use Rattle.carry.proofs.holds_at.Statement.{statement}
 use Rattle.carry.proofs.holds_at.Tie as tie
 
@@ -25,11 +22,10 @@ is-negative-requires c κs = search needs
 returns : tie.Need-returns
 returns c =
     let back = c .before .before in let header-in = back .header-in in
-    let start = back .before .before in
-    let a = start .args in
+    let a = back .before .before .args in
     holds-deleted (marked (now (a .marks))) (cond (a .is-added) (now (a .added)) (now (a .read))) (a .at)
-    (sym (ap negative (header-in .ensures))
-    ∙ answered negative (header-in .result) (sfits-of (header-in .ok)) (c .before .is-negative .ensures) (c .if1 .taken))
+    (header-in .result) (header-in .ensures)
+    (answered negative (header-in .result) (sfits-of (header-in .ok)) (c .before .is-negative .ensures) (c .if1 .taken))
 
 header-length-requires : tie.Need-header-length-requires
 header-length-requires c κs = search needs
@@ -46,33 +42,27 @@ clause-part-requires c κs =
     let back = c .before .before .before in let header-in = back .header-in in
     let start = back .before .before in
     let a = start .args in
-    let s = cond (a .is-added) (now (a .added)) (now (a .read)) in
-    let e : c .header-length .result ≡ size-at s (a .at) = answer header-literals (header-in .result)
-    (sfits-of (header-in .ok)) (c .header-length .ensures)
-    ∙ ap header-literals (header-in .ensures) in
-    rw e (part-within s (a .at) (start .pre .0) (start .pre .1))
+    clause-within (cond (a .is-added) (now (a .added)) (now (a .read))) (a .at) (header-in .result) (header-in .ensures)
+    (c .header-length .result)
+    (answer header-literals (header-in .result) (sfits-of (header-in .ok)) (c .header-length .ensures)) (start .pre .0)
+    (start .pre .1)
 
 has-true-requires : tie.Need-has-true-requires
 has-true-requires c κs = search needs
 
 returns-2 : tie.Need-returns-2
 returns-2 c =
+    let header-length = c .before .before .header-length in
     let back = c .before .before .before in let if1 = back .if1 in
     let back = back .before in let is-negative = back .is-negative in
     let back = back .before in let header-in = back .header-in in
-    let start = back .before .before in
-    let a = start .args in
-    let s = cond (a .is-added) (now (a .added)) (now (a .read)) in
-    let m = marked (now (a .marks)) in
-    c .has-true .ensures
-    ∙ ap (has-true m)
-    (c .before .clause-part .ensures
-    ∙ ap (λ (k : ℕ). take k (drop (a .at + 1) s))
-    (answer header-literals (header-in .result) (sfits-of (header-in .ok)) (c .before .before .header-length .ensures)
-    ∙ ap header-literals (header-in .ensures)))
-    ∙ holds-standing m s (a .at)
-    (sym (ap negative (header-in .ensures))
-    ∙ answered negative (header-in .result) (sfits-of (header-in .ok)) (is-negative .ensures) (if1 .left))
+    let a = back .before .before .args in
+    holds-standing (cond (a .is-added) (now (a .added)) (now (a .read))) (a .at) (header-in .result) (header-in .ensures)
+    (header-length .result)
+    (answer header-literals (header-in .result) (sfits-of (header-in .ok)) (header-length .ensures))
+    (marked (now (a .marks))) _ (c .has-true .result)
+    (answered negative (header-in .result) (sfits-of (header-in .ok)) (is-negative .ensures) (if1 .left))
+    (c .before .clause-part .ensures) (c .has-true .ensures)
 
 pub holds-at-spec : {M : Type 1} → statement M
 holds-at-spec =

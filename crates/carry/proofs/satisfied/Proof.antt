@@ -1,4 +1,4 @@
-use mathlib.Core.Path.{_≡_, refl, sym, _∙_}
+use mathlib.Core.Path.{_≡_, refl, _∙_}
 use mathlib.Core.Bool.{cond}
 use Prim.Native.Nat.{_-_, _≤_, _<_}
 use native.Mathlib.Omega.{arith}
@@ -52,8 +52,8 @@ loop-again c =
     rw (c .next-in .ensures) (
       f .0,
       f .1,
-      satisfied-more (marked (now (a .marks))) s at inside
-          (sym (c .before .before .holds-at .ensures) ∙ c .before .if1 .taken)
+      satisfied-more (marked (now (a .marks))) s at inside (c .before .before .holds-at .result)
+          (c .before .before .holds-at .ensures) (c .before .if1 .taken)
           ∙ loop .inv .2,
     )
 
@@ -66,7 +66,8 @@ returns c =
     let s = cond (a .is-added) (now (a .added)) (now (a .read)) in
     let at = loop .at in
     let inside : at < length s = omega (arith, c .before .before .loop-test .taken, length-of .ensures) in
-    satisfied-not (marked (now (a .marks))) s at inside (sym (c .before .holds-at .ensures) ∙ c .if1 .left)
+    satisfied-not (marked (now (a .marks))) s at inside (c .before .holds-at .result)
+    (c .before .holds-at .ensures) (c .if1 .left)
     ∙ loop .inv .2
 
 returns-2 : tie.Need-returns-2 Inv-loop μ-loop

@@ -1,5 +1,4 @@
 use native.Mathlib.Omega.{arith}
-use Rattle.text.proofs.Output.{number-length}
 use Rattle.dimacs.proofs.FormulaText.{header-put}
 use borrow.Author.Needs.{needs}
 use Rattle.dimacs.proofs.put_header.Statement.{statement}
@@ -15,42 +14,13 @@ put-number-requires : tie.Need-put-number-requires
 put-number-requires c κs = search needs
 
 put-byte-requires : tie.Need-put-byte-requires
-put-byte-requires c κs =
-    let back = c .before .before .before in let put-number = back .put-number in
-    let back = back .before .before .before .before in let put-text = back .put-text in
-    let start = back .before .before .before .before in
-    omega (arith, put-text .ensures .next, put-number .ensures .next, number-length (start .args .h) (search needs))
+put-byte-requires c κs = search needs
 
 put-number-requires-2 : tie.Need-put-number-requires-2
-put-number-requires-2 c κs =
-    let back = c .before .before .before in let put-byte = back .put-byte in
-    let back = back .before .before .before .before in let put-number = back .put-number in
-    let back = back .before .before .before .before in let put-text = back .put-text in
-    let start = back .before .before .before .before in
-    omega (
-      arith,
-      put-text .ensures .next,
-      put-number .ensures .next,
-      number-length (start .args .h) (search needs),
-      put-byte .ensures .next,
-    )
+put-number-requires-2 c κs = search needs
 
 put-byte-requires-2 : tie.Need-put-byte-requires-2
-put-byte-requires-2 c κs =
-    let back = c .before .before .before in let put-number2 = back .put-number2 in
-    let back = back .before .before .before .before in let put-byte = back .put-byte in
-    let back = back .before .before .before .before in let put-number = back .put-number in
-    let back = back .before .before .before .before in let put-text = back .put-text in
-    let start = back .before .before .before .before in
-    omega (
-      arith,
-      put-text .ensures .next,
-      put-number .ensures .next,
-      number-length (start .args .h) (search needs),
-      put-byte .ensures .next,
-      put-number2 .ensures .next,
-      number-length (start .args .m) (search needs),
-    )
+put-byte-requires-2 c κs = search needs
 
 same-length : tie.Need-same-length
 same-length c = search needs
@@ -63,16 +33,14 @@ returns c =
     let back = back .before .before .before .before in let put-number = back .put-number in
     let back = back .before .before .before .before in let put-text = back .put-text in
     let start = back .before .before .before .before in (
-      header-put (start .args .h) (start .args .m) (put-text .ensures) (put-number .ensures) (put-byte .ensures)
-          (put-number2 .ensures) (put-byte2 .ensures),
+      header-put (start .args .h) (start .args .m) (put-text .ensures) (put-number .ensures .0) (put-byte .ensures)
+          (put-number2 .ensures .0) (put-byte2 .ensures),
       omega (
         arith,
         put-text .ensures .next,
-        put-number .ensures .next,
-        number-length (start .args .h) (search needs),
+        put-number .ensures .1,
         put-byte .ensures .next,
-        put-number2 .ensures .next,
-        number-length (start .args .m) (search needs),
+        put-number2 .ensures .1,
         put-byte2 .ensures .next,
       ),
     )

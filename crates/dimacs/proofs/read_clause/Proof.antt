@@ -1,5 +1,4 @@
-use Rattle.definition.specs.Checked.{fault}
-use borrow.Author.Needs.{needs}
+-- The literals read so far are stored behind the header's place; the header is stored at the closing 0.
 use mathlib.Core.Path.{_≡_, refl, sym, ap, _∙_}
 use Prim.Native.Nat.{_-_}
 use native.Mathlib.Omega.{arith}
@@ -7,11 +6,9 @@ use lib.IntN.{ℤ}
 use lib.ListN.{length, set}
 use denote.Ref.{now}
 use borrow.Author.Needs.{needs, sfits-of}
-use Rattle.definition.specs.Text.{blank}
-use Rattle.text.proofs.Words.{word-answer}
 use Rattle.literals.proofs.Laws.{at-arg}
 use Rattle.dimacs.specs.declared.Item.the-variants as Item
-use Rattle.dimacs.proofs.Marking.{Going, going-start, going-end, going-fault, going-done, going-full, going-on}
+use Rattle.dimacs.proofs.Marking.{Going, going-start, going-end, going-word, going-fault, going-done, going-full, going-on}
 use Rattle.dimacs.proofs.read_clause.Statement.{statement}
 use Rattle.dimacs.proofs.read_clause.Tie as tie
 
@@ -52,10 +49,7 @@ returns : tie.Need-returns Inv-loop μ-loop
 returns c =
     let back = c .before .before .before in let next-word = back .next-word in
     let back = back .before in let loop = back .loop in
-    let entry = back .before .before .before in
-    going-end (loop .inv .0)
-    (word-answer blank (now (entry .args .text)) (loop .at) (sym (c .before .enum-told .given .1) ∙ next-word .ensures))
-    ∙ ap fault (sym (c .ended .ensures))
+    going-end (loop .inv .0) (sym (c .before .enum-told .given .1) ∙ next-word .ensures) (c .ended .ensures)
 
 enum-known-start : tie.Need-enum-known-start Inv-loop μ-loop
 enum-known-start c = search needs
@@ -64,28 +58,19 @@ sub-read-item : tie.Need-sub-read-item Inv-loop μ-loop
 sub-read-item c =
     let back = c .before .before .before in let next-word = back .next-word in
     let back = back .before in let loop = back .loop in
-    let entry = back .before .before .before in
-    let f = word-answer blank (now (entry .args .text)) (loop .at)
-    (sym (c .before .start .given .1) ∙ next-word .ensures) in
-    omega (arith, f .some)
+    let w = sym (c .before .start .given .1) ∙ next-word .ensures in omega (arith, going-word (loop .inv .0) w .some)
 
 part-read-item-start : tie.Need-part-read-item-start Inv-loop μ-loop
 part-read-item-start c =
     let back = c .before .before .before in let next-word = back .next-word in
     let back = back .before in let loop = back .loop in
-    let entry = back .before .before .before in
-    let f = word-answer blank (now (entry .args .text)) (loop .at)
-    (sym (c .before .start .given .1) ∙ next-word .ensures) in
-    omega (arith, f .some)
+    let w = sym (c .before .start .given .1) ∙ next-word .ensures in omega (arith, going-word (loop .inv .0) w .some)
 
 part-read-item-end : tie.Need-part-read-item-end Inv-loop μ-loop
 part-read-item-end c =
     let back = c .before .before .before in let next-word = back .next-word in
     let back = back .before in let loop = back .loop in
-    let entry = back .before .before .before in
-    let f = word-answer blank (now (entry .args .text)) (loop .at)
-    (sym (c .before .start .given .1) ∙ next-word .ensures) in
-    omega (arith, f .some, f .within)
+    let w = sym (c .before .start .given .1) ∙ next-word .ensures in let f = going-word (loop .inv .0) w in omega (arith, f .some, f .within)
 
 read-item-requires : tie.Need-read-item-requires Inv-loop μ-loop
 read-item-requires c κs =
@@ -113,9 +98,7 @@ returns-2 c =
     let back = back .before .before .before .before in let start = back .start in
     let back = back .before .before in let next-word = back .next-word in
     let back = back .before in let loop = back .loop in
-    let entry = back .before .before .before in
-    let f = word-answer blank (now (entry .args .text)) (loop .at) (sym (start .given .1) ∙ next-word .ensures) in
-    going-fault (loop .inv .0) f (read-item .ensures (loop .inv .0 .here) (loop .inv .0 .marks)) _
+    let w = sym (start .given .1) ∙ next-word .ensures in going-fault (loop .inv .0) w _ _ (read-item .ensures) _
     (c .before .f .given .1)
 
 enum-told-2 : tie.Need-enum-told-2 Inv-loop μ-loop
@@ -147,8 +130,7 @@ returns-3 c =
     let back = back .before .before in let next-word = back .next-word in
     let back = back .before in let loop = back .loop in
     let entry = back .before .before .before in
-    let f = word-answer blank (now (entry .args .text)) (loop .at) (sym (start .given .1) ∙ next-word .ensures) in
-    going-done (loop .inv .0) f (read-item .ensures (loop .inv .0 .here) (loop .inv .0 .marks)) (entry .pre .1 .1 .1)
+    let w = sym (start .given .1) ∙ next-word .ensures in going-done (loop .inv .0) w _ _ (read-item .ensures) (entry .pre .1 .1 .1)
     (enum-told2 .given .1)
     (c .before .put .ensures
     ∙ ap (set (loop .store) 0) (at-arg (λ (z : ℤ). z) (header .result) (sfits-of (header .ok)) ∙ header .ensures))
@@ -173,15 +155,17 @@ returns-4 c =
     let back = back .before .before .before .before in let start = back .start in
     let back = back .before .before in let next-word = back .next-word in
     let back = back .before in let loop = back .loop in
-    let entry = back .before .before .before in
-    let f = word-answer blank (now (entry .args .text)) (loop .at) (sym (start .given .1) ∙ next-word .ensures) in
-    going-full (loop .inv .0) f (read-item .ensures (loop .inv .0 .here) (loop .inv .0 .marks)) _
+    let w = sym (start .given .1) ∙ next-word .ensures in going-full (loop .inv .0) w _ _ (read-item .ensures) _
     (c .before .before .l .given .1) (c .if1 .taken)
 
 add-n : tie.Need-add-n Inv-loop μ-loop
 add-n c =
-    let entry = c .before .before .before .before .before .before .before .before .before .before .before .before .before .before .before .before in
-    record { fits = omega (arith, c .if1 .left, entry .pre .1 .1 .1) }
+    let back = c .before .before .before .before .before .before .before .before .before .before in let start = back .start in
+    let back = back .before .before in let next-word = back .next-word in
+    let back = back .before in let loop = back .loop in
+    let w = sym (start .given .1) ∙ next-word .ensures in
+    let f = going-word (loop .inv .0) w in
+    record { fits = omega (arith, loop .inv .0 .fewer, f .after, f .some, f .within) }
 
 put-requires-2 : tie.Need-put-requires-2 Inv-loop μ-loop
 put-requires-2 c κs = search needs
@@ -191,9 +175,7 @@ loop-less c =
     let back = c .before .before .before .before .before .before .before .before .before .before .before .before .before in let start = back .start in
     let back = back .before .before in let next-word = back .next-word in
     let back = back .before in let loop = back .loop in
-    let entry = back .before .before .before in
-    let f = word-answer blank (now (entry .args .text)) (loop .at) (sym (start .given .1) ∙ next-word .ensures) in
-    omega (arith, f .after, f .some, f .within)
+    let w = sym (start .given .1) ∙ next-word .ensures in let f = going-word (loop .inv .0) w in omega (arith, f .after, f .some, f .within)
 
 loop-again : tie.Need-loop-again Inv-loop μ-loop
 loop-again c =
@@ -203,11 +185,10 @@ loop-again c =
     let back = back .before .before .before .before in let start = back .start in
     let back = back .before .before in let next-word = back .next-word in
     let back = back .before in let loop = back .loop in
-    let entry = back .before .before .before in
     let x = l .given .0 .0 in
     let q = l .given .1 ∙ sym (at-arg (λ (z : ℤ). Item.Literal z) x (search needs)) in
-    let f = word-answer blank (now (entry .args .text)) (loop .at) (sym (start .given .1) ∙ next-word .ensures) in (
-      going-on (loop .inv .0) f (read-item .ensures (loop .inv .0 .here) (loop .inv .0 .marks)) _ q (if1 .left)
+    let w = sym (start .given .1) ∙ next-word .ensures in (
+      going-on (loop .inv .0) w _ _ (read-item .ensures) _ q (if1 .left)
           (c .before .put2 .ensures),
       read-item .kept .1 .0 ∙ loop .inv .1,
     )

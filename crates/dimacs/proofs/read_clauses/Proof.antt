@@ -1,5 +1,6 @@
+-- The clauses read so far fill the store, and the rest of the words gives the whole. That the sums fit follows from the invariant one clause
+-- further, `loop-again`.
 use borrow.Rule.Slice.PartMut.{same-len-mid}
-use borrow.Author.Needs.{needs}
 use mathlib.Core.Path.{_≡_, sym, _∙_}
 use Prim.Native.Nat.{ℕ, _-_}
 use lib.IntN.{ℤ}

@@ -3,7 +3,7 @@ use borrow.Author.Needs.{needs, sfits-of}
 use denote.Ref.{now}
 use lib.ListN.{set}
 use Rattle.literals.proofs.Laws.{answer}
-use Rattle.drat.proofs.Log.{line-stored, line-refused-so}
+use Rattle.drat.proofs.Log.{line-stored, line-refused-by-clause}
 use borrow.Author.Needs.{needs}
 use Rattle.drat.proofs.read_line.Statement.{statement}
 use Rattle.drat.proofs.read_line.Tie as tie
@@ -70,7 +70,7 @@ returns-2 c =
     let back = back .before .before .before in let clause-start = back .clause-start in
     let back = back .before in let starts-deletion = back .starts-deletion in
     let start = back .before .before .before in (
-      line-refused-so (start .args .text .now) _ (starts-deletion .ensures) _ (clause-start .ensures)
+      line-refused-by-clause (start .args .text .now) _ (starts-deletion .ensures) _ (clause-start .ensures)
           (read-clause .result) (now (start .args .store)) _ (start .args .to) (read-clause .ensures .0)
           (c .enum-told .given .1),
       read-clause .ensures .1,

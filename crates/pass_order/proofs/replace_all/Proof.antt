@@ -47,7 +47,7 @@ replace-at-requires c κs =
       before = passing-before (loop .inv .1) (loop-test .taken) (middle-size (start .pre .0));
       within = passing-within (loop .inv .1) (loop-test .taken) (middle-size (start .pre .0));
       replaceable = passing-replaceable (start .pre .0 .before) (front-proper (start .pre .0)) (loop .inv .1)
-          (loop-test .taken) (middle-size (start .pre .0)) (omega (arith, start .pre .0 .space, loop .inv .0))
+          (loop-test .taken) (middle-size (start .pre .0)) (omega (arith, start .pre .0 .space, loop .inv .0)) (omega (arith, start .pre .0 .good .small, loop .inv .0))
           (pass-room (start .pre .0));
     }
 
@@ -67,7 +67,7 @@ loop-again c =
     rw (next-at .ensures) (
       replace-at .kept .0 ∙ loop .inv .0,
       passing-step (start .pre .0 .before) (front-proper (start .pre .0)) (loop .inv .1) (loop-test .taken)
-          (middle-size (start .pre .0)) (omega (arith, start .pre .0 .space, loop .inv .0)) (replace-at .ensures),
+          (middle-size (start .pre .0)) (omega (arith, start .pre .0 .space, loop .inv .0)) (omega (arith, start .pre .0 .good .small, loop .inv .0)) (replace-at .ensures),
     )
 
 same-length : tie.Need-same-length Inv-loop μ-loop

@@ -1,13 +1,10 @@
 use borrow.Author.Needs.{needs}
-use mathlib.Core.Path.{ap, _∙_}
 use Prim.Native.Nat.{_+_, _-_}
 use native.Mathlib.Omega.{arith}
 use lib.IntN.{pos}
-use lib.ListN.{getD, length, take, drop}
-use lib.Seq.{sets}
+use lib.ListN.{getD, take, drop}
 use denote.Ref.{now}
 use borrow.Author.Needs.{sfits-of, needs}
-use Rattle.definition.specs.Literals.{Clause}
 use Rattle.definition.specs.Events.{choice-of}
 use Rattle.literals.proofs.Laws.{answer}
 use Rattle.tables.specs.Places.{place-in}
@@ -62,13 +59,9 @@ put-instead-requires c κs =
         ),
         start .pre .0 .2 .new,
       ),
-      omega (
-        arith,
-        writing-room (loop .inv) (loop-test .taken) (start .pre .0 .0) (omega (arith, start .pre .1))
-            (rw (replaced-each k (take (start .args .n) (drop (start .args .from) (now (start .args .work)))))
-            (start .pre .1)),
-        ap length e,
-      ),
+      writing-room (loop .inv) (loop-test .taken) (start .pre .0 .0) (omega (arith, start .pre .1)) e
+          (rw (replaced-each k (take (start .args .n) (drop (start .args .from) (now (start .args .work)))))
+          (start .pre .1)),
     )
 
 add-i : tie.Need-add-i Inv-loop μ-loop
@@ -88,9 +81,8 @@ loop-again c =
     let k = choice-of (now (start .args .choice)) (start .args .below) in
     let x = getD (loop .work) (start .args .from + loop .i) (pos 0) in
     let e = instead-arg k (start .pre .0 .1) x (place-of .result) (sfits-of (l .given)) (place-of .ensures) in
-    writing-step (loop .inv) (loop-test .taken) (start .pre .0 .0) (omega (arith, start .pre .1))
-    (put-instead .ensures .0 ∙ ap (λ (d : Clause). loop .end + length d) e)
-    (put-instead .ensures .1 ∙ ap (λ (d : Clause). sets (loop .work) (loop .end) d) e)
+    writing-step (loop .inv) (loop-test .taken) (start .pre .0 .0) (omega (arith, start .pre .1)) e
+    (put-instead .ensures .0) (put-instead .ensures .1)
 
 same-length : tie.Need-same-length Inv-loop μ-loop
 same-length c = c .before .loop .inv .size

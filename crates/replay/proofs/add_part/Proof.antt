@@ -1,13 +1,10 @@
-use mathlib.Core.Path.{_≡_, ap, _∙_}
+use mathlib.Core.Path.{_≡_}
 use native.Mathlib.Omega.{arith}
-use Prim.Native.Nat.{ℕ, _+_, _-_}
-use lib.ListN.{length, take, drop, length-drop, getD, set}
+use Prim.Native.Nat.{_+_}
+use lib.ListN.{length, take, drop, length-drop}
 use lib.Seq.{length-take-le}
 use denote.Ref.{now}
-use Rattle.literals.specs.Literal.{header-of}
-use Rattle.theory_base.specs.Slices.{between}
-use Rattle.replay.specs.Index.{key-at}
-use Rattle.replay.proofs.Indexing.{part-rest, part-link, added-so, linked-added}
+use Rattle.replay.proofs.Indexing.{part-rest, part-link, clause-added, linked-added}
 use borrow.Author.Needs.{needs}
 use Rattle.replay.proofs.add_part.Statement.{statement}
 use Rattle.replay.proofs.add_part.Tie as tie
@@ -31,13 +28,12 @@ index-entry-requires c κs =
       omega (arith, x, l .order),
       omega (arith, x, m, start .pre .1),
       part-link w (append-part .last .0) w (now (start .args .heads)) (now (start .args .heads)) (start .args .store)
-          (start .args .end) (start .args .links) d l (omega (arith, m, start .pre .2))
-          (omega (arith, m, start .pre .1)) (append-part .ensures .1),
+          (start .args .end) (start .args .links) (append-part .result) d l (omega (arith, m, start .pre .2)) x
+          (omega (arith, x, m, start .pre .1)) (append-part .ensures .1),
       l .table,
-      rw x
-          (part-rest w (append-part .last .0) w (now (start .args .heads)) (now (start .args .heads))
-          (start .args .store) (start .args .end) (start .args .links) d l (omega (arith, m, start .pre .2))
-          (omega (arith, m, start .pre .1)) (append-part .ensures .1)),
+      part-rest w (append-part .last .0) w (now (start .args .heads)) (now (start .args .heads))
+          (start .args .store) (start .args .end) (start .args .links) (append-part .result) d l
+          (omega (arith, m, start .pre .2)) x (omega (arith, x, m, start .pre .1)) (append-part .ensures .1),
     )
 
 same-length : tie.Need-same-length
@@ -56,24 +52,15 @@ returns c =
     let d = take (start .args .n) (drop (start .args .first) w) in
     let m : length d ≡ start .args .n = length-take-le (start .args .n) (drop (start .args .first) w)
     (omega (arith, start .pre .0, l .order, l .within, l .room, length-drop (start .args .first) w)) in
-    let x : append-part .result ≡ start .args .end + (length d + 1) = omega (arith, append-part .ensures .0, m) in
-    let u = index-entry .ensures .0
-    ∙ ap
-    (λ (k : ℕ). set (append-part .last .0) (start .args .links + (start .args .end - start .args .store))
-    (header-of
-    (getD (now (start .args .heads))
-    (key-at (between (start .args .store) k (append-part .last .0)) (start .args .end - start .args .store)) 0))) x in
-    let v = index-entry .ensures .1
-    ∙ ap
-    (λ (k : ℕ). set (now (start .args .heads))
-    (key-at (between (start .args .store) k (append-part .last .0)) (start .args .end - start .args .store))
-    (start .args .end - start .args .store + 1)) x in (
-      added-so w (append-part .last .0) _ (now (start .args .heads)) _ (start .args .store) (start .args .end)
-          (start .args .links) d l (omega (arith, m, start .pre .2)) (omega (arith, m, start .pre .1))
-          (append-part .ensures .1) u v _ x,
+    let x : append-part .result ≡ start .args .end + (length d + 1) = omega (arith, append-part .ensures .0, m) in (
+      clause-added w (append-part .last .0) _ (now (start .args .heads)) _ (start .args .store) (start .args .end)
+          (start .args .links) (append-part .result) d l (omega (arith, m, start .pre .2)) x
+          (omega (arith, x, m, start .pre .1)) (append-part .ensures .1) (index-entry .ensures .0)
+          (index-entry .ensures .1),
       linked-added w (append-part .last .0) _ (now (start .args .heads)) _ (start .args .store) (start .args .end)
-          (start .args .links) d l (omega (arith, m, start .pre .2)) (omega (arith, m, start .pre .1))
-          (append-part .ensures .1) u v _ x,
+          (start .args .links) (append-part .result) d l (omega (arith, m, start .pre .2)) x
+          (omega (arith, x, m, start .pre .1)) (append-part .ensures .1) (index-entry .ensures .0)
+          (index-entry .ensures .1),
     )
 
 pub add-part-spec : {M : Type 1} → statement M

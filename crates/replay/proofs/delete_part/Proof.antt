@@ -1,10 +1,10 @@
-use mathlib.Core.Path.{refl, sym, ap, _∙_}
+use mathlib.Core.Path.{refl, ap, _∙_}
 use native.Mathlib.Omega.{arith}
 use lib.ListN.{take, drop}
 use lib.Seq.{take-set-le}
 use denote.Ref.{now}
 use Rattle.replay.proofs.Indexing.{linked-deleted}
-use Rattle.replay.proofs.Replaying.{found-inside, deleted-line, not-deleted-line}
+use Rattle.replay.proofs.Replaying.{found-inside, deletion-found, deletion-missing}
 use borrow.Author.Needs.{needs}
 use Rattle.replay.proofs.delete_part.Statement.{statement}
 use Rattle.replay.proofs.delete_part.Tie as tie
@@ -21,13 +21,13 @@ add-mark-deleted c =
     let start = back .before .before .before in
     let w = now (start .args .work) in
     let l = start .pre .1 in
-    let e = sym (find-clause .ensures) ∙ c .before .before .at .given .1 in
     omega (
       arith,
       l .room,
       l .within,
       found-inside w (start .args .store) (start .args .end) (take (start .args .n) (drop (start .args .first) w))
-          (l .order) (omega (arith, l .room, l .within)) (l .formed) _ e,
+          (l .order) (omega (arith, l .room, l .within)) (l .formed) (find-clause .result)
+          (find-clause .ensures) _ (c .before .before .at .given .1),
     )
 
 mark-deleted-requires : tie.Need-mark-deleted-requires
@@ -36,13 +36,13 @@ mark-deleted-requires c κs =
     let start = back .before .before .before in
     let w = now (start .args .work) in
     let l = start .pre .1 in
-    let e = sym (find-clause .ensures) ∙ c .before .before .at .given .1 in
     omega (
       arith,
       l .room,
       l .within,
       found-inside w (start .args .store) (start .args .end) (take (start .args .n) (drop (start .args .first) w))
-          (l .order) (omega (arith, l .room, l .within)) (l .formed) _ e,
+          (l .order) (omega (arith, l .room, l .within)) (l .formed) (find-clause .result)
+          (find-clause .ensures) _ (c .before .before .at .given .1),
     )
 
 enum-told : tie.Need-enum-told
@@ -59,14 +59,13 @@ returns c =
     let start = back .before .before .before in
     let w = now (start .args .work) in
     let l = start .pre .1 in
-    let d = take (start .args .n) (drop (start .args .first) w) in
-    let e = sym (find-clause .ensures) ∙ at .given .1 in (
-      deleted-line w (start .args .store) (start .args .end) d (l .order) (omega (arith, l .room, l .within))
-          (l .formed) _ _ e (mark-deleted .ensures),
+    let d = take (start .args .n) (drop (start .args .first) w) in (
+      deletion-found w (start .args .store) (start .args .end) d (l .order) (omega (arith, l .room, l .within))
+          (l .formed) (find-clause .result) (find-clause .ensures) _ _ (at .given .1) (mark-deleted .ensures),
       (
         ap (take (start .args .store)) (mark-deleted .ensures) ∙ take-set-le (start .args .store) w _ _ (omega arith),
-        linked-deleted w _ (now (start .args .heads)) (start .args .store) (start .args .end) (start .args .links) d _ l
-            e (mark-deleted .ensures),
+        linked-deleted w _ (now (start .args .heads)) (start .args .store) (start .args .end) (start .args .links) d l
+            (find-clause .result) (find-clause .ensures) _ (at .given .1) (mark-deleted .ensures),
       ),
     )
 
@@ -78,9 +77,9 @@ returns-2 c =
     let start = c .before .before .before .before .before in
     let w = now (start .args .work) in
     let l = start .pre .1 in
-    let e = sym (c .before .before .find-clause .ensures) ∙ c .enum-told .given .1 in (
-      not-deleted-line w (start .args .store) (start .args .end) (take (start .args .n) (drop (start .args .first) w))
-          (l .order) (omega (arith, l .room, l .within)) (l .formed) e,
+    let find-clause = c .before .before .find-clause in (
+      deletion-missing w (start .args .store) (start .args .end) (take (start .args .n) (drop (start .args .first) w))
+          (l .order) (omega (arith, l .room, l .within)) (l .formed) (find-clause .result) (find-clause .ensures) (c .enum-told .given .1),
       (refl, tt),
     )
 

@@ -11,7 +11,7 @@ use Rattle.literals.proofs.Laws.{answer, answered, literals-within}
 use Rattle.store.specs.Store.{stored, header-at, size-at, clause-at}
 use Rattle.theory_base.specs.Slices.{between}
 use Rattle.replay.specs.Replayed.{Clause-added}
-use Rattle.replay.proofs.Replaying.{added-line, replays-addition, replays-deletion}
+use Rattle.replay.proofs.Replaying.{addition-replays, replays-addition, replays-deletion}
 use Rattle.replay.proofs.replay_line.Statement.{statement}
 use Rattle.replay.proofs.replay_line.Tie as tie
 
@@ -116,7 +116,7 @@ returns-2 c =
       replays-addition (stored (between store end w)) w at store (end + (length (clause-at w at) + 1))
           (end + (size-at w at + 1)) (Replayed.Standing (add-part .result)) (add-part .last .0) (omega arith)
           (answered negative (header-at w at) (sfits-of (is-negative-arg .given)) (is-negative .ensures) (if1 .left))
-          (added-line w (add-part .last .0) store end (add-part .result) (clause-at w at) (l .order)
+          (addition-replays w (add-part .last .0) store end (add-part .result) (clause-at w at) (l .order)
           (omega (arith, k, literals-within (header-at w at) (sfits-of (header-length-arg .given)))) (l .formed) a),
       (a .kept, add-part .ensures .1),
     )

@@ -1,6 +1,6 @@
 use mathlib.Core.Path.{refl, _∙_}
 use denote.Ref.{now}
-use Rattle.replay.proofs.Replaying.{linkable, same-front, still-laid-out, still-room, replays-so}
+use Rattle.replay.proofs.Replaying.{linkable, same-front, still-laid-out, still-room, indexed-replays}
 use borrow.Author.Needs.{needs}
 use Rattle.replay.proofs.replay_over.Statement.{statement}
 use Rattle.replay.proofs.replay_over.Tie as tie
@@ -42,7 +42,7 @@ returns c =
     let back = c .before .before in let replay-lines = back .replay-lines in
     let back = back .before .before .before .before .before in let index-all = back .index-all in
     let start = back .before .before .before in (
-      replays-so (now (start .args .work)) (start .args .lines) (start .args .store) (start .args .end) _ (start .pre)
+      indexed-replays (now (start .args .work)) (start .args .lines) (start .args .store) (start .args .end) _ (start .pre)
           refl (index-all .last .0) (index-all .kept .0) (index-all .ensures .1) (replay-lines .result) _
           (replay-lines .ensures .0),
       replay-lines .ensures .1

@@ -1,4 +1,4 @@
-use Rattle.text.proofs.Writing.{item-put, literal-within}
+use Rattle.text.proofs.Writing.{item-put}
 use native.Mathlib.Omega.{arith}
 use borrow.Author.Needs.{needs}
 use Rattle.text.proofs.put_item.Statement.{statement}
@@ -8,10 +8,7 @@ put-literal-requires : tie.Need-put-literal-requires
 put-literal-requires c κs = search needs
 
 put-byte-requires : tie.Need-put-byte-requires
-put-byte-requires c κs =
-    let back = c .before .before .before in let put-literal = back .put-literal in
-    let start = back .before .before .before in
-    omega (arith, literal-within (start .args .l) (start .fits .l) (put-literal .ensures))
+put-byte-requires c κs = search needs
 
 same-length : tie.Need-same-length
 same-length c = search needs
@@ -21,8 +18,8 @@ returns c =
     let back = c .before .before in let put-byte = back .put-byte in
     let back = back .before .before .before .before in let put-literal = back .put-literal in
     let start = back .before .before .before in (
-      item-put (start .args .l) (start .fits .l) (put-literal .ensures) (put-byte .ensures),
-      omega (arith, put-byte .ensures .next, literal-within (start .args .l) (start .fits .l) (put-literal .ensures)),
+      item-put (start .args .l) (start .fits .l) (put-literal .ensures .0) (put-byte .ensures),
+      omega (arith, put-byte .ensures .next, put-literal .ensures .1),
     )
 
 pub put-item-spec : {M : Type 1} → statement M

@@ -5,6 +5,7 @@ use Rattle.definition.specs.Text.{digits}
 use mathlib.Core.Path.{ap, _∙_}
 use mathlib.Core.List.{[], _∷_, _++_}
 use Prim.Native.Nat.{ℕ}
+use native.Mathlib.Omega.{arith}
 use lib.IntN.{natAbs}
 use borrow.Author.Needs.{needs}
 use Rattle.text.proofs.put_literal.Statement.{statement}
@@ -36,10 +37,12 @@ returns c =
     let back = back .before in let variable = back .variable in
     let start = back .before .before in
     let l = start .args .l in
-    let f = start .fits .l in
-    put-same (put-then (put-byte .ensures) (c .before .before .put-number .ensures))
-    (ap (λ (v : ℕ). (45 ∷ []) ++ digits v) (answer natAbs l f (variable .ensures))
-    ∙ negative-text l (answered negative l f (is-negative .ensures) (if1 .taken)))
+    let f = start .fits .l in (
+      put-same (put-then (put-byte .ensures) (c .before .before .put-number .ensures .0))
+          (ap (λ (v : ℕ). (45 ∷ []) ++ digits v) (answer natAbs l f (variable .ensures))
+          ∙ negative-text l (answered negative l f (is-negative .ensures) (if1 .taken))),
+      omega (arith, put-byte .ensures .next, c .before .before .put-number .ensures .1),
+    )
 
 same-length-2 : tie.Need-same-length-2
 same-length-2 c = search needs
@@ -51,10 +54,12 @@ returns-2 c =
     let back = back .before in let variable = back .variable in
     let start = back .before .before in
     let l = start .args .l in
-    let f = start .fits .l in
-    put-same (c .before .before .put-number2 .ensures)
-    (ap digits (answer natAbs l f (variable .ensures))
-    ∙ positive-text l (answered negative l f (is-negative .ensures) (if1 .left)))
+    let f = start .fits .l in (
+      put-same (c .before .before .put-number2 .ensures .0)
+          (ap digits (answer natAbs l f (variable .ensures))
+          ∙ positive-text l (answered negative l f (is-negative .ensures) (if1 .left))),
+      omega (arith, c .before .before .put-number2 .ensures .1),
+    )
 
 pub put-literal-spec : {M : Type 1} → statement M
 put-literal-spec =

@@ -59,8 +59,11 @@ same-length c = search needs
 returns : tie.Need-returns Inv-loop μ-loop
 returns c =
     let back = c .before .before .before .before .before in let loop = back .loop in
-    let digit-count = back .before .digit-count in
-    rw (c .before .before .store2 .ensures, digit-count .ensures) (writing-end (loop .inv .1) (search needs))
+    let back = back .before in let digit-count = back .digit-count in
+    let start = back .before .before in (
+      rw (c .before .before .store2 .ensures, digit-count .ensures) (writing-end (loop .inv .1) (search needs)),
+      omega (arith, digit-count .ensures, number-length (start .args .n) (search needs)),
+    )
 
 pub put-number-spec : {M : Type 1} → statement M
 put-number-spec =

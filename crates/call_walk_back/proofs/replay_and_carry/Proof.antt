@@ -1,14 +1,10 @@
-use native.Mathlib.Omega.{arith}
 use denote.Ref.{now}
 use lib.ListN.{length}
 use Rattle.answer.specs.Table.{marked}
-use Rattle.call_walk_back.proofs.Outcome.{stood, carry-asks, none-walks, carry-walks}
+use Rattle.call_walk_back.proofs.Outcome.{carry-asks, no-clause-walks, carry-walks}
 use borrow.Author.Needs.{needs}
-use Rattle.call_walk_back.proofs.carry_texts.Statement.{statement}
-use Rattle.call_walk_back.proofs.carry_texts.Tie as tie
-
-add-replay : tie.Need-add-replay
-add-replay c = search needs
+use Rattle.call_walk_back.proofs.replay_and_carry.Statement.{statement}
+use Rattle.call_walk_back.proofs.replay_and_carry.Tie as tie
 
 replay-requires : tie.Need-replay-requires
 replay-requires c κs = search needs
@@ -24,14 +20,9 @@ carry-parts-requires c κs =
     let back = c .before .before .before .before in let end = back .end in
     let back = back .before .before .before in let replay = back .replay in
     let start = back .before .before .before .before in
-    let s = stood (now (start .args .work)) (replay .last .0) (start .args .n) (start .args .m) (start .args .v)
-    (now (start .args .marks)) (start .pre) _ (replay .ensures .0) (replay .ensures .1) _ (end .given .1) in (
-      start .pre .replayable .before,
-      s .2 .order,
-      omega (arith, s .2 .small, replay .kept .0, start .pre .replayable .room),
-      carry-asks (now (start .args .work)) (replay .last .0) (start .args .n) (start .args .m) (start .args .v)
-          (now (start .args .marks)) (start .pre) _ (replay .ensures .0) (replay .ensures .1) _ (end .given .1),
-    )
+    carry-asks (now (start .args .work)) (replay .last .0) (start .args .n) (start .args .m) (start .args .v)
+    (now (start .args .marks)) (start .pre) (replay .result) (replay .ensures .0) (replay .ensures .1) _ (end .given .1)
+    (replay .kept .0)
 
 same-length : tie.Need-same-length
 same-length c = search needs
@@ -40,8 +31,8 @@ returns : tie.Need-returns
 returns c =
     let back = c .before .before .before in let replay = back .replay in
     let start = back .before .before .before .before in
-    none-walks (now (start .args .work)) (replay .last .0) (start .args .n) (start .args .m) (start .args .v)
-    (now (start .args .marks)) (start .pre) _ (replay .ensures .0) (replay .ensures .1)
+    no-clause-walks (now (start .args .work)) (replay .last .0) (start .args .n) (start .args .m) (start .args .v)
+    (now (start .args .marks)) (start .pre) (replay .result) (replay .ensures .0) (replay .ensures .1)
     (length (now (start .args .out))) (marked (now (start .args .marks))) (c .enum-told .given .1)
 
 same-length-2 : tie.Need-same-length-2
@@ -60,14 +51,13 @@ returns-2 c =
     let back = back .before .before .before in let replay = back .replay in
     let start = back .before .before .before .before in
     carry-walks (now (start .args .work)) (replay .last .0) (start .args .n) (start .args .m) (start .args .v)
-    (now (start .args .marks)) (start .pre) _ (replay .ensures .0) (replay .ensures .1) _ (end .given .1)
+    (now (start .args .marks)) (start .pre) (replay .result) (replay .ensures .0) (replay .ensures .1) _ (end .given .1)
     (now (start .args .out)) _ (carry-parts .result) (carry-parts .ensures)
 
-pub carry-texts-spec : {M : Type 1} → statement M
-carry-texts-spec =
+pub replay-and-carry-spec : {M : Type 1} → statement M
+replay-and-carry-spec =
     tie.close
     (tie.spec
-    add-replay
     replay-requires
     enum-told
     enum-known-end

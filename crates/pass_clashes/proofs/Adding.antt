@@ -168,12 +168,11 @@ module _ {work : List ℤ} {p : Progress} {v x y : ℕ} (r : Resolvable work p v
     parts-joinable o = record { one = omega (arith, one-inside i); other = omega (arith, other-inside j); space = omega (arith, r .space o, ap length joined-is) }
 
     module _ (o : opposed (resolvent c) ≡ false) {n : ℕ} {new : List ℤ} (d : n ≡ p .end + (length (joined work a na b nb v) + 1)) (w : new ≡ sets work (p .end) (entry (joined work a na b nb v))) where
-      pub added-within : (p .end < n) × (n ≤ length new) × (n ≤ p .end + 2 ^ 32)
-      added-within = (
-        omega (arith, d),
-        omega (arith, d, parts-joinable o .space, ap length w, length-sets work (p .end) (entry (joined work a na b nb v))),
-        omega (arith, d, ap length joined-is, resolvent-short),
-      )
+      same-size : length new ≡ length work
+      same-size = ap length w ∙ length-sets work (p .end) (entry (joined work a na b nb v))
+
+      pub added-within : (p .end < n) × (n ≤ length new) × (length new < 2 ^ 31)
+      added-within = (omega (arith, d), omega (arith, d, parts-joinable o .space, same-size), omega (arith, same-size, r .good .small))
 
       pub resolvent-grown : {log new-log : Bytes} {q : Progress} → Written (addition (take (n - (p .end + 1)) (drop (p .end + 1) new)) ∷ []) log p new-log q → q .end ≡ n → Grown (added-by c) work log p new new-log q
       unfolding only-if

@@ -2,7 +2,7 @@
 use mathlib.Core.Path.{_≡_, refl, sym, ap, ap₂, subst, _∙_}
 use mathlib.Core.Logic.{_≢_}
 use mathlib.Core.List.{List, [], _∷_, List·Memᴰ, List·Memᴰ·head as here, Memᴰ·append-right}
-use Prim.Native.Nat.{ℕ, _+_, _≤_, _<_, _^_, _-_}
+use Prim.Native.Nat.{ℕ, _+_, _≤_, _<_, _^_}
 use native.Mathlib.Omega.{arith}
 use lib.Dec.{ltb}
 use lib.IntN.{ℤ, pos, negℤ}
@@ -20,10 +20,7 @@ use Rattle.theory_soundness.proofs.Times.{times-at, times-removed}
 use Rattle.theory_soundness.proofs.Without.{only-removed}
 use Rattle.literals.specs.Literal.{negative, header-literals, flip}
 use Rattle.store.specs.Store.{Formed, stored, header-at, clause-at, past, marked}
-use mir.Syntax.{w32}
-use mir.Val.{SFits, ofZ, toZ}
-use mir.ValLaws.{toZ-ofZ}
-use Rattle.store.proofs.Laws.{part-there, place-within, place-formed, place-prefix, prefix-header, stored-around, marked-stored, marked-place, marked-before, marked-behind, kept-clause, past-within}
+use Rattle.store.proofs.Laws.{place-within, place-formed, place-prefix, prefix-header, stored-around, marked-stored, marked-place, marked-before, marked-behind, kept-clause, past-within}
 use Rattle.progress.specs.declared.Progress.{Progress}
 use Rattle.progress.specs.Progress.{Written, Log-room}
 use Rattle.progress.proofs.Laws.{written-then, room-rest}
@@ -104,13 +101,6 @@ once-removed {s} {at} l p i e =
 standing-mem : {s : List ℤ} {at : ℕ} → Stands-at s at → List·Memᴰ (clause-at s at) (stored s)
 standing-mem {s} {at} p = rw (stored-around s at (p .inside) (p .place) (p .stands)) (Memᴰ·append-right (stored (take at s)) (here refl))
 
--- the line of the clause, written from its part of the store
-pub clause-written : {x y : Bytes} {p q : Progress} (l : ℤ) (s : List ℤ) (at next : ℕ) → SFits w32 l → next ≡ past s at → Written (deletion (with-first (toZ w32 (ofZ w32 l)) (take (next - (at + 1)) (drop (at + 1) s))) ∷ []) x p y q
-    → Written (deletion (with-first l (clause-at s at)) ∷ []) x p y q
-clause-written {x} {y} {p} {q} l s at next f e w =
-    subst (λ (c : Clause). Written (deletion (with-first l c) ∷ []) x p y q) (part-there s at next e)
-    (subst (λ (z : ℤ). Written (deletion (with-first z (take (next - (at + 1)) (drop (at + 1) s))) ∷ []) x p y q) (toZ-ofZ w32 l f) w)
-
 -- ---- both are deleted
 module _ {s : List ℤ} {v x y : ℕ} (p : Parents s v x y) where
   abbrev mid : List ℤ
@@ -130,9 +120,6 @@ module _ {s : List ℤ} {v x y : ℕ} (p : Parents s v x y) where
 
   pub second-standing : Stands-at mid y
   second-standing = second-stays .standing
-
-  pub marked-short : length s < 2 ^ 31 → length mid < 2 ^ 31
-  marked-short h = omega (arith, length-set s x (flip (header-at s x)))
 
   second-holds : List·Memᴰ n (clause-at mid y)
   second-holds = rw (second-stays .clause) (p .other-holds)

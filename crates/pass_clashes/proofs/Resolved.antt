@@ -3,7 +3,7 @@ use mathlib.Core.Path.{_≡_, refl, sym, ap, ap₂, subst, _∙_}
 use mathlib.Core.Logic.{⊎-elim}
 use mathlib.Core.Bool.{Bool, true, false, not}
 use mathlib.Core.List.{List, [], _∷_, _++_, map, append-nil, List·Memᴰ, List·Memᴰ·append-cases}
-use Prim.Native.Nat.{ℕ, _≤_, _<_, _^_}
+use Prim.Native.Nat.{ℕ, _≤_, _<_}
 use native.Mathlib.Omega.{arith}
 use lib.IntN.{ℤ, pos, negℤ}
 use lib.ListN.{length, take, drop, length-append, length-drop}
@@ -120,9 +120,6 @@ module _ {work : List ℤ} {p : Progress} {v x y : ℕ} (r : Resolvable work p v
       apart = λ i. parents r .apart (rw (one-kept .1) at i);
       small = parents r .small;
     }
-
-    pub part-short : length new ≡ length work → length t < 2 ^ 31
-    part-short m = omega (arith, m, size, there .inside, r .good .small)
 
     pub room-kept : Log-room (parent-lines (clash-there t v x y)) q
     room-kept = subst (λ (e : Clash). Log-room (parent-lines e) q) (sym same-clash) (room-rest (map addition (added-by c)) (parent-lines c) (rw (clash-parts c) at (r .good .room)) (d .written))

@@ -207,21 +207,6 @@ fn append_resolvent(
     d
 }
 
-// Deletes the clause at a place, recorded with a literal first.
-fn delete_first(work: &mut [i32], at: usize, log: &mut [u8], p: Progress, l: i32) -> Progress
-    requires { ⌜ (at < length (now work)) × Formed (drop at (now work)) × (length (now work) < 2 ^ 31) ⌝ }
-    requires { ⌜ (p .at < 2 ^ 63) × (p .lines < 2 ^ 63) ⌝ }
-    ensures written { λ r. ⌜ Written (deletion (with-first l (clause-at (now (work .entry)) at)) ∷ []) (now (log .entry)) p (now (log .exit)) r ⌝ }
-    ensures kept { λ r. ⌜ r .end ≡ p .end ⌝ }
-    ensures marked { λ _. ⌜ now (work .exit) ≡ marked (now (work .entry)) at ⌝ }
-{
-    let next = store::next_at(work, at);
-    let first = at + 1;
-    let q = progress::record_first(log, p, l, &work[first..next]);
-    store::mark_deleted(work, at);
-    q
-}
-
 // ---- one clash
 
 // Adds the resolvent of the clauses at x and y, and records it, unless it has a literal and its negation.
@@ -257,12 +242,12 @@ fn delete_parents(
     x: usize,
     y: usize,
 ) -> Progress
-    requires { ⌜ Parents (now store) v x y × (length (now store) < 2 ^ 31) ⌝ }
+    requires { ⌜ Parents (now store) v x y ⌝ }
     requires { ⌜ Log-room (parent-lines (clash-there (now store) v x y)) p ⌝ }
     ensures { λ r. ⌜ Parents-gone (clash-there (now (store .entry)) v x y) (now (store .entry)) (now (log .entry)) p (now (store .exit)) (now (log .exit)) r ⌝ }
 {
-    let q = delete_first(store, x, log, p, literals::signed(false, v));
-    delete_first(store, y, log, q, literals::signed(true, v))
+    let q = progress::delete_first(store, x, log, p, literals::signed(false, v));
+    progress::delete_first(store, y, log, q, literals::signed(true, v))
 }
 
 // Clears the clash of v whose clauses are at x and y.

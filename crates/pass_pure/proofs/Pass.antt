@@ -201,10 +201,10 @@ module _ (t : List ℕ) (s : List ℤ) (at next : ℕ) (e : next ≡ past s at) 
       rw (d, k) (refl, refl, refl)
 
   pub at-literal : {log new-log : Bytes} {p q : Progress} {new : List ℤ} {r : Pure} (l : ℤ) → r ≡ as-pure (pure-by t (take (next - (at + 1)) (drop (at + 1) s))) → r ≡ Literal l → new ≡ marked s at →
-      Written (deletion (with-first l (take (next - (at + 1)) (drop (at + 1) s))) ∷ []) log p new-log q → q .end ≡ p .end → Step (pure-at t s at) s at log p new new-log q
+      Written (deletion (with-first l (clause-at s at)) ∷ []) log p new-log q → q .end ≡ p .end → Step (pure-at t s at) s at log p new new-log q
   at-literal l a b n w f =
       let k = literal-is (pure-by t (clause-at s at)) l (ap (λ (c : Clause). as-pure (pure-by t c)) (sym part) ∙ sym a ∙ b) in
-      rw (d, k) (n, rw part at w, f)
+      rw (d, k) (n, w, f)
 
 -- ---- the workspace's store
 

@@ -60,11 +60,7 @@ fn delete_at(work: &mut [i32], at: usize, counts: &[u32], log: &mut [u8], p: Pro
     let next = store::next_at(work, at);
     let first = at + 1;
     match pure_literal(counts, &work[first..next]) {
-        Pure::Literal(l) => {
-            let q = progress::record_first(log, p, l, &work[first..next]);
-            store::mark_deleted(work, at);
-            q
-        }
+        Pure::Literal(l) => progress::delete_first(work, at, log, p, l),
         Pure::Nothing => p,
     }
 }

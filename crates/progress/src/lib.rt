@@ -10,7 +10,7 @@ ghost use Rattle.definition.specs.Standing.{addition, deletion};
 ghost use Rattle.theory_text.specs.ClauseText.{literals-text};
 ghost use Rattle.literals.specs.Literal.{largest};
 ghost use Rattle.text.specs.Output.{Put};
-ghost use Rattle.store.specs.Store.{Formed};
+ghost use Rattle.store.specs.Store.{clause-at, marked, Formed};
 ghost use Rattle.drat.specs.Lines.{line-of};
 ghost use Rattle.progress.specs.Progress.{Written, Slid-down};
 ghost use Rattle.progress.specs.Growth.{Grow-room, Grown};
@@ -79,7 +79,7 @@ fn put_first(log: &mut [u8], at: usize, first: i32) -> usize
 }
 
 // Records the deletion of a clause with a literal first and the others in order.
-pub fn record_first(log: &mut [u8], p: Progress, first: i32, clause: &[i32]) -> Progress
+fn record_first(log: &mut [u8], p: Progress, first: i32, clause: &[i32]) -> Progress
     requires { ⌜ p .at + 12 * length (now clause) + 16 < 2 ^ 64 ⌝ }
     requires { ⌜ p .lines + 1 < 2 ^ 64 ⌝ }
     ensures written { λ r. ⌜ Written (deletion (with-first first (now (clause .entry))) ∷ []) (now (log .entry)) p (now (log .exit)) r ⌝ }
@@ -94,6 +94,22 @@ pub fn record_first(log: &mut [u8], p: Progress, first: i32, clause: &[i32]) -> 
         at,
         lines: p.lines + 1,
     }
+}
+
+// Deletes the clause at a place, and records it with a literal first.
+pub fn delete_first(work: &mut [i32], at: usize, log: &mut [u8], p: Progress, l: i32) -> Progress
+    requires { ⌜ (at < length (now work)) × Formed (drop at (now work)) ⌝ }
+    requires { ⌜ (p .at < 2 ^ 63) × (p .lines < 2 ^ 63) ⌝ }
+    ensures written { λ r. ⌜ Written (deletion (with-first l (clause-at (now (work .entry)) at)) ∷ []) (now (log .entry)) p (now (log .exit)) r ⌝ }
+    ensures kept { λ r. ⌜ r .end ≡ p .end ⌝ }
+    ensures marked { λ _. ⌜ now (work .exit) ≡ marked (now (work .entry)) at ⌝ }
+{
+    let n = literals::header_length(work[at]);
+    let first = at + 1;
+    let next = first + n;
+    let q = record_first(log, p, l, &work[first..next]);
+    store::mark_deleted(work, at);
+    q
 }
 
 // ---- the store in a workspace

@@ -6,7 +6,7 @@ use borrow.Author.Needs.{sfits-of}
 use Rattle.literals.proofs.Laws.{signed-small}
 use mir.Syntax.{w32}
 use mir.ValLaws.{toZ-ofZ}
-use Rattle.pass_clashes.proofs.Parents.{second-standing, marked-short, parents-room, parents-gone}
+use Rattle.pass_clashes.proofs.Parents.{second-standing, parents-room, parents-gone}
 use borrow.Author.Needs.{needs}
 use Rattle.pass_clashes.proofs.delete_parents.Statement.{statement}
 use Rattle.pass_clashes.proofs.delete_parents.Tie as tie
@@ -25,13 +25,13 @@ delete-first-requires-2 c κs =
     let back = c .before .before .before .before .before .before in let delete-first = back .delete-first in
     let back = back .before in let signed = back .signed in
     let start = back .before .before .before .before in
-    let p = start .pre .0 .0 in
+    let p = start .pre .0 in
     let v = start .args .v in
     let e = toZ-ofZ w32 (signed .result) (sfits-of (signed .ok))
     ∙ signed .ensures
     ∙ signed-small false v (omega (arith, p .small)) in
     let s = second-standing p in (
-      rw (delete-first .ensures .1 .1) (s .inside, s .place .rest, marked-short p (start .pre .0 .1)),
+      rw (delete-first .ensures .1 .1) (s .inside, s .place .rest),
       parents-room p _ e (start .pre .1) (delete-first .ensures .0),
     )
 
@@ -48,7 +48,7 @@ returns c =
     let back = back .before .before .before .before .before .before in let delete-first = back .delete-first in
     let back = back .before in let signed = back .signed in
     let start = back .before .before .before .before in
-    let p = start .pre .0 .0 in
+    let p = start .pre .0 in
     let v = start .args .v in
     let e = toZ-ofZ w32 (signed .result) (sfits-of (signed .ok))
     ∙ signed .ensures

@@ -1,7 +1,7 @@
 -- The resolvent holds neither literal of the variable and moves neither clause (Resolved).
 use mathlib.Core.Path.{sym}
 use lib.Seq.{length-take-le}
-use Rattle.pass_clashes.proofs.Resolved.{end-inside, parents-kept, part-short, room-kept, resolved}
+use Rattle.pass_clashes.proofs.Resolved.{end-inside, parents-kept, room-kept, resolved}
 use borrow.Author.Needs.{needs}
 use Rattle.pass_clashes.proofs.resolve.Statement.{statement}
 use Rattle.pass_clashes.proofs.resolve.Tie as tie
@@ -25,7 +25,7 @@ delete-parents-requires : tie.Need-delete-parents-requires
 delete-parents-requires c κs =
     let back = c .before .before .before .before .before in let add-resolvent = back .add-resolvent in
     let start = back .before .before .before .before in
-    ((parents-kept (start .pre) (add-resolvent .ensures), part-short (start .pre) (add-resolvent .ensures) (add-resolvent .kept .0)), room-kept (start .pre) (add-resolvent .ensures))
+    (parents-kept (start .pre) (add-resolvent .ensures), room-kept (start .pre) (add-resolvent .ensures))
 
 same-length : tie.Need-same-length
 same-length c = search needs

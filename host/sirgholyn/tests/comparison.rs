@@ -67,8 +67,8 @@ fn in_order(seed: u64, occurred: &mut Occurred) {
     let formula = any_kind(&mut random);
     let text = text_of(&formula);
     for form in [0, 2] {
-        let (form, wish) = WAYS[form + random.below(2)];
-        let encoding = run_model(&formula, form, wish);
+        let (form, arrangement) = WAYS[form + random.below(2)];
+        let encoding = run_model(&formula, form, arrangement);
         note_run(occurred, &encoding);
         let log = log_text(&encoding.log);
         let new = new_formula(&encoding);
@@ -81,7 +81,7 @@ fn in_order(seed: u64, occurred: &mut Occurred) {
         outcome(
             occurred,
             "reencode",
-            compare_reencode(&text, form, wish, room),
+            compare_reencode(&text, form, arrangement, room),
         );
 
         let store = around(&mut random, work_for(&new));
@@ -110,8 +110,8 @@ fn in_order(seed: u64, occurred: &mut Occurred) {
 fn changed(seed: u64, occurred: &mut Occurred) {
     let mut random = Random::new(seed + (1 << 32));
     let formula = any_kind(&mut random);
-    let (form, wish) = *random.one_of(&WAYS);
-    let encoding = run_model(&formula, form, wish);
+    let (form, arrangement) = *random.one_of(&WAYS);
+    let encoding = run_model(&formula, form, arrangement);
     let mut text = text_of(&formula);
     for _ in 0..random.below(3) {
         text = damage(&mut random, &text);
@@ -124,7 +124,7 @@ fn changed(seed: u64, occurred: &mut Occurred) {
     outcome(
         occurred,
         "reencode",
-        compare_reencode(&text, form, wish, room),
+        compare_reencode(&text, form, arrangement, room),
     );
     outcome(occurred, "read-back", compare_read_back(&text, room.work));
 

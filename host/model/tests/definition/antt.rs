@@ -2,7 +2,7 @@
 //! gives. All that is written in the checker's language stands in this file.
 
 use crate::rows::{Call, Outcome, Row};
-use model::{Form, Wish};
+use model::{Arrangement, Form};
 
 /// What the rows' theorems share: settings, and tests of what a call gives. `computing` opens all that a
 /// row computes with.
@@ -35,10 +35,10 @@ use Rattle.definition.specs.Calls.{Tally, Reencoded}
 use Rattle.definition.specs.Sessions.{counter, order, good, is-fault}
 
 unfoldable pub counter-aligned : Settings
-counter-aligned = record { form = Reencoding.counter-form; wish = Alignment.alignment }
+counter-aligned = record { form = Reencoding.counter-form; arrangement = Alignment.alignment }
 
 unfoldable pub order-aligned : Settings
-order-aligned = record { form = Reencoding.order-form; wish = Alignment.alignment }
+order-aligned = record { form = Reencoding.order-form; arrangement = Alignment.alignment }
 
 unfoldable pub same-tally : Tally → Tally → Bool
 same-tally a b =
@@ -111,13 +111,13 @@ fn call_text(call: &Call) -> String {
     match call {
         Call::Reencode {
             form,
-            wish,
+            arrangement,
             work,
             log_room,
             formula_room,
             text,
         } => {
-            let settings = settings(*form, *wish);
+            let settings = settings(*form, *arrangement);
             let text = quoted(text);
             format!("reencode {settings} {work} {log_room} {formula_room} (bytes {text})")
         }
@@ -137,12 +137,12 @@ fn call_text(call: &Call) -> String {
     }
 }
 
-fn settings(form: Form, wish: Wish) -> &'static str {
-    match (form, wish) {
-        (Form::Counter, Wish::None) => "counter",
-        (Form::Counter, Wish::Align) => "counter-aligned",
-        (Form::Order, Wish::None) => "order",
-        (Form::Order, Wish::Align) => "order-aligned",
+fn settings(form: Form, arrangement: Arrangement) -> &'static str {
+    match (form, arrangement) {
+        (Form::Counter, Arrangement::AsListed) => "counter",
+        (Form::Counter, Arrangement::Alignment) => "counter-aligned",
+        (Form::Order, Arrangement::AsListed) => "order",
+        (Form::Order, Arrangement::Alignment) => "order-aligned",
     }
 }
 

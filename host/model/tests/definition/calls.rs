@@ -6,10 +6,10 @@ use model::generator::{answer_after, damage, damage_log, noise, planned, text_of
 use model::reading::Formula;
 use model::texts::log_text;
 use model::walk_back::workspace_needed;
-use model::{reencode, walk_back, Form, Wish};
+use model::{reencode, walk_back, Arrangement, Form};
 
 pub const FORMS: [Form; 2] = [Form::Counter, Form::Order];
-pub const WISHES: [Wish; 2] = [Wish::None, Wish::Align];
+pub const ARRANGEMENTS: [Arrangement; 2] = [Arrangement::AsListed, Arrangement::Alignment];
 
 /// A formula that the checker computes in little time.
 pub fn small(random: &mut Random) -> Formula {
@@ -116,15 +116,15 @@ pub fn reencoding(
     formula: Formula,
     random: &mut Random,
     form: Form,
-    wish: Wish,
+    arrangement: Arrangement,
     damaged: usize,
 ) -> Call {
     let text = perhaps_damaged(random, text_of(&formula), damaged);
-    let result = reencode(&text, form, wish, PLENTY as u64, PLENTY, PLENTY);
+    let result = reencode(&text, form, arrangement, PLENTY as u64, PLENTY, PLENTY);
     let (log, new) = result.map_or((100, 100), |r| (r.log.len(), r.formula.len()));
     Call::Reencode {
         form,
-        wish,
+        arrangement,
         work: room(random, formula.workspace_needed() as usize, damaged),
         log_room: room(random, log, damaged),
         formula_room: room(random, new, damaged),
@@ -133,7 +133,7 @@ pub fn reencoding(
 }
 
 pub fn reading_back(formula: Formula, random: &mut Random, form: Form, damaged: usize) -> Call {
-    let run = Encoding::run(&formula, form, *random.one_of(&WISHES));
+    let run = Encoding::run(&formula, form, *random.one_of(&ARRANGEMENTS));
     let new = Formula {
         variables: run.highest,
         clauses: run.standing.clauses(),
@@ -146,7 +146,7 @@ pub fn reading_back(formula: Formula, random: &mut Random, form: Form, damaged: 
 
 /// With the lines of a log damaged too, and other numbers of lines kept than all of them.
 pub fn walking_back(formula: Formula, random: &mut Random, form: Form, damaged: usize) -> Call {
-    let mut lines = Encoding::run(&formula, form, *random.one_of(&WISHES)).log;
+    let mut lines = Encoding::run(&formula, form, *random.one_of(&ARRANGEMENTS)).log;
     if random.chance(damaged) {
         lines = damage_log(random, &lines);
     }

@@ -2,7 +2,7 @@
 
 use crate::rows::{Call, Row};
 use model::encoding::Encoding;
-use model::Wish;
+use model::Arrangement;
 use std::collections::BTreeMap;
 
 pub type Counts = BTreeMap<String, usize>;
@@ -32,12 +32,18 @@ fn count(counts: &mut Counts, what: impl Into<String>, times: usize) {
 }
 
 fn count_reencoding(counts: &mut Counts, row: &Row) {
-    let (Call::Reencode { form, wish, .. }, Some(run)) = (&row.call, row.run()) else {
+    let (
+        Call::Reencode {
+            form, arrangement, ..
+        },
+        Some(run),
+    ) = (&row.call, row.run())
+    else {
         return;
     };
-    let aligned = match wish {
-        Wish::Align => ", aligned",
-        Wish::None => "",
+    let aligned = match arrangement {
+        Arrangement::Alignment => ", aligned",
+        Arrangement::AsListed => "",
     };
     count(counts, format!("{form:?}{aligned}"), 1);
     let matters = usize::from(row.alignment_matters());

@@ -2,12 +2,12 @@
 
 use crate::calls::{
     choice_of_20, linked_choices, reading_back, reencoding, small, unique_clause, walking_back,
-    FORMS, WISHES,
+    ARRANGEMENTS, FORMS,
 };
 use crate::rows::{Call, Row};
 use model::encoding::Encoding;
 use model::generator::{text_of, Random};
-use model::{Form, Wish};
+use model::{Arrangement, Form};
 
 pub fn rows(seed: u64) -> Vec<Row> {
     let mut drawn = Drawn {
@@ -60,8 +60,9 @@ impl Drawn {
     }
 
     fn reencodings(&mut self, form: Form) {
-        for wish in WISHES {
-            let draw = |random: &mut Random| reencoding(small(random), random, form, wish, 5);
+        for arrangement in ARRANGEMENTS {
+            let draw =
+                |random: &mut Random| reencoding(small(random), random, form, arrangement, 5);
             self.add(20, draw, |_| true);
             self.add(20, draw, |row| has(row, |run| !run.choices.is_empty()));
             self.add(6, draw, |row| has(row, |run| run.tally.chained_clashes > 0));
@@ -74,11 +75,20 @@ impl Drawn {
     }
 
     fn aligned(&mut self, form: Form) {
-        let draw = |random: &mut Random| reencoding(small(random), random, form, Wish::Align, 0);
+        let draw = |random: &mut Random| {
+            reencoding(small(random), random, form, Arrangement::Alignment, 0)
+        };
         self.add(10, draw, Row::alignment_matters);
         self.add(4, draw, |row| has(row, |run| run.tally.unalignable > 0));
-        let draw =
-            |random: &mut Random| reencoding(linked_choices(random), random, form, Wish::Align, 0);
+        let draw = |random: &mut Random| {
+            reencoding(
+                linked_choices(random),
+                random,
+                form,
+                Arrangement::Alignment,
+                0,
+            )
+        };
         self.add(1, draw, Row::alignment_matters);
     }
 
@@ -97,8 +107,9 @@ impl Drawn {
 
     /// The whole log of a choice of 20, written and walked back.
     fn twenty(&mut self, form: Form) {
-        let draw =
-            |random: &mut Random| reencoding(choice_of_20(random), random, form, Wish::None, 0);
+        let draw = |random: &mut Random| {
+            reencoding(choice_of_20(random), random, form, Arrangement::AsListed, 0)
+        };
         self.add(1, draw, |_| true);
         let draw = |random: &mut Random| walking_back(choice_of_20(random), random, form, 0);
         self.add(1, draw, |row| row.number() == 0 && !row.is_cut());
@@ -106,8 +117,8 @@ impl Drawn {
 
     fn refused_reencodings(&mut self) {
         let draw = |random: &mut Random| {
-            let (form, wish) = (*random.one_of(&FORMS), *random.one_of(&WISHES));
-            reencoding(small(random), random, form, wish, 50)
+            let (form, arrangement) = (*random.one_of(&FORMS), *random.one_of(&ARRANGEMENTS));
+            reencoding(small(random), random, form, arrangement, 50)
         };
         for number in (1..=8).chain(11..=13) {
             self.add(6, draw, |row| row.number() == number);
@@ -148,7 +159,7 @@ impl Drawn {
         for size in [4, 5, 65] {
             let draw = |random: &mut Random| {
                 let formula = unique_clause(random, size);
-                reencoding(formula, random, Form::Order, Wish::Align, 0)
+                reencoding(formula, random, Form::Order, Arrangement::Alignment, 0)
             };
             self.add(1, draw, |_| true);
         }

@@ -2,12 +2,12 @@
 
 use crate::rows::{Call, Row, Text, PLENTY};
 use model::texts::formula_text;
-use model::{Form, Wish};
+use model::{Arrangement, Form};
 
 fn reencoding(text: Text) -> Row {
     Row::of(Call::Reencode {
         form: Form::Counter,
-        wish: Wish::None,
+        arrangement: Arrangement::AsListed,
         work: PLENTY,
         log_room: PLENTY,
         formula_room: PLENTY,

@@ -5,7 +5,7 @@ use model::encoding::Encoding;
 use model::generator::text_of;
 use model::reading::{read_formula, Formula, INPUT_LIMITS};
 use model::texts::{answer_text, log_text, Line};
-use model::{read_back, reencode, walk_back, Form, Wish};
+use model::{read_back, reencode, walk_back, Arrangement, Form};
 
 pub type Text = Vec<u8>;
 
@@ -16,7 +16,7 @@ pub const PLENTY: usize = 1_000_000;
 pub enum Call {
     Reencode {
         form: Form,
-        wish: Wish,
+        arrangement: Arrangement,
         work: usize,
         log_room: usize,
         formula_room: usize,
@@ -82,20 +82,30 @@ impl Row {
     pub fn run(&self) -> Option<Encoding> {
         match &self.call {
             Call::Reencode {
-                form, wish, text, ..
+                form,
+                arrangement,
+                text,
+                ..
             } if self.number() == 0 => {
                 let formula = read_formula(text, &INPUT_LIMITS).ok()?;
-                Some(Encoding::run(&formula, *form, *wish))
+                Some(Encoding::run(&formula, *form, *arrangement))
             }
             _ => None,
         }
     }
 
-    /// Without the wish, the log would be another one.
+    /// Without the arrangement, the log would be another one.
     pub fn alignment_matters(&self) -> bool {
         match (&self.call, &self.outcome) {
             (Call::Reencode { form, text, .. }, Outcome::Reencoded { log, .. }) => {
-                let other = reencode(text, *form, Wish::None, PLENTY as u64, PLENTY, PLENTY);
+                let other = reencode(
+                    text,
+                    *form,
+                    Arrangement::AsListed,
+                    PLENTY as u64,
+                    PLENTY,
+                    PLENTY,
+                );
                 other.is_ok_and(|other| other.log != *log)
             }
             _ => false,
@@ -129,12 +139,20 @@ fn given(call: &Call) -> Result<Outcome, u8> {
     match call {
         Call::Reencode {
             form,
-            wish,
+            arrangement,
             work,
             log_room,
             formula_room,
             text,
-        } => reencode(text, *form, *wish, *work as u64, *log_room, *formula_room).map(reencoded),
+        } => reencode(
+            text,
+            *form,
+            *arrangement,
+            *work as u64,
+            *log_room,
+            *formula_room,
+        )
+        .map(reencoded),
         Call::ReadBack { work, text } => {
             let (variables, clauses) = read_back(text, *work as u64)?;
             Ok(Outcome::Read(text_of(&Formula { variables, clauses })))
@@ -149,7 +167,11 @@ fn given(call: &Call) -> Result<Outcome, u8> {
         } => walk_back(text, log, *kept, answer, *work as u64, *room).map(Outcome::Line),
         Call::Choose { text } => {
             let formula = read_formula(text, &INPUT_LIMITS)?;
-            Ok(chosen(&Encoding::run(&formula, Form::Counter, Wish::None)))
+            Ok(chosen(&Encoding::run(
+                &formula,
+                Form::Counter,
+                Arrangement::AsListed,
+            )))
         }
     }
 }

@@ -1,247 +1,251 @@
--- The published call: its answer and both buffers, case by case.
-use mathlib.Core.Path.{_≡_, refl, sym, ap, ap₂, _∙_, subst}
-use mathlib.Core.Bool.{Bool}
+-- The call case by case: what the reader and the run leave is what the definition's outcome has.
+use mathlib.Core.Path.{_≡_, refl, sym, ap, _∙_, subst}
+use mathlib.Core.Bool.{Bool, true, false, cond}
 use mathlib.Core.List.{List, _++_}
 use Prim.Native.Nat.{ℕ, _+_, _*_, _≤_, _<_, _^_}
 use native.Mathlib.Omega.{arith}
+use lib.Dec.{ltb}
 use lib.IntN.{ℤ}
-use lib.ListN.{length, take, drop, replicate, length-take, length-append}
-use lib.Seq.{sets, sets-eq, length-sets, take-at, take-append-le}
-use borrow.Author.Tests.{lt-ltb, le-ltb}
+use lib.ListN.{length, take, drop, replicate}
+use lib.Seq.{sets-eq, length-sets, take-at, take-take, length-take-le}
+use borrow.Author.Tests.{lt-ltb, le-ltb, ltb-false}
 use Rattle.definition.specs.Checked.{Checked, fault, value, _>>=_, refuse-if}
 use Rattle.definition.specs.Literals.{Formula, literals-of}
 use Rattle.definition.specs.Text.{Bytes}
-use Rattle.definition.specs.Reading.{Limits, Input, input-limits, read-formula}
+use Rattle.definition.specs.Reading.{Limits, Input, as-read, input-limits, read-formula}
 use Rattle.definition.specs.Log.{log-text, formula-text}
-use Rattle.definition.specs.Reencoding.{Settings, input, log, result, highest-used}
-use Rattle.definition.specs.Calls.{Reencoded, reencoded, workspace-need, numbers-of, reencode, buffer-after}
-use Rattle.theory_text.proofs.Accepted.{accepted}
+use Rattle.definition.specs.Reencoding.{Settings, chosen, events, log, result, highest-used}
+use Rattle.definition.specs.Calls.{read-input, Reencoded, reencoded, workspace-need, numbers-of, reencode, buffer-after}
 use Rattle.theory_text.specs.Accepted.{Accepted}
+use Rattle.theory_text.proofs.Accepted.{input-accepted, input-highest}
 use Rattle.text.specs.Output.{Put}
 use Rattle.text.proofs.Output.{put-length}
-use Rattle.store.specs.Store.{Formed, stored, Compacted}
-use Rattle.dimacs.specs.HeaderLine.{limits-of}
-use Rattle.dimacs.specs.Outcome.{checked-of}
-use Rattle.dimacs.specs.Loading.{entries}
-use Rattle.dimacs.specs.declared.Limits as Code
-use Rattle.dimacs.specs.declared.Checked as Code-checked
-use Rattle.dimacs.specs.declared.Checked.the-variants as Answer
-use Rattle.dimacs.proofs.Loads.{checked-fault, Formula-is, checked-formula}
-use Rattle.dimacs.proofs.Stored.{entries-formed, entries-stored, entries-numbers}
-use Rattle.theory_run.specs.Sizes.{Sizes}
-use Rattle.theory_run.proofs.Sizes.{sizes}
-use Rattle.call_reencode.specs.declared.Form as Code-form
-use Rattle.call_reencode.specs.declared.Wish as Code-wish
-use Rattle.call_reencode.specs.declared.Run.{Run}
-use Rattle.call_reencode.specs.declared.Reencoding as Code-outcome
+use Rattle.store.specs.Store.{stored}
+use Rattle.store.proofs.Laws.{few-stored}
+use Rattle.dimacs.specs.Limits.{limits-of}
+use Rattle.dimacs.specs.Entries.{entries}
+use Rattle.dimacs.specs.Outcome.{read-of, Filled}
+use Rattle.dimacs.specs.declared.Limits as Code-limits
+use Rattle.dimacs.specs.declared.FormulaRead.{FormulaRead}
+use Rattle.dimacs.specs.declared.FormulaRead.the-variants as FormulaRead
+use Rattle.dimacs.proofs.Entries.{entries-formed, entries-stored, entries-numbers}
+use Rattle.dimacs.proofs.Outcome.{Formula-is, formula-answer}
+use Rattle.progress.specs.Progress.{standing}
+use Rattle.run.specs.declared.Settings as Code-settings
+use Rattle.run.specs.declared.Reached.{Reached}
+use Rattle.run.specs.Settings.{settings-of}
+use Rattle.run.specs.Run.{input-in, Run-ready, Ran-all}
+use Rattle.call_reencode.specs.declared.Reencoding as Code
+use Rattle.call_reencode.specs.declared.Tally.{Tally}
 use Rattle.call_reencode.specs.declared.Reencoding.the-variants as Reencoding
-use Rattle.call_reencode.specs.Choosing.{form-of}
-use Rattle.call_reencode.specs.Outcome.{named-form, named-wish, settings-of, outcome-of}
-use Rattle.call_reencode.specs.Run.{wish-of, settings-by, input-in, Run-ready, Ran-all}
+use Rattle.call_reencode.specs.Outcome.{outcome-of, outcome}
+use Rattle.call_reencode.specs.Result.{Left, Finishes, fitted, Answers}
 
-pub settings-named : (f : Code-form.Form) (w : Code-wish.Wish) (is-order is-aligned : Bool) → form-of is-order ≡ named-form f → wish-of is-aligned ≡ named-wish w → settings-by is-order is-aligned ≡ settings-of f w
-settings-named f w is-order is-aligned e g = rw (e, g) refl
-
--- what the call promises of its answer and both buffers
-abbrev pub Answered : Checked Reencoded → Bytes → Bytes → Code-outcome.Reencoding → Bytes → Bytes → Type 0
-Answered o log formula r new-log new-formula = (r ≡ outcome-of o) × (new-log ≡ buffer-after 0 o (λ a. a .log) log) × (new-formula ≡ buffer-after 0 o (λ a. a .formula) formula)
-
--- both buffers zero, and the number
-abbrev pub Turned-down : ℕ → Bytes → Bytes → Code-outcome.Reencoding → Bytes → Bytes → Type 0
-Turned-down n log formula r new-log new-formula = (r ≡ Reencoding.Refused n) × (new-log ≡ replicate (length log) 0) × (new-formula ≡ replicate (length formula) 0)
-
-refused : (o : Checked Reencoded) (log formula : Bytes) {new-log new-formula : Bytes} {r : Code-outcome.Reencoding} (n : ℕ) → o ≡ fault n → Turned-down n log formula r new-log new-formula → Answered o log formula r new-log new-formula
-unfolding buffer-after
-refused o log formula n e t = rw e t
-
--- a buffer of the same length
-turned : {n : ℕ} (log log₂ formula formula₂ : Bytes) {new-log new-formula : Bytes} {r : Code-outcome.Reencoding} → length log₂ ≡ length log → length formula₂ ≡ length formula → Turned-down n log₂ formula₂ r new-log new-formula → Turned-down n log formula r new-log new-formula
-turned log log₂ formula formula₂ e g t = (t .0, t .1 ∙ ap (λ (k : ℕ). replicate k 0) e, t .2 ∙ ap (λ (k : ℕ). replicate k 0) g)
+-- ---- buffers
 
 -- what is written from the start of a buffer that has room
-written-first : {old new text : Bytes} {n : ℕ} → Put old 0 text n new → n ≤ length old → new ≡ text ++ drop (length text) old
+written-first : {old new text : Bytes} {n : ℕ} → Put old 0 text n new → length text ≤ length old → new ≡ text ++ drop (length text) old
 written-first {old} {new} {text} p h =
     let e : 0 + length text ≡ length text = omega arith in
-    p .kept ∙ sets-eq text old 0 (omega (arith, p .next)) ∙ ap (λ (k : ℕ). text ++ drop k old) e
+    p .kept ∙ sets-eq text old 0 (omega arith) ∙ ap (λ (k : ℕ). text ++ drop k old) e
 
--- two results with the same numbers
-done-same : {a b c d e f a' b' c' d' e' f' : ℕ} → a ≡ a' → b ≡ b' → c ≡ c' → d ≡ d' → e ≡ e' → f ≡ f' →
-    Reencoding.Done (record { choices = a; highest = b; clauses = c; lines = d; «log_bytes» = e; «formula_bytes» = f }) ≡ Reencoding.Done (record { choices = a'; highest = b'; clauses = c'; lines = d'; «log_bytes» = e'; «formula_bytes» = f' })
-done-same p q r s t u = rw (p, q, r, s, t, u) refl
+-- a fault: nothing is asked of the buffers
+refused : {o : Checked Reencoded} {log formula new-log new-formula : Bytes} (n : ℕ) → o ≡ fault n → Answers o log formula (Reencoding.Refused n) new-log new-formula
+refused n e = record {
+  answer = rw e refl;
+  log-written = λ r q. absurd (let z : _≡_ {A = ℕ} 0 1 = cc in omega arith);
+  formula-written = λ r q. absurd (let z : _≡_ {A = ℕ} 0 1 = cc in omega arith);
+}
 
-make : ℕ → Formula → Input
-make n f = record { variables = n; formula = f }
+value-is : {A : Type 0} (P : A → Type 0) {o : Checked A} (a : A) → o ≡ value a → P a → (b : A) → o ≡ value b → P b
+value-is P a e p b q = let s : a ≡ b = cc in subst P s p
 
-module _ (t : Bytes) (s : Settings) (work : List ℤ) (log₀ formula₀ : Bytes) (m : Code.Limits) (k : limits-of m ≡ input-limits) (a : Code-checked.Checked) (p : a ≡ checked-of (read-formula (limits-of m) t)) where
-  abbrev outcome : Checked Reencoded
-  outcome = reencode s (length work) (length log₀) (length formula₀) t
+done : {o : Checked Reencoded} {log formula new-log new-formula : Bytes} {a : Code.Reencoding} (r : Reencoded) → o ≡ value r → a ≡ outcome-of (value r) → new-log ≡ r .log ++ drop (length (r .log)) log →
+    new-formula ≡ r .formula ++ drop (length (r .formula)) formula → Answers o log formula a new-log new-formula
+done {o} {log} {formula} {new-log} {new-formula} r e a x y = record {
+  answer = rw e a;
+  log-written = value-is (λ (b : Reencoded). new-log ≡ b .log ++ drop (length (b .log)) log) r e x;
+  formula-written = value-is (λ (b : Reencoded). new-formula ≡ b .formula ++ drop (length (b .formula)) formula) r e y;
+}
 
-  here : read-formula (limits-of m) t ≡ read-formula input-limits t
-  here = ap (λ (l : Limits). read-formula l t) k
+-- by the sizes of the buffers
+fits-answers : (r : Reencoded) (log formula : Bytes) {new-log new-formula : Bytes} {a : Code.Reencoding} →
+    a ≡ cond (ltb (length log) (length (r .log))) (Reencoding.Refused 12) (cond (ltb (length formula) (length (r .formula))) (Reencoding.Refused 13) (outcome-of (value r))) →
+    (length (r .log) ≤ length log → new-log ≡ r .log ++ drop (length (r .log)) log) → (length (r .formula) ≤ length formula → new-formula ≡ r .formula ++ drop (length (r .formula)) formula) →
+    Answers (refuse-if (ltb (length log) (length (r .log))) 12 (refuse-if (ltb (length formula) (length (r .formula))) 13 (value r))) log formula a new-log new-formula
+unfolding refuse-if
+fits-answers r log formula {new-log} {new-formula} {a} e x y = go (ltb (length log) (length (r .log))) refl (ltb (length formula) (length (r .formula))) refl e
+  where
+    go : (s : Bool) → ltb (length log) (length (r .log)) ≡ s → (t : Bool) → ltb (length formula) (length (r .formula)) ≡ t → a ≡ cond s (Reencoding.Refused 12) (cond t (Reencoding.Refused 13) (outcome-of (value r))) →
+        Answers (refuse-if s 12 (refuse-if t 13 (value r))) log formula a new-log new-formula
+    go true p t q z = rw z (refused 12 refl)
+    go false p true q z = rw z (refused 13 refl)
+    go false p false q z = done r refl z (x (ltb-false (length log) (length (r .log)) p)) (y (ltb-false (length formula) (length (r .formula)) q))
 
-  pub call-fault : (n : ℕ) {r : Code-outcome.Reencoding} {x y : Bytes} → a ≡ Answer.Fault n → Turned-down n log₀ formula₀ r x y → Answered outcome log₀ formula₀ r x y
+-- ---- the formula written
+
+module _ {work : List ℤ} {r : Reached} (l : Left work r) where
+  pub left-few : (length (stored (take (r .progress .end) work)) < 2 ^ 32) × (12 * length (take (r .progress .end) work) + 28 < 2 ^ 64)
+  left-few =
+      let n = length-take-le (r .progress .end) work (l .inside) in
+      (omega (arith, l .small, l .inside, n, few-stored (take (r .progress .end) work)), omega (arith, l .small, l .inside, n))
+
+module _ {work : List ℤ} {r : Reached} {formula new : Bytes} {bytes : ℕ} (log-room : ℕ) (w : Put formula 0 (formula-text (r .highest) (standing work (r .progress))) bytes new) where
+  pub log-short : log-room < r .progress .at → Finishes work log-room formula r (Reencoding.Refused 12) new
+  log-short h = record { bytes = bytes; written = w; answer = rw (lt-ltb log-room (r .progress .at) h) refl }
+
+  module _ (h : r .progress .at ≤ log-room) where
+    pub formula-short : length new < bytes → Finishes work log-room formula r (Reencoding.Refused 13) new
+    formula-short j =
+        record { bytes = bytes; written = w; answer = rw (le-ltb log-room (r .progress .at) h, lt-ltb (length formula) bytes (omega (arith, put-length w))) refl }
+
+    pub both-fit : {count : ℕ} → bytes ≤ length new → count ≡ length (standing work (r .progress)) →
+        Finishes work log-room formula r (Reencoding.Done (record { choices = r .choices; highest = r .highest; clauses = count; lines = r .progress .lines; «log_bytes» = r .progress .at; «formula_bytes» = bytes })) new
+    both-fit j e = record { bytes = bytes; written = w; answer = rw (le-ltb log-room (r .progress .at) h, le-ltb (length formula) bytes (omega (arith, put-length w)), e) refl }
+
+-- ---- after a run
+
+module _ {s : Settings} {i : Input} {work new : List ℤ} {x y : Bytes} {end : ℕ} {r : Reached} (small : length work < 2 ^ 31) (a : Ran-all s i work x end new y r) where
+  pub run-left : Left new r
+  run-left = record { small = omega (arith, a .runs .size); inside = omega (arith, a .runs .inside, a .runs .size); formed = a .runs .formed }
+
+  module _ (start : stored (take end work) ≡ i .formula) {formula new-formula : Bytes} {b : Code.Reencoding} (f : Finishes new (length y) formula r b new-formula) where
+    result-here : standing new (r .progress) ≡ result s i
+    unfolding result log
+    result-here = rw start at (a .runs .stands)
+
+    log-put : Put x 0 (log-text (log s i)) (r .progress .at) y
+    unfolding log
+    log-put = a .runs .written
+
+    formula-put : Put formula 0 (formula-text (highest-used s i) (result s i)) (f .bytes) new-formula
+    formula-put = rw (a .highest, result-here) at (f .written)
+
+    lines-counted : r .progress .lines ≡ length (log s i)
+    unfolding log
+    lines-counted = omega (arith, a .runs .counted)
+
+    log-size : r .progress .at ≡ length (log-text (log s i))
+    log-size = omega (arith, log-put .next)
+
+    formula-size : f .bytes ≡ length (formula-text (highest-used s i) (result s i))
+    formula-size = omega (arith, formula-put .next)
+
+    pub run-answers : Answers (fitted s i x formula) x formula b y new-formula
+    unfolding reencoded
+    run-answers =
+        fits-answers (reencoded s i) x formula (f .answer ∙ rw (put-length log-put, result-here, log-size, formula-size, lines-counted, a .choices, a .highest) refl)
+        (written-first log-put) (written-first formula-put)
+
+-- ---- the input in a store
+
+-- a run asks for the formula and the highest variable alone
+reencoded-same : (s : Settings) (i : Input) (f : Formula) (v : ℕ) → f ≡ i .formula → v ≡ i .highest → reencoded s (as-read v (length f) f) ≡ reencoded s i
+unfolding reencoded log events result highest-used chosen
+reencoded-same s i f v e h = rw (e, h) refl
+
+module _ (t : Bytes) (s : Code-settings.Settings) (work : List ℤ) (log₀ formula₀ : Bytes) (m : Code-limits.Limits) (k : limits-of m ≡ input-limits) (a : FormulaRead) (p : a ≡ read-of (read-formula (limits-of m) t)) where
+  at-limits : read-formula (limits-of m) t ≡ read-input t
+  unfolding read-input
+  at-limits = ap (λ (l : Limits). read-formula l t) k
+
+  pub call-fault : (n : ℕ) {x y : Bytes} → a ≡ FormulaRead.Fault n → Answers (outcome s t work log₀ formula₀) log₀ formula₀ (Reencoding.Refused n) x y
   unfolding reencode _>>=_
-  call-fault n q z =
-      let f : read-formula input-limits t ≡ fault n = sym here ∙ checked-fault _ n (sym p ∙ q) in
-      let e : outcome ≡ fault n = rw f refl in
-      refused outcome log₀ formula₀ n e z
+  call-fault n q =
+      let e : read-input t ≡ fault n = sym at-limits ∙ formula-answer (read-formula (limits-of m) t) (sym q ∙ p) in
+      refused n (rw e refl)
 
-  module _ (v c l need : ℕ) (q : a ≡ Answer.Formula v c l) (w : need ≡ 20 * l + 2 * c + 6 * v + 8_192) where
-    found : Formula-is (read-formula (limits-of m) t) v c l
-    found = checked-formula _ v c l (sym p ∙ q)
+  module _ (v c l filled need : ℕ) (q : a ≡ FormulaRead.Formula v c l filled) (w : need ≡ 20 * l + 2 * c + 6 * v + 8_192) where
+    found : Formula-is (read-input t) v c l filled
+    found = rw at-limits at (formula-answer (read-formula (limits-of m) t) (sym q ∙ p))
 
-    i : Input
-    i = found .formula
+    abbrev i : Input
+    i = found .input
 
-    found-here : read-formula input-limits t ≡ value i
-    unfolding i
-    found-here = sym here ∙ found .is
+    known : Accepted input-limits i
+    known = input-accepted t i (found .is)
+
+    highest-is : i .highest ≡ v
+    highest-is = input-highest t i (found .is) ∙ sym (found .variables)
 
     need-is : workspace-need i ≡ need
-    unfolding workspace-need i
-    need-is = rw (found .variables, found .clauses, found .literals) (sym w)
+    unfolding workspace-need
+    need-is = omega (arith, highest-is, found .clauses, found .literals)
 
-    pub call-short : {r : Code-outcome.Reencoding} {x y : Bytes} → length work < need → Turned-down 11 log₀ formula₀ r x y → Answered outcome log₀ formula₀ r x y
+    pub call-short : {x y : Bytes} → length work < need → Answers (outcome s t work log₀ formula₀) log₀ formula₀ (Reencoding.Refused 11) x y
     unfolding reencode _>>=_ refuse-if
-    call-short h z =
-        let e : outcome ≡ fault 11 = rw (found-here, need-is, lt-ltb (length work) need h) refl in
-        refused outcome log₀ formula₀ 11 e z
+    call-short h = refused 11 (rw (found .is, need-is, lt-ltb (length work) need h) refl)
 
-    -- ---- the formula is loaded
-    module _ (enough : need ≤ length work) {w₁ : List ℤ} (z : (j : Input) → read-formula (limits-of m) t ≡ value j → w₁ ≡ sets work 0 (entries (j .formula))) where
-      abbrev end : ℕ
-      end = l + c
-
-      known : Accepted input-limits i
-      known = accepted input-limits t i found-here
-
-      size-is : length (entries (i .formula)) ≡ end
-      unfolding i numbers-of
-      size-is = entries-numbers (i .formula) ∙ rw (found .clauses, found .literals) refl
-
-      end-within : end ≤ length work
-      end-within = omega (arith, w)
-
-      same-size : length w₁ ≡ length work
-      unfolding i
-      same-size = ap length (z i (found .is)) ∙ length-sets work 0 (entries (i .formula))
-
-      loaded : take end w₁ ≡ entries (i .formula)
-      unfolding i
-      loaded =
-          ap (take end) (z i (found .is) ∙ sets-eq (entries (i .formula)) work 0 (omega (arith, size-is, end-within)))
-          ∙ take-at (entries (i .formula)) (drop (0 + length (entries (i .formula))) work) end size-is
-
+    -- ---- the workspace suffices
+    module _ (enough : need ≤ length work) {w₁ : List ℤ} (z : Filled (read-formula (limits-of m) t) work w₁) where
       few : literals-of (i .formula) < 2 ^ 31
       unfolding input-limits
       few = omega (arith, known .literals-few)
 
-      stored-is : stored (take end w₁) ≡ i .formula
+      filled-is : length (entries (i .formula)) ≡ filled
+      filled-is = entries-numbers (i .formula) ∙ sym (found .numbers)
+
+      filled-within : filled ≤ need
+      unfolding numbers-of
+      filled-within = omega (arith, found .numbers, found .literals, found .clauses, known .formula-few)
+
+      same-size : length w₁ ≡ length work
+      same-size = ap length (z i (at-limits ∙ found .is)) ∙ length-sets work 0 (entries (i .formula))
+
+      -- what is lent: the first elements, as many as the rule says
+      abbrev lent : List ℤ
+      lent = take need w₁
+
+      lent-size : length lent ≡ need
+      lent-size = length-take-le need w₁ (omega (arith, same-size))
+
+      loaded : take filled lent ≡ entries (i .formula)
+      loaded =
+          take-take filled need w₁ filled-within
+          ∙ ap (take filled) (z i (at-limits ∙ found .is) ∙ sets-eq (entries (i .formula)) work 0 (omega (arith, filled-is, filled-within)))
+          ∙ take-at (entries (i .formula)) (drop (0 + length (entries (i .formula))) work) filled filled-is
+
+      stored-is : stored (take filled lent) ≡ i .formula
       stored-is = ap stored loaded ∙ entries-stored (i .formula) few
 
-      input-is : input-in w₁ end v ≡ i
-      unfolding i make
-      input-is = ap₂ (λ (n : ℕ) (f : Formula). make n f) (sym (found .variables)) stored-is
-
-      pub run-ready : Run-ready w₁ end v
-      run-ready = record {
-        inside = omega (arith, same-size, end-within);
+      pub lent-ready : Run-ready lent filled v
+      unfolding workspace-need input-limits
+      lent-ready = record {
+        small = omega (arith, lent-size, w, found .literals, found .clauses, highest-is, known .literals-few, known .clauses-few, known .highest-few);
+        inside = omega (arith, lent-size, filled-within);
         formed = rw loaded (entries-formed (i .formula) few);
-        accepted = rw input-is known;
-        enough = rw input-is (omega (arith, need-is, same-size));
+        accepted = rw stored-is (record {
+          variables-few = omega arith;
+          highest-few = omega (arith, known .highest-few, highest-is);
+          clauses-few = omega (arith, known .formula-few, known .clauses-few);
+          formula-few = omega arith;
+          literals-few = known .literals-few;
+          fits = rw highest-is at (known .fits);
+          proper = known .proper;
+        });
+        enough = rw stored-is (omega (arith, lent-size, w, found .literals, found .clauses, known .formula-few));
       }
 
-      -- ---- the phases are run
-      module _ {w₂ : List ℤ} {log₁ : Bytes} {r : Run} (x : Ran-all s (input-in w₁ end v) end (length w₁) log₀ w₂ log₁ r) where
-        ran : Ran-all s i end (length w₁) log₀ w₂ log₁ r
-        ran = rw input-is at x
+      pub call-run : {b : Code.Reencoding} {x y : Bytes} → Answers (fitted (settings-of s) (input-in lent filled v) log₀ formula₀) log₀ formula₀ b x y → Answers (outcome s t work log₀ formula₀) log₀ formula₀ b x y
+      unfolding reencode _>>=_ refuse-if
+      call-run {b} {x} {y} r =
+          let e = reencoded-same (settings-of s) i (stored (take filled lent)) v stored-is (sym highest-is) in
+          rw (found .is, need-is, le-ltb (length work) need enough)
+          (subst (λ (z : Reencoded). Answers (refuse-if (ltb (length log₀) (length (z .log))) 12 (refuse-if (ltb (length formula₀) (length (z .formula))) 13 (value z))) log₀ formula₀ b x y) e r)
 
-        result-here : stored (take (r .end) w₂) ≡ result s i
-        unfolding result log input
-        result-here = ran .ran .stands
+-- ---- the buffers made zero on a refusal
 
-        log-written : Put log₀ 0 (log-text (log s i)) (r .at) log₁
-        unfolding log
-        log-written = ran .ran .written
+-- as the contract has it
+abbrev pub Promised : Checked Reencoded → Bytes → Bytes → Code.Reencoding → Bytes → Bytes → Type 0
+Promised o log formula a x y = (a ≡ outcome-of o) × ((x ≡ buffer-after 0 o (λ r. r .log) log) × (y ≡ buffer-after 0 o (λ r. r .formula) formula))
 
-        bounds : Sizes s i
-        bounds = sizes i known s
+pub promised-done : (o : Checked Reencoded) (log formula : Bytes) {x y : Bytes} {a : Code.Reencoding} {n : Tally} → Answers o log formula a x y → a ≡ Reencoding.Done n → Promised o log formula (Reencoding.Done n) x y
+unfolding buffer-after
+promised-done (fault k) log formula r e = absurd (let z : _≡_ {A = ℕ} 0 1 = cc (r .answer) in omega arith)
+promised-done (value v) log formula r e = (sym e ∙ r .answer, (r .log-written v refl, r .formula-written v refl))
 
-        pub run-inside : r .end ≤ length w₂
-        run-inside = omega (arith, ran .ran .inside, ran .ran .size)
-
-        -- ---- and the store compacted
-        module _ {shorter : List ℤ} {stop : ℕ} (g : Compacted (take (r .end) w₂) stop shorter) where
-          abbrev store : List ℤ
-          store = take stop (shorter ++ drop (r .end) w₂)
-
-          store-is : store ≡ take stop shorter
-          store-is = take-append-le stop shorter (drop (r .end) w₂) (g .within)
-
-          pub stop-inside : stop ≤ length (shorter ++ drop (r .end) w₂)
-          stop-inside = omega (arith, g .within, length-append shorter (drop (r .end) w₂))
-
-          pub store-formed : Formed store
-          store-formed = rw store-is (g .formed)
-
-          standing : stored store ≡ result s i
-          standing = ap stored store-is ∙ g .same ∙ result-here
-
-          module _ {count : ℕ} (y : count ≡ length (stored store)) where
-            pub count-few : count ≤ 300_000
-            count-few = omega (arith, y, ap length standing, bounds .result-few)
-
-            pub store-short : 12 * length store + 28 < 2 ^ 64
-            store-short = omega (arith, length-take stop (shorter ++ drop (r .end) w₂), g .size, ap numbers-of result-here, bounds .result-numbers)
-
-            -- ---- the formula is written
-            module _ {bytes : ℕ} {formula₁ : Bytes} (f : Put formula₀ 0 (formula-text (r .highest) (stored store)) bytes formula₁) where
-              formula-written : Put formula₀ 0 (formula-text (highest-used s i) (result s i)) bytes formula₁
-              formula-written = rw (ran .highest, standing) at f
-
-              pub call-log-short : {o : Code-outcome.Reencoding} {x₁ y₁ : Bytes} → length log₁ < r .at → Turned-down 12 log₁ formula₁ o x₁ y₁ → Answered outcome log₀ formula₀ o x₁ y₁
-              unfolding reencode _>>=_ refuse-if reencoded
-              call-log-short h d =
-                  let e : outcome ≡ fault 12 = rw (found-here, le-ltb (length work) (workspace-need i) (omega (arith, need-is)), lt-ltb (length log₀) (length (log-text (log s i))) (omega (arith, log-written .next, put-length log-written))) refl in
-                  refused outcome log₀ formula₀ 12 e (turned log₀ log₁ formula₀ formula₁ (put-length log-written) (put-length formula-written) d)
-
-              module _ (h : r .at ≤ length log₁) where
-                lines-counted : r .lines ≡ length (log s i)
-                unfolding log
-                lines-counted = omega (arith, ran .ran .counted)
-
-                log-fits : length (log-text (log s i)) ≤ length log₀
-                log-fits = omega (arith, log-written .next, put-length log-written)
-
-                pub call-formula-short : {o : Code-outcome.Reencoding} {x₁ y₁ : Bytes} → length formula₁ < bytes → Turned-down 13 log₁ formula₁ o x₁ y₁ → Answered outcome log₀ formula₀ o x₁ y₁
-                unfolding reencode _>>=_ refuse-if reencoded
-                call-formula-short j d =
-                    let e : outcome ≡ fault 13 = rw (found-here, le-ltb (length work) (workspace-need i) (omega (arith, need-is)), le-ltb (length log₀) (length (log-text (log s i))) log-fits, lt-ltb (length formula₀) (length (formula-text (highest-used s i) (result s i))) (omega (arith, formula-written .next, put-length formula-written))) refl in
-                    refused outcome log₀ formula₀ 13 e (turned log₀ log₁ formula₀ formula₁ (put-length log-written) (put-length formula-written) d)
-
-                pub call-done : bytes ≤ length formula₁ → Answered outcome log₀ formula₀ (Reencoding.Done (record { choices = r .choices; highest = r .highest; clauses = count; lines = r .lines; «log_bytes» = r .at; «formula_bytes» = bytes })) log₁ formula₁
-                unfolding reencode _>>=_ refuse-if reencoded buffer-after
-                call-done j =
-                    let e : outcome ≡ value (reencoded s i) = rw (found-here, le-ltb (length work) (workspace-need i) (omega (arith, need-is)), le-ltb (length log₀) (length (log-text (log s i))) log-fits, le-ltb (length formula₀) (length (formula-text (highest-used s i) (result s i))) (omega (arith, formula-written .next, put-length formula-written))) refl in
-                    let a₁ : r .lines ≡ length (log s i) = lines-counted in
-                    let a₂ : r .at ≡ length (log-text (log s i)) = omega (arith, log-written .next) in
-                    let a₃ : bytes ≡ length (formula-text (highest-used s i) (result s i)) = omega (arith, formula-written .next) in
-                    rw e (
-                      done-same (ran .choices) (ran .highest) (y ∙ ap length standing) a₁ a₂ a₃,
-                      written-first log-written (omega (arith, log-fits, a₂)),
-                      written-first formula-written (omega (arith, put-length formula-written)),
-                    )
-
--- ---- as the contract has it
-
-abbrev pub Promised : Checked Reencoded → Bytes → Bytes → Code-outcome.Reencoding → Bytes → Bytes → Type 0
-Promised o log formula r new-log new-formula = (r ≡ outcome-of o) × ((new-log ≡ buffer-after 0 o (λ a. a .log) log) × (new-formula ≡ buffer-after 0 o (λ a. a .formula) formula))
-
-pub promised : (o : Checked Reencoded) (log formula : Bytes) {r : Code-outcome.Reencoding} {x y : Bytes} → Answered o log formula r x y → Promised o log formula r x y
-promised o log formula a = (a .0, (a .1, a .2))
-
-pub promised-named : (f : Code-form.Form) (w : Code-wish.Wish) (is-order is-aligned : Bool) → form-of is-order ≡ named-form f → wish-of is-aligned ≡ named-wish w → (size log-size formula-size : ℕ) (t log formula : Bytes) {r : Code-outcome.Reencoding} {x y : Bytes} →
-    Answered (reencode (settings-by is-order is-aligned) size log-size formula-size t) log formula r x y → Promised (reencode (settings-of f w) size log-size formula-size t) log formula r x y
-promised-named f w is-order is-aligned e g size log-size formula-size t log formula {r} {x} {y} a =
-    promised (reencode (settings-of f w) size log-size formula-size t) log formula
-    (subst (λ (s : Settings). Answered (reencode s size log-size formula-size t) log formula r x y) (settings-named f w is-order is-aligned e g) a)
+pub promised-refused : (o : Checked Reencoded) (log formula : Bytes) {x y x₀ y₀ : Bytes} {a : Code.Reencoding} {n : ℕ} → Answers o log formula a x y → a ≡ Reencoding.Refused n → length x ≡ length log → length y ≡ length formula →
+    x₀ ≡ replicate (length x) 0 → y₀ ≡ replicate (length y) 0 → Promised o log formula (Reencoding.Refused n) x₀ y₀
+unfolding buffer-after
+promised-refused (fault k) log formula r e p q u v = (sym e ∙ r .answer, (u ∙ ap (λ (j : ℕ). replicate j 0) p, v ∙ ap (λ (j : ℕ). replicate j 0) q))
+promised-refused (value w) log formula r e p q u v = absurd (let z : _≡_ {A = ℕ} 0 1 = cc (r .answer) in omega arith)

@@ -1,5 +1,2 @@
-pub mod Taking
-pub mod Turns
 pub mod Counting
-pub mod Phases
 pub mod Call

@@ -1,3 +1,3 @@
-pub mod Choosing
-pub mod Run
 pub mod Outcome
+pub mod Counting
+pub mod Result

@@ -1,4 +1,4 @@
--- "Sessions": the starred ones, rows of one list checked by one theorem.
+-- "Sessions": the starred ones, and some more that tell wrong definitions apart, rows of one list checked by one theorem.
 use mathlib.Core.Bool.{Bool, false, _&&_}
 use mathlib.Core.List.{List, [], _∷_, map}
 use Prim.Native.Nat.{ℕ}
@@ -52,6 +52,10 @@ pub data Session : Type 0 where
   aligns : String → String → Session
   -- the number that a text is refused with
   refused : String → ℕ → Session
+  -- the number that reencoding is refused with, given so many entries of workspace and bytes of the two buffers
+  short : Settings → String → ℕ → ℕ → ℕ → ℕ → Session
+  -- the number that the walk-back of a formula, a log, a number of kept lines and an answer is refused with
+  not-walked : String → String → ℕ → String → ℕ → Session
 
 unfoldable pub run : Settings → String → Checked Reencoded
 run s t = reencode s 100_000 100_000 100_000 (bytes t)
@@ -82,6 +86,8 @@ passes (aligns t out) =
     let cs = choices (i .formula) in
     same-bytes (for-each (map (arranged alignment (i .formula) cs) cs) clause-text) (bytes out))
 passes (refused t n) = is-fault (run counter t) n
+passes (short s t workspace log-room formula-room n) = is-fault (reencode s workspace log-room formula-room (bytes t)) n
+passes (not-walked t log kept answer n) = is-fault (walk-back 100_000 1_000 kept (bytes t) (bytes log) (bytes answer)) n
 
 e-text : String
 e-text = "p cnf 3 2\n1 2 0\n-1 3 0\n"
@@ -130,6 +136,24 @@ sessions =
     ∷ refused "p cnf 1 1\n-0\n" 3
     ∷ refused "p cnf 1 1\n1" 7
     ∷ refused "p cnf 1 1\n1 0 1 0\n" 8
+    ∷ refused "p cnf 8001 0\n" 2
+    ∷ refused "p cnf 0 0 \n" 1
+    -- E has V 3, C 2 and L 4; its log has 31 bytes, its new formula 10
+    ∷ short counter e-text 8_293 0 0 11
+    ∷ short counter e-text 8_294 30 9 12
+    ∷ short counter e-text 8_294 31 9 13
+    -- the log's writer, then the solver
+    ∷ not-walked "p cnf 2 1\n1 2 0\n" "d 1 2 0" 1 "" 31
+    ∷ not-walked "p cnf 2 1\n1 2 0\n" "1 1 0\n" 1 "" 31
+    ∷ not-walked "p cnf 2 1\n1 2 0\n" "70001 0\n" 1 "" 31
+    ∷ not-walked "p cnf 2 1\n1 2 0\n" "d 1 2 0\n" 2 "" 34
+    ∷ not-walked "p cnf 2 1\n1 2 0\n" "d 1 0\n" 1 "s SATISFIABLE\nv 1 0\n" 32
+    ∷ not-walked "p cnf 1 2\n1 0\n-1 0\n" "d 1 0\n" 1 "s SATISFIABLE\nv 0\n" 33
+    ∷ not-walked "p cnf 2 1\n1 2 0\n" "" 0 "s SATISFIABLE\nv 1\n" 41
+    ∷ not-walked "p cnf 2 1\n1 2 0\n" "" 0 "s SATISFIABLE\nv 1 0\nv \n" 41
+    ∷ not-walked "p cnf 2 1\n1 2 0\n" "3 0\n" 1 "s SATISFIABLE\nv 4 0\n" 42
+    ∷ not-walked "p cnf 2 1\n1 2 0\n" "" 0 "s SATISFIABLE\nv 1 -1 0\n" 43
+    ∷ not-walked "p cnf 2 1\n1 2 0\n" "" 0 "s SATISFIABLE\nv -1 -2 0\n" 44
     ∷ []
 
 pub sessions-hold : T (all passes sessions)

@@ -13,9 +13,9 @@ use mir.Val.{Fits, SFits, ofZ, toZ}
 use mir.ValLaws.{toZ-ofZ, toZ-pos}
 use Rattle.definition.specs.Literals.{same}
 use Rattle.theory_base.proofs.Tests.{differ, by-test, of-true}
-use Rattle.theory_base.proofs.Members.{same-eq, unlike, unlike-false, natAbs-neg}
-use Rattle.literals.specs.Literal.{negative, negation, index-of, flip, header-literals}
-use Rattle.literals.proofs.Laws.{variable-within, as-positive, at-arg, negation-small, flip-negative}
+use Rattle.theory_base.proofs.Members.{same-eq, unlike}
+use Rattle.literals.specs.Literal.{negative, index-of, flip, header-literals}
+use Rattle.literals.proofs.Laws.{variable-within, as-positive, at-arg, flip-negative}
 
 -- ---- `l < 0`
 
@@ -122,14 +122,3 @@ module _ (a b : ℤ) (f : SFits w32 a) (g : SFits w32 b) where
 
   pub same-bits : eqb (ofZ w32 a) (ofZ w32 b) ≡ same a b
   same-bits = by-test (same a b) (λ e. eq-eqb _ _ (ap (ofZ w32) (same-eq a b (of-true e))) ∙ sym e) (λ e. ne-eqb _ _ (λ h. unlike a b e (bits-eq h)) ∙ sym e)
-
--- ---- opposite literals: of one variable, and nothing is cut off unless both are the lowest i32
-
-pub opposite-same : (a b : ℤ) → SFits w32 a → SFits w32 b → natAbs a ≡ natAbs b → same (negation a) b ≡ same (negℤ a) b
-unfolding same
-opposite-same (pos n) b f g e = ap (λ (z : ℤ). same z b) (negation-small (pos n) (omega arith))
-opposite-same (negsuc n) (pos m) f g e = ap (λ (z : ℤ). same z (pos m)) (negation-small (negsuc n) (omega arith))
-opposite-same (negsuc n) (negsuc m) f g e = refl
-
-pub opposite-other : (a b : ℤ) → (natAbs a ≡ natAbs b → ⊥) → false ≡ same (negℤ a) b
-opposite-other a b n = sym (unlike-false (negℤ a) b (λ e. n (sym (natAbs-neg a) ∙ ap natAbs e)))

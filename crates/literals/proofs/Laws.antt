@@ -25,6 +25,10 @@ answer g l f e = e ∙ at-arg g l f
 pub answered {ℓ} : {X : Type ℓ} (g : ℤ → X) (l : ℤ) → SFits w32 l → {r t : X} → r ≡ g (toZ w32 (ofZ w32 l)) → r ≡ t → g l ≡ t
 answered g l f e k = sym (answer g l f e) ∙ k
 
+-- the same of a call at what `negated` answered
+pub answer-negated {ℓ} : {X : Type ℓ} (g : ℤ → X) (l : ℤ) → SFits w32 l → {n : ℤ} → SFits w32 n → n ≡ negation (toZ w32 (ofZ w32 l)) → {r : X} → r ≡ g (toZ w32 (ofZ w32 n)) → r ≡ g (negation l)
+answer-negated g l f {n} h e k = answer g n h k ∙ ap g (answer negation l f e)
+
 -- the variable of an i32 is at most 2^31
 pub variable-within : (l : ℤ) → SFits w32 l → natAbs l ≤ 2 ^ 31
 variable-within (pos n) f = omega arith

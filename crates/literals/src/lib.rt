@@ -2,7 +2,7 @@
 ghost use mathlib.Core.Path.{_≡_};
 ghost use Prim.Native.Nat.{min, max};
 ghost use lib.Dec.{eqb};
-ghost use lib.IntN.{negℤ, natAbs};
+ghost use lib.IntN.{natAbs};
 ghost use Rattle.definition.specs.Literals.{same as same-literal};
 ghost use Rattle.literals.specs.Literal.{negative, signed-of, negation, index-of, header-of, flip, header-literals};
 
@@ -92,17 +92,6 @@ pub fn same(a: i32, b: i32) -> bool
     ensures { λ r. ⌜ r ≡ same-literal a b ⌝ }
 {
     a == b
-}
-
-// Whether a literal is the negation of another.
-pub fn opposite(a: i32, b: i32) -> bool
-    ensures { λ r. ⌜ r ≡ same-literal (negℤ a) b ⌝ }
-{
-    if variable(a) == variable(b) {
-        same(negated(a), b)
-    } else {
-        false
-    }
 }
 
 // The header of a standing clause of n literals.

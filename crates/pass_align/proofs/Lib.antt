@@ -1,8 +1,8 @@
-pub mod Tables
+pub mod Renaming
 pub mod Numbers
 pub mod Sorting
 pub mod Owners
 pub mod Groups
 pub mod Repeated
-pub mod Sorted
+pub mod SortingAll
 pub mod Alignment

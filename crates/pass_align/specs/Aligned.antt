@@ -1,67 +1,54 @@
 -- What the tables say, and what alignment needs and gives.
 use mathlib.Core.Path.{_≡_}
 use mathlib.Core.List.{List, map}
-use Prim.Native.Nat.{ℕ, _+_, _≤_, _<_}
+use Prim.Native.Nat.{ℕ, _≤_, _<_, _^_}
 use lib.IntN.{ℤ, natAbs}
 use lib.ListN.{length, getD}
 use Rattle.definition.specs.Literals.{Clause, Formula}
-use Rattle.definition.specs.Alignment.{alignment, Chain, sorted, arranged}
+use Rattle.definition.specs.Alignment.{Chain}
 use Rattle.theory_base.specs.Clauses.{Proper-all, Fits, Parted}
 use Rattle.store.specs.Store.{Formed, stored}
-use Rattle.pass_pure.specs.Pass.{reach}
+use Rattle.tables.specs.Sizes.{input-reach, input-size}
+use Rattle.tables.specs.Entries.{entry-of}
 use Rattle.theory_alignment.specs.Groups.{apart}
-use Rattle.pass_align.specs.Tables.{entry-of, linked-by}
+use Rattle.pass_align.specs.Tables.{linked-by}
 
--- ---- the choice of each literal
+-- ---- what alignment reads
 
--- choices without a common variable, and a table of zeros
-pub record Ownable (chosen : List ℤ) (t : List ℕ) : Type 0 where
-  pub formed : Formed chosen
-  pub parted : Parted (stored chosen)
-  pub size : reach + reach + 2 ≤ length t
-  pub none-yet : (l : ℤ) → natAbs l ≤ reach → entry-of t l ≡ 0
-
--- the table says which literals are of different choices
-abbrev pub Owned : List Clause → List ℕ → Type 0
-Owned cs t = (a b : ℤ) → natAbs a ≤ reach → natAbs b ≤ reach → linked-by t a b ≡ apart cs a b
-
--- ---- groups
-
--- a store, choices and their table, and a table in which each literal is a group of its own
-pub record Joinable (s chosen : List ℤ) (owners groups : List ℕ) : Type 0 where
+-- a store of proper clauses of an input's variables
+pub record Proper-store (s : List ℤ) : Type 0 where
   pub formed : Formed s
   pub proper : Proper-all (stored s)
-  pub fits : Fits reach (stored s)
-  pub owned : Owned (stored chosen) owners
-  pub size : length groups ≡ reach + reach + 2
-  pub own : (k : ℕ) → k < length groups → getD groups k 0 ≡ k
+  pub fits : Fits input-reach (stored s)
+
+-- choices without a common variable, in a store of their own
+pub record Choices (chosen : List ℤ) : Type 0 where
+  pub short : length chosen < 2 ^ 31
+  pub formed : Formed chosen
+  pub fits : Fits input-reach (stored chosen)
+  pub parted : Parted (stored chosen)
+
+-- ---- what the tables say
+
+-- which literals are of different choices
+abbrev pub Owned : List Clause → List ℕ → Type 0
+Owned cs t = (a b : ℤ) → natAbs a ≤ input-reach → natAbs b ≤ input-reach → linked-by t a b ≡ apart cs a b
+
+-- each literal is a group of its own
+abbrev pub Separate : List ℕ → Type 0
+Separate groups = (length groups ≡ input-size) × ((k : ℕ) → k < length groups → getD groups k 0 ≡ k)
 
 -- two literals have one entry exactly if a chain joins them; entries are places of the table
 pub record Grouped (F : Formula) (cs : List Clause) (groups : List ℕ) : Type 0 where
-  pub size : length groups ≡ reach + reach + 2
-  pub inside : (k : ℕ) → k < length groups → getD groups k 0 < reach + reach + 2
-  pub chained : (a b : ℤ) → natAbs a ≤ reach → natAbs b ≤ reach → entry-of groups a ≡ entry-of groups b → Chain F cs a b
+  pub size : length groups ≡ input-size
+  pub inside : (k : ℕ) → k < length groups → getD groups k 0 < input-size
+  pub chained : (a b : ℤ) → natAbs a ≤ input-reach → natAbs b ≤ input-reach → entry-of groups a ≡ entry-of groups b → Chain F cs a b
   pub joined : (a b : ℤ) → Chain F cs a b → entry-of groups a ≡ entry-of groups b
 
--- ---- the whole
+-- ---- what alignment gives
 
--- each clause is sorted by number
-pub record Sorted (number : ℤ → ℕ) (old new : List ℤ) : Type 0 where
+-- each standing clause is changed by f
+pub record Mapped (f : Clause → Clause) (old new : List ℤ) : Type 0 where
   pub same-size : length new ≡ length old
   pub formed : Formed new
-  pub stands : stored new ≡ map (sorted number) (stored old)
-
--- a store, and choices without a common variable
-pub record Alignable-store (s chosen : List ℤ) : Type 0 where
-  pub formed : Formed s
-  pub proper : Proper-all (stored s)
-  pub fits : Fits reach (stored s)
-  pub chosen-formed : Formed chosen
-  pub chosen-fits : Fits reach (stored chosen)
-  pub parted : Parted (stored chosen)
-
--- the literals of each choice are in their order
-pub record Aligned (F : Formula) (cs : List Clause) (size : ℕ) (chosen : List ℤ) : Type 0 where
-  pub same-size : length chosen ≡ size
-  pub formed : Formed chosen
-  pub stands : stored chosen ≡ map (arranged alignment F cs) cs
+  pub stands : stored new ≡ map f (stored old)

@@ -6,7 +6,7 @@ use Prim.Native.Nat.{ℕ, _+_, _-_, _≤_, _<_}
 use native.Mathlib.Omega.{arith}
 use lib.Dec.{leb}
 use lib.IntN.{ℤ}
-use lib.ListN.{length, take, drop, replicate}
+use lib.ListN.{length, take, drop}
 use lib.Seq.{take-all}
 use borrow.Author.Tests.{le-leb, lt-leb, leb-true}
 use Rattle.definition.specs.Lists.{those}
@@ -16,15 +16,14 @@ use Rattle.definition.specs.Clearing.{unique}
 use Rattle.definition.specs.Counter.{choice-size, choices}
 use Rattle.theory_base.proofs.Tests.{by-test, of-true, to-true, and-l, and-r}
 use Rattle.theory_base.proofs.Clauses.{numbers-none, numbers-first, numbers-++}
-use Rattle.store.specs.Store.{Formed, stored, deleted-at, clause-at, past, Place, end-after, with-entry}
-use Rattle.store.specs.Tally.{tallied-all}
+use Rattle.store.specs.Store.{Formed, stored, Counted, deleted-at, clause-at, past, Place, end-after, with-entry}
+use Rattle.tables.specs.Sizes.{input-reach}
+use Rattle.tables.specs.Counts.{unique-by}
+use Rattle.tables.proofs.Counting.{unique-is}
 use Rattle.store.specs.declared.Added.the-variants.{To, Full}
 use Rattle.store.proofs.Laws.{stored-none, stored-split, place-start, place-next, stored-around, prefix-deleted, prefix-stands, appended, fits-within, part-there}
-use Rattle.pass_pure.specs.Table.{unique-by}
-use Rattle.pass_pure.specs.Pass.{reach}
-use Rattle.pass_pure.proofs.Tests.{unique-is, counted-table}
 use Rattle.theory_base.proofs.Members.{those-++}
-use Rattle.pass_choose.specs.Collecting.{choice-by, chosen-at, Joined, Walkable, Collectable, Collected}
+use Rattle.pass_choose.specs.Collecting.{choice-by, chosen-at, Joined, Collected}
 
 -- ---- the test of a clause, by its length
 
@@ -112,7 +111,7 @@ collecting-start {s} chosen f = record {
   stands = rw stored-none refl;
 }
 
-module _ {s : List ℤ} {t : List ℕ} {first : List ℤ} (w : Walkable s t first) {at end : ℕ} {chosen : List ℤ} (i : Collecting s (length first) at end chosen) (h : at < length s) where
+module _ {s : List ℤ} {t : List ℕ} {size : ℕ} (w : Counted input-reach s t) {at end : ℕ} {chosen : List ℤ} (i : Collecting s size at end chosen) (h : at < length s) where
   abbrev F : Formula
   F = stored s
 
@@ -122,7 +121,7 @@ module _ {s : List ℤ} {t : List ℕ} {first : List ℤ} (w : Walkable s t firs
   same-test : deleted-at s at ≡ false → choice-by t c ≡ is-choice F c
   same-test d =
       ap (λ (b : Bool). choice-size c && b)
-      (unique-is reach (omega arith) t F (w .table) c (λ x j. w .fits c (rw (stored-around s at h (i .place) d) (Memᴰ·append-right (stored (take at s)) (here refl))) x j .1))
+      (unique-is input-reach (omega arith) t F (w .table) c (λ x j. w .fits c (rw (stored-around s at h (i .place) d) (Memᴰ·append-right (stored (take at s)) (here refl))) x j .1))
 
   -- the choices before the place past the entry
   more : those (is-choice F) (stored (take (past s at) s)) ≡ those (is-choice F) (stored (take at s)) ++ chosen-at t s at
@@ -135,20 +134,19 @@ module _ {s : List ℤ} {t : List ℕ} {first : List ℤ} (w : Walkable s t firs
   unfolding choices
   later = sym (ap (those (is-choice F)) (stored-split (place-next s at h (i .place))) ∙ those-++ (is-choice F) (stored (take (past s at) s)) (stored (drop (past s at) s)))
 
-  pub collecting-room : end + numbers-of (chosen-at t s at) ≤ length chosen
-  collecting-room =
+  pub collecting-room : numbers-of (choices (stored s)) ≤ size → end + numbers-of (chosen-at t s at) ≤ length chosen
+  collecting-room space =
       omega (
         arith,
         i .next,
         i .same-size,
-        w .space,
         ap numbers-of later,
         numbers-++ (those (is-choice F) (stored (take (past s at) s))) (those (is-choice F) (stored (drop (past s at) s))),
         ap numbers-of more,
         numbers-++ (those (is-choice F) (stored (take at s))) (chosen-at t s at),
       )
 
-  pub collecting-step : {r : ℕ} {new : List ℤ} → length new ≡ length chosen → Joined (chosen-at t s at) chosen end r new → Collecting s (length first) (past s at) r new
+  pub collecting-step : {r : ℕ} {new : List ℤ} → length new ≡ length chosen → Joined (chosen-at t s at) chosen end r new → Collecting s size (past s at) r new
   collecting-step e j = record {
     place = place-next s at h (i .place);
     same-size = e ∙ i .same-size;
@@ -162,6 +160,3 @@ pub collecting-end : {s : List ℤ} {size at end : ℕ} {chosen : List ℤ} → 
 unfolding choices
 collecting-end {s} {at = at} i h =
     record { same-size = i .same-size; inside = i .inside; formed = i .formed; stands = i .stands ∙ ap (λ (r : List ℤ). those (is-choice (stored s)) (stored r)) (take-all at s h) }
-
-pub walkable : {s chosen : List ℤ} {t : List ℕ} → Collectable s chosen → t ≡ tallied-all (replicate (reach + reach + 2) 0) (stored s) → Walkable s t chosen
-walkable {s} k e = record { formed = k .formed; fits = k .fits; table = rw e (counted-table reach (stored s) (k .proper) (k .few)); space = k .space }

@@ -7,12 +7,9 @@ use lib.IntN.{ℤ}
 use lib.ListN.{length, take}
 use Rattle.definition.specs.Literals.{Clause}
 use Rattle.definition.specs.Calls.{numbers-of}
-use Rattle.definition.specs.Counter.{choice-size, choices}
-use Rattle.theory_base.specs.Clauses.{Proper-all, Fits}
+use Rattle.definition.specs.Counter.{choice-size}
 use Rattle.store.specs.Store.{Formed, stored, deleted-at, clause-at}
-use Rattle.store.specs.Tally.{most}
-use Rattle.pass_pure.specs.Table.{Counts, unique-by}
-use Rattle.pass_pure.specs.Pass.{reach}
+use Rattle.tables.specs.Counts.{unique-by}
 
 -- ---- at a place
 
@@ -32,21 +29,6 @@ pub record Joined (cs : List Clause) (old : List ℤ) (end r : ℕ) (new : List 
   pub stands : Formed (take end old) → stored (take r new) ≡ stored (take end old) ++ cs
 
 -- ---- the whole store
-
--- a store, the table of its counts, and room for its choices
-pub record Walkable (s : List ℤ) (t : List ℕ) (chosen : List ℤ) : Type 0 where
-  pub formed : Formed s
-  pub fits : Fits reach (stored s)
-  pub table : Counts reach t (stored s)
-  pub space : numbers-of (choices (stored s)) ≤ length chosen
-
--- a store of proper clauses, and room for its choices
-pub record Collectable (s chosen : List ℤ) : Type 0 where
-  pub formed : Formed s
-  pub proper : Proper-all (stored s)
-  pub fits : Fits reach (stored s)
-  pub few : length (stored s) ≤ most
-  pub space : numbers-of (choices (stored s)) ≤ length chosen
 
 -- the clauses cs fill the first r elements
 pub record Collected (cs : List Clause) (size r : ℕ) (chosen : List ℤ) : Type 0 where

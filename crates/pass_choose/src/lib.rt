@@ -5,8 +5,11 @@ ghost use Prim.Native.Nat.{_+_, _<_, _≤_};
 ghost use lib.ListN.{length, drop};
 ghost use Rattle.definition.specs.Calls.{numbers-of};
 ghost use Rattle.definition.specs.Counter.{choices};
-ghost use Rattle.store.specs.Store.{Formed, stored};
-ghost use Rattle.pass_choose.specs.Collecting.{choice-by, chosen-at, Joined, Walkable, Collectable, Collected};
+ghost use Rattle.tables.specs.Sizes.{input-reach};
+ghost use Rattle.store.specs.Store.{Formed, stored, Counted};
+ghost use Rattle.progress.specs.Progress.{standing, Good};
+ghost use Rattle.pass_choose.specs.Collecting.{choice-by, chosen-at, Joined, Collected};
+use progress::Progress;
 
 // Whether a clause is a choice.
 fn is_choice(counts: &[u32], clause: &[i32]) -> bool
@@ -18,7 +21,7 @@ fn is_choice(counts: &[u32], clause: &[i32]) -> bool
     if 64 < clause.len() {
         return false;
     }
-    pass_pure::is_unique(counts, clause)
+    tables::is_unique(counts, clause)
 }
 
 // Puts a choice at the end of the list; the result is the place past it.
@@ -52,7 +55,7 @@ fn collect_at(store: &[i32], at: usize, counts: &[u32], chosen: &mut [i32], end:
 
 // Collects the choices of a store by the table of its counts; the result is the place past them.
 fn collect_all(store: &[i32], counts: &[u32], chosen: &mut [i32]) -> usize
-    requires { ⌜ Walkable (now store) (now counts) (now chosen) ⌝ }
+    requires { ⌜ Counted input-reach (now store) (now counts) × (numbers-of (choices (stored (now store))) ≤ length (now chosen)) ⌝ }
     ensures { λ r. ⌜ Collected (choices (stored (now (store .entry)))) (length (now (chosen .entry))) r (now (chosen .exit)) ⌝ }
 {
     let mut end = 0;
@@ -64,12 +67,13 @@ fn collect_all(store: &[i32], counts: &[u32], chosen: &mut [i32]) -> usize
     end
 }
 
-// Collects the choices that stand in a store: unique literal clauses of 5 to 64 literals. The result is the place past them.
-pub fn collect(store: &[i32], chosen: &mut [i32]) -> usize
-    requires { ⌜ Collectable (now store) (now chosen) ⌝ }
-    ensures { λ r. ⌜ Collected (choices (stored (now (store .entry)))) (length (now (chosen .entry))) r (now (chosen .exit)) ⌝ }
+// Collects the choices that stand in a workspace: unique literal clauses of 5 to 64 literals. The result is the place past them.
+pub fn collect(work: &[i32], p: Progress, chosen: &mut [i32]) -> usize
+    requires { ⌜ Good input-reach [] (now work) p × (numbers-of (choices (standing (now work) p)) ≤ length (now chosen)) ⌝ }
+    ensures { λ r. ⌜ Collected (choices (standing (now (work .entry)) p)) (length (now (chosen .entry))) r (now (chosen .exit)) ⌝ }
 {
-    let mut counts = [0u32; 16002];
-    store::count_all(&mut counts, store);
-    collect_all(store, &counts, chosen)
+    let end = p.end;
+    let mut counts = [0u32; tables::INPUT_SIZE];
+    store::count_all(&mut counts, &work[..end]);
+    collect_all(&work[..end], &counts, chosen)
 }

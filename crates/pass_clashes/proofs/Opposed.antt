@@ -1,4 +1,4 @@
--- The test by a table of one clause says whether the resolvent has a literal and its negation. Assumes nothing.
+-- The test by a table of the one clause says whether the resolvent is opposed: both clauses are proper, so opposed literals come one from each. Assumes nothing.
 use mathlib.Core.Path.{_≡_, refl, sym, ap, _∙_}
 use mathlib.Core.Logic.{_⊎_, inl, inr, ⊎-elim}
 use mathlib.Core.Bool.{Bool, true, false, not}
@@ -7,36 +7,37 @@ use Prim.Native.Nat.{ℕ, _+_, _≤_}
 use native.Mathlib.Omega.{arith}
 use lib.Dec.{T, eqb}
 use lib.IntN.{ℤ, negℤ, negℤ-negℤ, natAbs}
-use lib.ListN.{getD, replicate}
+use mir.Syntax.{w32}
+use mir.Val.{SFits, ofZ, toZ}
+use lib.ListN.{replicate}
 use Rattle.definition.specs.Lists.{bit, any}
 use Rattle.definition.specs.Literals.{Clause, same, holds, without, opposed}
 use Rattle.theory_base.proofs.Tests.{of-true, to-true, not-true, of-false, and-l, and-r, and-i, each-way}
 use Rattle.theory_base.proofs.Members.{any-mem, mem-any, unlike, unlike-false, holds-mem, mem-holds, opposes-mem, mem-opposes, proper-unopposed, natAbs-neg}
 use Rattle.theory_base.specs.Clauses.{Proper}
-use Rattle.literals.specs.Literal.{index-of}
-use Rattle.literals.proofs.Laws.{negation-small}
+use Rattle.literals.proofs.Laws.{negation-small, at-arg, at-arg2}
 use Rattle.theory_soundness.proofs.Times.{times-nil, times-cons}
 use Rattle.theory_soundness.proofs.Without.{without-mem, mem-without}
-use Rattle.store.specs.Tally.{tallied, tallied-all}
-use Rattle.pass_pure.specs.Table.{Counts, pure-in}
-use Rattle.pass_pure.specs.Pass.{reach}
-use Rattle.pass_pure.proofs.Tests.{counted-table}
+use Rattle.tables.specs.Entries.{entry-of, tallied, tallied-all}
+use Rattle.tables.specs.Counts.{Counts, pure-in}
+use Rattle.tables.specs.Sizes.{input-reach, input-size}
+use Rattle.tables.proofs.Counting.{counted-table}
 use Rattle.pass_clashes.specs.Resolving.{opposite-in}
 
-module _ (A B : Clause) (v : ℤ) (p : Proper A) (q : Proper B) (f : (x : ℤ) → List·Memᴰ x B → natAbs x ≤ reach) where
+module _ (A B : Clause) (v : ℤ) (p : Proper A) (q : Proper B) (f : (x : ℤ) → List·Memᴰ x B → natAbs x ≤ input-reach) where
   abbrev t : List ℕ
-  t = tallied (replicate (reach + reach + 2) 0) A
+  t = tallied (replicate input-size 0) A
 
-  table : Counts reach t (A ∷ [])
+  table : Counts input-reach t (A ∷ [])
   unfolding tallied-all
-  table = counted-table reach (A ∷ []) (λ d i. Proper-of d (List·Memᴰ·eq-of-singleton i)) (omega arith)
+  table = counted-table input-reach (A ∷ []) (λ d i. Proper-of d (List·Memᴰ·eq-of-singleton i)) (omega arith)
     where
       Proper-of : (d : Clause) → d ≡ A → Proper d
       Proper-of d e = rw e p
 
-  counted : (l : ℤ) → natAbs l ≤ reach → not (pure-in t l) ≡ holds (negℤ l) A
+  counted : (l : ℤ) → natAbs l ≤ input-reach → not (pure-in t l) ≡ holds (negℤ l) A
   counted l b =
-      ap (λ (n : ℕ). not (eqb n 0)) (ap (λ (z : ℤ). getD t (index-of z) 0) (negation-small l (omega arith)) ∙ table (negℤ l) (rw natAbs-neg b) ∙ times-cons (negℤ l) A [] ∙ ap (λ (n : ℕ). bit (holds (negℤ l) A) + n) (times-nil (negℤ l)))
+      ap (λ (n : ℕ). not (eqb n 0)) (ap (λ (z : ℤ). entry-of t z) (negation-small l (omega arith)) ∙ table (negℤ l) (rw natAbs-neg b) ∙ times-cons (negℤ l) A [] ∙ ap (λ (n : ℕ). bit (holds (negℤ l) A) + n) (times-nil (negℤ l)))
       ∙ go (holds (negℤ l) A)
     where
       go : (r : Bool) → not (eqb (bit r + 0) 0) ≡ r
@@ -75,3 +76,11 @@ module _ (A B : Clause) (v : ℤ) (p : Proper A) (q : Proper B) (f : (x : ℤ) �
       each-way {a = any (opposite-in t (negℤ v)) B} {b = opposed joint}
       (λ u. let r = any-mem (opposite-in t (negℤ v)) B u in opposite-mem (r .0) (r .1) (r .2))
       (λ u. let r = opposes-mem joint joint u in opposed-mem (r .0) (List·Memᴰ·append-cases (without v A) (r .1)) (List·Memᴰ·append-cases (without v A) (r .2)))
+
+-- ---- one literal, by what `same` and `is_pure` answer
+module _ (t : List ℕ) (out l : ℤ) (a : SFits w32 out) (b : SFits w32 l) {r : Bool} (e : r ≡ same (toZ w32 (ofZ w32 out)) (toZ w32 (ofZ w32 l))) where
+  pub opposite-gone : r ≡ true → false ≡ opposite-in t out l
+  opposite-gone k = let d : same out l ≡ true = sym (at-arg2 same out l a b) ∙ sym e ∙ k in rw d refl
+
+  pub opposite-kept : {q : Bool} → r ≡ false → q ≡ pure-in t (toZ w32 (ofZ w32 l)) → not q ≡ opposite-in t out l
+  opposite-kept k f = let d : same out l ≡ false = sym (at-arg2 same out l a b) ∙ sym e ∙ k in rw d (ap not (f ∙ at-arg (pure-in t) l b))

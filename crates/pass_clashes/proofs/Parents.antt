@@ -1,8 +1,8 @@
--- The two clauses of a clash in the store: what stands when they are deleted. Assumes nothing.
+-- The two clauses of a clash deleted: each is the only one with its literal, so the deletion finds it, and the second stays where the first is marked. Assumes nothing.
 use mathlib.Core.Path.{_≡_, refl, sym, ap, ap₂, subst, _∙_}
 use mathlib.Core.Logic.{_≢_}
 use mathlib.Core.List.{List, [], _∷_, List·Memᴰ, List·Memᴰ·head as here, Memᴰ·append-right}
-use Prim.Native.Nat.{ℕ, _+_, _-_, _≤_, _<_, _^_}
+use Prim.Native.Nat.{ℕ, _+_, _≤_, _<_, _^_}
 use native.Mathlib.Omega.{arith}
 use lib.Dec.{ltb}
 use lib.IntN.{ℤ, pos, negℤ}
@@ -24,16 +24,18 @@ use Rattle.store.proofs.Laws.{place-within, place-formed, place-prefix, prefix-
 use Rattle.progress.specs.declared.Progress.{Progress}
 use Rattle.progress.specs.Progress.{Written, Log-room}
 use Rattle.progress.proofs.Laws.{written-then, room-rest}
-use Rattle.pass_clashes.specs.Resolving.{Standing, Parents, clash-there, parent-lines, Parents-gone}
+use Rattle.pass_clashes.specs.Places.{Stands-at}
+use Rattle.pass_clashes.specs.Clashes.{clash-there}
+use Rattle.pass_clashes.specs.Resolving.{parent-lines, Parents, Parents-gone}
 
 -- ---- two places
 
 -- the clause at y stays where the one at x is deleted
-pub record Stays (s : List ℤ) (x y : ℕ) : Type 0 where
-  pub standing : Standing (marked s x) y
+record Stays (s : List ℤ) (x y : ℕ) : Type 0 where
+  pub standing : Stands-at (marked s x) y
   pub clause : clause-at (marked s x) y ≡ clause-at s y
 
-module _ {s : List ℤ} {x y : ℕ} (p : Standing s x) (q : Standing s y) where
+module _ {s : List ℤ} {x y : ℕ} (p : Stands-at s x) (q : Stands-at s y) where
   abbrev new : List ℤ
   new = marked s x
 
@@ -82,7 +84,7 @@ module _ {s : List ℤ} {x y : ℕ} (p : Standing s x) (q : Standing s y) where
       apart : y ≡ x → ⊥
       apart e = omega arith
 
-  pub stays : y ≢ x → Stays s x y
+  stays : y ≢ x → Stays s x y
   stays n = by-test (ltb x y) (λ e. stays-behind (ltb-true x y e)) (λ e. stays-before (less (ltb-false x y e)))
     where
       less : y ≤ x → y < x
@@ -90,23 +92,17 @@ module _ {s : List ℤ} {x y : ℕ} (p : Standing s x) (q : Standing s y) where
 
 -- ---- the only clause with a literal is deleted
 
-pub once-removed : {s : List ℤ} {at : ℕ} (l : ℤ) → Standing s at → List·Memᴰ l (clause-at s at) → times l (stored s) ≡ 1 → Removed (with-first l (clause-at s at)) (stored s) (stored (marked s at))
+once-removed : {s : List ℤ} {at : ℕ} (l : ℤ) → Stands-at s at → List·Memᴰ l (clause-at s at) → times l (stored s) ≡ 1 → Removed (with-first l (clause-at s at)) (stored s) (stored (marked s at))
 once-removed {s} {at} l p i e =
     let around = stored-around s at (p .inside) (p .place) (p .stands) in
     rw (around, marked-stored s at (p .inside) (p .place) (p .stands)) (only-removed l (clause-at s at) (stored (take at s)) (stored (drop (past s at) s)) i (sym (ap (times l) around) ∙ e))
 
 -- the clause stands in the list
-pub standing-mem : {s : List ℤ} {at : ℕ} → Standing s at → List·Memᴰ (clause-at s at) (stored s)
+standing-mem : {s : List ℤ} {at : ℕ} → Stands-at s at → List·Memᴰ (clause-at s at) (stored s)
 standing-mem {s} {at} p = rw (stored-around s at (p .inside) (p .place) (p .stands)) (Memᴰ·append-right (stored (take at s)) (here refl))
 
 -- ---- both are deleted
-module _ {s : List ℤ} {v a b : ℕ} (p : Parents s v a b) where
-  abbrev x : ℕ
-  x = a - 1
-
-  abbrev y : ℕ
-  y = b - 1
-
+module _ {s : List ℤ} {v x y : ℕ} (p : Parents s v x y) where
   abbrev mid : List ℤ
   mid = marked s x
 
@@ -116,22 +112,25 @@ module _ {s : List ℤ} {v a b : ℕ} (p : Parents s v a b) where
   first-removed : Removed (with-first (pos v) (clause-at s x)) (stored s) (stored mid)
   first-removed = once-removed (pos v) (p .one-stands) (p .one-holds) (p .one-once)
 
-  pub second-stays : Stays s x y
+  second-stays : Stays s x y
   second-stays = stays (p .one-stands) (p .other-stands) (λ e. p .apart (ap-mem e))
     where
       ap-mem : y ≡ x → List·Memᴰ n (clause-at s x)
       ap-mem e = subst (λ (k : ℕ). List·Memᴰ n (clause-at s k)) e (p .other-holds)
 
+  pub second-standing : Stands-at mid y
+  second-standing = second-stays .standing
+
   second-holds : List·Memᴰ n (clause-at mid y)
   second-holds = rw (second-stays .clause) (p .other-holds)
 
   second-once : times n (stored mid) ≡ 1
-  second-once = omega (arith, times-removed n first-removed, p .other-once, times-at n (standing-mem (second-stays .standing)) second-holds)
+  second-once = omega (arith, times-removed n first-removed, p .other-once, times-at n (standing-mem second-standing) second-holds)
 
   second-removed : Removed (with-first n (clause-at mid y)) (stored mid) (stored (marked mid y))
-  second-removed = once-removed n (second-stays .standing) second-holds second-once
+  second-removed = once-removed n second-standing second-holds second-once
 
-  both-after : stored (marked mid y) ≡ after (stored s) (parent-lines (clash-there s v a b))
+  both-after : stored (marked mid y) ≡ after (stored s) (parent-lines (clash-there s v x y))
   unfolding after changed
   both-after =
       sym (removed-take-out second-removed)
@@ -139,13 +138,13 @@ module _ {s : List ℤ} {v a b : ℕ} (p : Parents s v a b) where
       ∙ ap (take-out (with-first n (clause-at s y))) (sym (removed-take-out first-removed))
 
   both-formed : Formed (marked mid y)
-  both-formed = place-formed (marked-place mid y (second-stays .standing .inside) (second-stays .standing .place))
+  both-formed = place-formed (marked-place mid y (second-standing .inside) (second-standing .place))
 
   -- by what the calls answer
   pub parents-gone : {t u : List ℤ} {f g h : Bytes} {i j k : Progress} (l m : ℤ) → l ≡ pos v → m ≡ negℤ (pos v)
       → Written (deletion (with-first l (clause-at s x)) ∷ []) f i g j → j .end ≡ i .end → t ≡ marked s x
       → Written (deletion (with-first m (clause-at t y)) ∷ []) g j h k → k .end ≡ j .end → u ≡ marked t y
-      → Parents-gone s (clash-there s v a b) f i u h k
+      → Parents-gone (clash-there s v x y) s f i u h k
   parents-gone {t} {u} {f} {g} {h} {i} {j} {k} l m el em w₁ d₁ e₁ w₂ d₂ e₂ =
       let e : u ≡ marked mid y = e₂ ∙ ap (λ (r : List ℤ). marked r y) e₁ in
       let c : with-first m (clause-at t y) ≡ with-first n (clause-at s y) = ap₂ with-first em (ap (λ (r : List ℤ). clause-at r y) e₁ ∙ second-stays .clause) in
@@ -157,7 +156,7 @@ module _ {s : List ℤ} {v a b : ℕ} (p : Parents s v a b) where
       }
 
   -- the log's room
-  pub parents-room : {f g : Bytes} {i j : Progress} (l : ℤ) → l ≡ pos v → Log-room (parent-lines (clash-there s v a b)) i → Written (deletion (with-first l (clause-at s x)) ∷ []) f i g j → (j .at < 2 ^ 63) × (j .lines < 2 ^ 63)
+  pub parents-room : {f g : Bytes} {i j : Progress} (l : ℤ) → l ≡ pos v → Log-room (parent-lines (clash-there s v x y)) i → Written (deletion (with-first l (clause-at s x)) ∷ []) f i g j → (j .at < 2 ^ 63) × (j .lines < 2 ^ 63)
   parents-room {f} {g} {i} {j} l e r w =
       let q = room-rest (deletion (with-first (pos v) (clause-at s x)) ∷ []) (deletion (with-first n (clause-at s y)) ∷ []) r (subst (λ (z : ℤ). Written (deletion (with-first z (clause-at s x)) ∷ []) f i g j) e w) in
       (omega (arith, q .text), omega (arith, q .count))

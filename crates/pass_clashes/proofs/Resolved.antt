@@ -1,9 +1,9 @@
--- A clash is cleared: the resolvent is added, then the two clauses are deleted. Assumes nothing.
+-- A clash is cleared: the resolvent holds neither literal of the variable, so its two clauses stay where they are and are the only ones with them. Assumes nothing.
 use mathlib.Core.Path.{_≡_, refl, sym, ap, ap₂, subst, _∙_}
 use mathlib.Core.Logic.{⊎-elim}
 use mathlib.Core.Bool.{Bool, true, false, not}
-use mathlib.Core.List.{List, [], _∷_, _++_, List·Memᴰ, List·Memᴰ·append-cases}
-use Prim.Native.Nat.{ℕ, _-_, _≤_, _<_}
+use mathlib.Core.List.{List, [], _∷_, _++_, map, append-nil, List·Memᴰ, List·Memᴰ·append-cases}
+use Prim.Native.Nat.{ℕ, _≤_, _<_}
 use native.Mathlib.Omega.{arith}
 use lib.IntN.{ℤ, pos, negℤ}
 use lib.ListN.{length, take, drop, length-append, length-drop}
@@ -11,25 +11,29 @@ use lib.Seq.{length-take-le, take-take, take-at}
 use Rattle.definition.specs.Lists.{bit, only-if}
 use Rattle.definition.specs.Literals.{Clause, Formula, without, opposed}
 use Rattle.definition.specs.Text.{Bytes}
-use Rattle.definition.specs.Standing.{addition, changed, after}
+use Rattle.definition.specs.Standing.{addition, after}
 use Rattle.definition.specs.Events.{Clash, clash-cleared}
 use Rattle.definition.specs.Clearing.{times, resolvent, clash-lines}
-use Rattle.definition.specs.Reencoding.{lines-of}
+use Rattle.definition.specs.Reencoding.{lines, lines-of}
 use Rattle.theory_base.proofs.Members.{proper-unopposed, holds-false}
-use Rattle.theory_base.proofs.Replay.{after-++}
+use Rattle.theory_base.proofs.Replay.{after-++, after-additions}
 use Rattle.theory_soundness.proofs.Times.{times-++, times-cons, times-nil}
 use Rattle.theory_soundness.proofs.Without.{without-mem}
 use Rattle.literals.specs.Literal.{negative, header-literals}
 use Rattle.store.specs.Store.{Formed, stored, clause-at, past}
 use Rattle.store.proofs.Laws.{place-within, formed-next, prefix-header, prefix-clause}
 use Rattle.progress.specs.declared.Progress.{Progress}
-use Rattle.progress.specs.Progress.{Log-room, Ran}
-use Rattle.progress.proofs.Laws.{written-then, room-rest, ran-event}
-use Rattle.pass_clashes.specs.Resolving.{clash-there, Standing, Parents, parent-lines, resolvent-lines, Parents-gone, Resolvable, Resolvent-added}
-use Rattle.pass_clashes.proofs.Adding.{is-clash, parents}
+use Rattle.progress.specs.Progress.{Log-room, Runs}
+use Rattle.progress.specs.Growth.{entries, Grown}
+use Rattle.progress.proofs.Laws.{lines-one, written-then, room-rest, Holds, runs-lines}
+use Rattle.progress.proofs.Growing.{grown-filled, grown-holds}
+use Rattle.pass_clashes.specs.Places.{Stands-at}
+use Rattle.pass_clashes.specs.Clashes.{clash-there}
+use Rattle.pass_clashes.specs.Resolving.{added-by, parent-lines, Resolvable, Parents, Parents-gone}
+use Rattle.pass_clashes.proofs.Adding.{is-clash, parents, added-room}
 
 -- a clause keeps its place in a longer store
-longer-standing : (t : List ℤ) (end at : ℕ) → end ≤ length t → Formed t → Standing (take end t) at → Standing t at × (clause-at t at ≡ clause-at (take end t) at)
+longer-standing : (t : List ℤ) (end at : ℕ) → end ≤ length t → Formed t → Stands-at (take end t) at → Stands-at t at × (clause-at t at ≡ clause-at (take end t) at)
 longer-standing t end at l f p =
     let n = length-take-le end t l in
     let h : at < end = omega (arith, p .inside, n) in
@@ -40,30 +44,34 @@ longer-standing t end at l f p =
     )
 
 -- a literal that the resolvent does not hold stands as often as before
-times-kept : (l : ℤ) (F : Formula) (c : Clash) → (List·Memᴰ l (resolvent c) → ⊥) → times l (after F (resolvent-lines c)) ≡ times l F
-unfolding only-if after changed
+times-kept : (l : ℤ) (F : Formula) (c : Clash) → (List·Memᴰ l (resolvent c) → ⊥) → times l (F ++ added-by c) ≡ times l F
+unfolding only-if
 times-kept l F c n = go (opposed (resolvent c))
   where
-    go : (b : Bool) → times l (after F (only-if (not b) (addition (resolvent c) ∷ []))) ≡ times l F
-    go true = refl
+    go : (b : Bool) → times l (F ++ only-if (not b) (resolvent c ∷ [])) ≡ times l F
+    go true = ap (times l) (append-nil F)
     go false = omega (arith, times-++ l F (resolvent c ∷ []), times-cons l (resolvent c) [], times-nil l, ap bit (holds-false l (resolvent c) n))
 
-all-lines : (c : Clash) → clash-lines c ≡ resolvent-lines c ++ parent-lines c
-unfolding clash-lines
-all-lines c = refl
+clash-parts : (c : Clash) → lines (clash-cleared c ∷ []) ≡ map addition (added-by c) ++ parent-lines c
+unfolding lines-of clash-lines only-if
+clash-parts c = lines-one (clash-cleared c) ∙ go (opposed (resolvent c))
+  where
+    go : (b : Bool) → only-if (not b) (addition (resolvent c) ∷ []) ++ parent-lines c ≡ map addition (only-if (not b) (resolvent c ∷ [])) ++ parent-lines c
+    go true = refl
+    go false = refl
 
-module _ {work : List ℤ} {p : Progress} {v a b : ℕ} (r : Resolvable work p v a b) where
+module _ {work : List ℤ} {p : Progress} {v x y : ℕ} (r : Resolvable work p v x y) where
   abbrev s : List ℤ
   s = take (p .end) work
 
   abbrev c : Clash
-  c = clash-there s v a b
+  c = clash-there s v x y
 
   v-gone : List·Memᴰ (pos v) (resolvent c) → ⊥
   unfolding resolvent
   v-gone i =
       ⊎-elim (λ j. without-mem (pos v) (c .one) (pos v) j .1 refl)
-      (λ j. proper-unopposed (c .other) (r .proper (c .other) (is-clash r .other-stands)) (pos v) (without-mem (negℤ (pos v)) (c .other) (pos v) j .0) (is-clash r .other-holds))
+      (λ j. proper-unopposed (c .other) (r .good .proper (c .other) (is-clash r .other-stands)) (pos v) (without-mem (negℤ (pos v)) (c .other) (pos v) j .0) (is-clash r .other-holds))
       (List·Memᴰ·append-cases (without (pos v) (c .one)) i)
 
   negation-gone : List·Memᴰ (negℤ (pos v)) (resolvent c) → ⊥
@@ -73,51 +81,56 @@ module _ {work : List ℤ} {p : Progress} {v a b : ℕ} (r : Resolvable work p v
       (λ j. without-mem (negℤ (pos v)) (c .other) (negℤ (pos v)) j .1 refl)
       (List·Memᴰ·append-cases (without (pos v) (c .one)) i)
 
-  module _ {new : List ℤ} {x y : Bytes} {q : Progress} (d : Resolvent-added work c x p new y q) where
+  module _ {new : List ℤ} {log mid-log : Bytes} {q : Progress} (d : Grown (added-by c) work log p new mid-log q) where
     abbrev t : List ℤ
     t = take (q .end) new
 
+    there : Holds (stored s ++ added-by c) new (q .end)
+    there = grown-holds d (added-room r) (r .good .formed)
+
+    pub end-inside : q .end ≤ length new
+    end-inside = there .inside
+
     size : length t ≡ q .end
-    size = length-take-le (q .end) new (d .inside)
+    size = length-take-le (q .end) new (there .inside)
 
-    kept : (at : ℕ) → Standing s at → Standing t at × (clause-at t at ≡ clause-at s at)
+    kept : (at : ℕ) → Stands-at s at → Stands-at t at × (clause-at t at ≡ clause-at s at)
     kept at k =
-        let e : take (p .end) t ≡ s = take-take (p .end) (q .end) new (d .longer) ∙ d .before in
-        subst (λ (z : List ℤ). Standing t at × (clause-at t at ≡ clause-at z at)) e (longer-standing t (p .end) at (omega (arith, size, d .longer)) (d .formed) (rw e k))
+        let n : length s ≡ p .end = length-take-le (p .end) work (r .good .inside) in
+        let e : take (p .end) t ≡ s = ap (take (p .end)) (grown-filled d (added-room r)) ∙ take-at s (entries (added-by c)) (p .end) n in
+        subst (λ (z : List ℤ). Stands-at t at × (clause-at t at ≡ clause-at z at)) e (longer-standing t (p .end) at (omega (arith, size, d .next)) (there .formed) (rw e k))
 
-    one-kept : Standing t (a - 1) × (clause-at t (a - 1) ≡ c .one)
-    one-kept = kept (a - 1) (parents r .one-stands)
+    one-kept : Stands-at t x × (clause-at t x ≡ c .one)
+    one-kept = kept x (parents r .one-stands)
 
-    other-kept : Standing t (b - 1) × (clause-at t (b - 1) ≡ c .other)
-    other-kept = kept (b - 1) (parents r .other-stands)
+    other-kept : Stands-at t y × (clause-at t y ≡ c .other)
+    other-kept = kept y (parents r .other-stands)
 
-    same-clash : clash-there t v a b ≡ c
+    same-clash : clash-there t v x y ≡ c
     same-clash = ap₂ (λ (x y : Clause). record { v = pos v; one = x; other = y }) (one-kept .1) (other-kept .1)
 
-    pub parents-kept : Parents t v a b
+    pub parents-kept : Parents t v x y
     parents-kept = record {
-      one-first = parents r .one-first;
       one-stands = one-kept .0;
       one-holds = rw (one-kept .1) (parents r .one-holds);
-      one-once = ap (times (pos v)) (d .stands) ∙ times-kept (pos v) (stored s) c v-gone ∙ parents r .one-once;
-      other-first = parents r .other-first;
+      one-once = ap (times (pos v)) (there .stands) ∙ times-kept (pos v) (stored s) c v-gone ∙ parents r .one-once;
       other-stands = other-kept .0;
       other-holds = rw (other-kept .1) (parents r .other-holds);
-      other-once = ap (times (negℤ (pos v))) (d .stands) ∙ times-kept (negℤ (pos v)) (stored s) c negation-gone ∙ parents r .other-once;
+      other-once = ap (times (negℤ (pos v))) (there .stands) ∙ times-kept (negℤ (pos v)) (stored s) c negation-gone ∙ parents r .other-once;
       apart = λ i. parents r .apart (rw (one-kept .1) at i);
-      small = r .within;
+      small = parents r .small;
     }
 
-    pub room-kept : Log-room (parent-lines (clash-there t v a b)) q
-    room-kept = subst (λ (e : Clash). Log-room (parent-lines e) q) (sym same-clash) (room-rest (resolvent-lines c) (parent-lines c) (rw (all-lines c) at (r .room)) (d .written))
+    pub room-kept : Log-room (parent-lines (clash-there t v x y)) q
+    room-kept = subst (λ (e : Clash). Log-room (parent-lines e) q) (sym same-clash) (room-rest (map addition (added-by c)) (parent-lines c) (rw (clash-parts c) at (r .good .room)) (d .written))
 
-    pub resolved : {u : List ℤ} {z : Bytes} {w : Progress} → length u ≡ length t → length new ≡ length work → Parents-gone t (clash-there t v a b) y q u z w → Ran (stored s) (clash-cleared c ∷ []) (length work) x p (u ++ drop (q .end) new) z w
-    unfolding lines-of
-    resolved {u} {z} {w} n m g =
+    pub resolved : {u : List ℤ} {new-log : Bytes} {w : Progress} → length u ≡ length t → length new ≡ length work → Parents-gone (clash-there t v x y) t mid-log q u new-log w → Runs (clash-cleared c ∷ []) work log p (u ++ drop (q .end) new) new-log w
+    resolved {u} {new-log} {w} n m g =
         let o = length-append u (drop (q .end) new) in
         let k : take (w .end) (u ++ drop (q .end) new) ≡ u = take-at u (drop (q .end) new) (w .end) (omega (arith, n, size, g .kept)) in
-        let h : Parents-gone t c y q u z w = subst (λ (e : Clash). Parents-gone t e y q u z w) same-clash g in
-        ran-event (clash-cleared c) (omega (arith, o, n, m, size, length-drop (q .end) new, d .inside))
+        let h : Parents-gone c t mid-log q u new-log w = subst (λ (e : Clash). Parents-gone e t mid-log q u new-log w) same-clash g in
+        let l = clash-parts c in
+        runs-lines (omega (arith, o, n, m, size, length-drop (q .end) new, there .inside))
         (record { inside = omega (arith, o, n, size, g .kept); formed = rw k (g .formed); stands = ap stored k })
-        (h .stands ∙ ap (λ (f : Formula). after f (parent-lines c)) (d .stands) ∙ sym (after-++ (stored s) (resolvent-lines c) (parent-lines c)) ∙ ap (after (stored s)) (sym (all-lines c)))
-        (rw (all-lines c) (written-then (d .written) (h .written)))
+        (h .stands ∙ ap (λ (f : Formula). after f (parent-lines c)) (there .stands ∙ sym (after-additions (stored s) (added-by c))) ∙ sym (after-++ (stored s) (map addition (added-by c)) (parent-lines c)) ∙ ap (after (stored s)) (sym l))
+        (rw l (written-then (d .written) (h .written)))

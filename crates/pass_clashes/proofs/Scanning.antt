@@ -1,4 +1,4 @@
--- The scan over the variables. Assumes nothing.
+-- The scan over the variables: the events that happened, and those that are left from the next variable on, are always all the events. Assumes nothing.
 use mathlib.Core.Path.{_≡_, refl, sym, ap, ap₂, subst, _∙_}
 use mathlib.Core.List.{List, [], _∷_, _++_, append-assoc, append-nil}
 use mathlib.Core.Option.{some, none}
@@ -6,45 +6,29 @@ use Prim.Native.Nat.{ℕ, zero, suc, _+_, _-_, _≤_, _<_}
 use native.Mathlib.Numerals.{add-one}
 use native.Mathlib.Omega.{arith}
 use lib.IntN.{ℤ}
-use lib.ListN.{length, take, drop, length-append}
-use lib.Seq.{take-append-le}
-use Rattle.definition.specs.Lists.{for-each}
+use lib.ListN.{take}
 use Rattle.definition.specs.Literals.{Formula}
 use Rattle.definition.specs.Text.{Bytes}
 use Rattle.definition.specs.Standing.{after}
 use Rattle.definition.specs.Events.{Clash, Event, clash-cleared}
 use Rattle.definition.specs.Clearing.{clash-at, clash-lines, clear-clashes}
 use Rattle.definition.specs.Reencoding.{lines, lines-of}
-use Rattle.theory_base.proofs.Fitting.{fits-up, highest-of-le}
+use Rattle.definition.specs.Calls.{numbers-of}
+use Rattle.theory_base.specs.Clauses.{Proper-all, Fits}
+use Rattle.theory_base.proofs.Fitting.{highest-of-le}
 use Rattle.theory_base.proofs.Replay.{after-++, lines-++}
-use Rattle.theory_clearing.proofs.Clash.{after-proper, after-fits, after-shorter}
+use Rattle.theory_clearing.specs.Scan.{scan-next, scan-from}
+use Rattle.theory_clearing.proofs.Clash.{after-proper, after-fits}
 use Rattle.theory_clearing.proofs.Clashes.{clash-at-some}
 use Rattle.theory_clearing.proofs.Scan.{scan-clashes}
-use Rattle.theory_clearing.specs.Scan.{scan-next, scan-from}
-use Rattle.store.specs.Store.{stored, Compacted}
 use Rattle.progress.specs.declared.Progress.{Progress}
-use Rattle.progress.specs.Progress.{Ran}
-use Rattle.progress.proofs.Laws.{lines-none, lines-one, room-first, room-rest, ran-nothing, ran-written, ran-join}
-use Rattle.pass_pure.specs.Pass.{reach}
-use Rattle.pass_clashes.specs.Resolving.{clash-there, Resolvable}
-use Rattle.pass_clashes.specs.Clashes.{Searchable, Free, Next, Clash-ready}
-use Rattle.pass_clashes.specs.Scan.{Slid-down, events-from, Clearable, Scan-ready, Scanned}
+use Rattle.progress.specs.Progress.{standing, Good, Runs}
+use Rattle.progress.proofs.Laws.{lines-none, lines-one, runs-nothing, runs-join, good-up, good-first, good-rest, good-still}
+use Rattle.pass_clashes.specs.Clashes.{Free, clash-there, Next}
+use Rattle.pass_clashes.specs.Resolving.{Resolvable}
+use Rattle.pass_clashes.specs.Scan.{Clash-ready, events-from, events-left, Scanned}
 use Rattle.pass_clashes.specs.declared.NextClash.the-variants.{At, Nothing}
 use Rattle.pass_clashes.specs.declared.Scan.{Scan}
-use Rattle.pass_clashes.proofs.Adding.{clashing-is}
-
--- ---- the store as the first part of the workspace
-pub slid-down : {work new : List ℤ} {p q : Progress} {n : ℕ} → Compacted (take (p .end) work) n new → q .end ≡ n → q .at ≡ p .at → q .lines ≡ p .lines → Slid-down work p (new ++ drop (p .end) work) q
-slid-down {work} {new} {p} {q} {n} k d e f =
-    let t : take (q .end) (new ++ drop (p .end) work) ≡ take n new = ap (λ (m : ℕ). take m (new ++ drop (p .end) work)) d ∙ take-append-le n new (drop (p .end) work) (k .within) in
-    record {
-      inside = omega (arith, k .within, length-append new (drop (p .end) work));
-      formed = rw t (k .formed);
-      same = ap stored t ∙ k .same;
-      end-is = d ∙ k .size;
-      at-same = e;
-      lines-same = f;
-    }
 
 -- ---- the events of the variables from one on
 
@@ -78,6 +62,25 @@ events-clash v variables F c h e =
     let n : variables + 1 - v ≡ suc (variables + 1 - (v + 1)) = omega arith in
     ap (λ (k : ℕ). scan-from v k F) n ∙ rw e (ap (λ (k : ℕ). clash-cleared c ∷ scan-from k (variables + 1 - (v + 1)) (after F (clash-lines c))) (sym (add-one v)))
 
+-- ---- what the other events need where the first ran
+ready-rest : (xs ys : List Event) {work new : List ℤ} {log new-log : Bytes} {p r : Progress} {variables : ℕ} → Clash-ready (xs ++ ys) work p variables → Runs xs work log p new new-log r
+    → Proper-all (after (standing work p) (lines xs)) → Fits variables (after (standing work p) (lines xs)) → Clash-ready ys new r variables
+ready-rest xs ys {work} {new} {p = p} {r = r} k g a b = record {
+  good = good-rest xs ys (k .good) g a b;
+  within = k .within;
+  space = λ us vs c e o.
+      omega (
+        arith,
+        g .size,
+        ap numbers-of (after-more us),
+        k .space (xs ++ us) vs c (ap (λ (es : List Event). xs ++ es) e ∙ sym (append-assoc xs us (clash-cleared c ∷ vs))) o,
+      );
+}
+  where
+    after-more : (us : List Event) → after (standing new r) (lines us) ≡ after (standing work p) (lines (xs ++ us))
+    after-more us = ap (λ (F : Formula). after F (lines us)) (g .stands) ∙ sym (after-++ (standing work p) (lines xs) (lines us)) ∙ ap (after (standing work p)) (sym (lines-++ xs us))
+
+-- what stands after no event, and after one clash
 after-none : (F : Formula) → after F (lines []) ≡ F
 unfolding after
 after-none F = ap (after F) lines-none
@@ -86,146 +89,100 @@ after-clash : (F : Formula) (c : Clash) → after F (lines (clash-cleared c ∷ 
 unfolding lines-of
 after-clash F c = ap (after F) (lines-one (clash-cleared c))
 
-lines-clash : (c : Clash) (es : List Event) → lines (clash-cleared c ∷ es) ≡ clash-lines c ++ lines es
-unfolding lines for-each lines-of
-lines-clash c es = refl
-
--- what stays true from clash to clash
-clearable-after : (F : Formula) (variables v : ℕ) (c : Clash) → Clearable F variables → clash-at F v ≡ some c → Clearable (after F (clash-lines c)) variables
-clearable-after F variables v c k e =
-    let i = clash-at-some F v c e .1 in
-    record { proper = after-proper F c (k .proper) i; fits = after-fits F c (k .proper) i variables (k .fits); few = omega (arith, k .few, after-shorter F c (k .proper) i) }
-
--- ---- a turn of the scan
-module _ {work mid : List ℤ} {z : Scan} {q : Progress} {variables : ℕ} (r : Scan-ready work z variables) (d : Slid-down work (z .progress) mid q) (m : length mid ≡ length work) where
+-- ---- a turn of the scan: the store slid down, then the next clash cleared
+module _ {work mid : List ℤ} {log : Bytes} {z : Scan} {q : Progress} {variables : ℕ} (order : z .next ≤ variables) (r : Clash-ready (events-left work z variables) work (z .progress) variables)
+    (k : Runs [] work log (z .progress) mid log q) where
   abbrev F : Formula
-  F = stored (take (z .progress .end) work)
+  F = standing work (z .progress)
 
   abbrev t : List ℤ
   t = take (q .end) mid
 
-  pub searchable : Searchable t (z .next) variables
-  searchable = record {
-    formed = d .formed;
-    proper = rw (d .same) (r .clearable .proper);
-    fits = fits-up reach variables (stored t) (r .within) (rw (d .same) (r .clearable .fits));
-    few = rw (d .same) (r .clearable .few);
-    order = omega (arith, r .order);
-    within = r .within;
-  }
+  same : standing mid q ≡ F
+  same = k .stands ∙ after-none F
 
-  slid-ran : (log : Bytes) → Ran F [] (length work) log (z .progress) mid log q
-  slid-ran log = subst (λ (n : ℕ). Ran F [] n log (z .progress) mid log q) m (ran-nothing log (z .progress) q (record { inside = d .inside; formed = d .formed; stands = d .same }) (d .at-same) (d .lines-same))
+  slid-ready : {es : List Event} → events-left work z variables ≡ es → Clash-ready es mid q variables
+  slid-ready {es} e =
+      ready-rest [] es (subst (λ (ds : List Event). Clash-ready ds work (z .progress) variables) e r) k (rw (after-none F) (r .good .proper)) (rw (after-none F) (r .good .fits))
+
+  pub search-good : Good variables [] mid q
+  search-good = good-first [] (events-left work z variables) (good-still (r .good) k)
 
   -- there is none
-  pub scanned-none : (log : Bytes) → Next t (z .next) variables Nothing → Scanned F (length work) log z variables mid log (record { progress = q; next = variables + 1 })
-  scanned-none log f = record {
-    events = [];
-    ran = slid-ran log;
-    rest = events-none (variables + 1) variables (after F (lines [])) (omega arith) ∙ sym (events-free (z .next) (variables + 1) variables F (omega (arith, r .order)) (omega arith) (rw (d .same) at f) ∙ events-none (variables + 1) variables F (omega arith));
-    clearable = rw (after-none F) (r .clearable);
-    later = omega (arith, r .order);
-    order = omega arith;
-  }
+  pub scanned-none : Next t (z .next) variables Nothing → Scanned variables work log z mid log (record { progress = q; next = variables + 1 })
+  scanned-none f =
+      let l : events-left work z variables ≡ events-from (variables + 1) variables (standing mid q) = ap (events-from (z .next) variables) (sym same) ∙ events-free (z .next) (variables + 1) variables (standing mid q) (omega arith) (omega arith) f in
+      record { events = []; runs = k; rest = sym l; ready = slid-ready l; order = omega arith }
 
   -- there is one
-  module _ {v a b : ℕ} (k : Next t (z .next) variables (At v a b)) where
+  module _ {v x y : ℕ} (f : Next t (z .next) variables (At v x y)) where
     abbrev c : Clash
-    c = clash-there t v a b
+    c = clash-there t v x y
 
-    found : clash-at F v ≡ some c
-    found = ap (λ (f : Formula). clash-at f v) (sym (d .same)) ∙ clashing-is (k .3)
+    abbrev others : List Event
+    others = events-from (v + 1) variables (after F (clash-lines c))
 
-    events-are : events-from (z .next) variables F ≡ clash-cleared c ∷ events-from (v + 1) variables (after F (clash-lines c))
-    events-are = events-free (z .next) v variables F (k .0) (omega (arith, k .1)) (λ j lo hi. ap (λ (f : Formula). clash-at f j) (sym (d .same)) ∙ k .2 j lo hi) ∙ events-clash v variables F c (k .1) found
+    clash-here : clash-at F v ≡ some c
+    clash-here = ap (λ (G : Formula). clash-at G v) (sym same) ∙ f .3 .clash
 
-    pub variable-small : v ≤ reach
-    variable-small = omega (arith, k .1, r .within)
+    left-are : events-left work z variables ≡ clash-cleared c ∷ others
+    left-are = events-free (z .next) v variables F (f .0) (omega (arith, f .1)) (λ j lo hi. ap (λ (G : Formula). clash-at G j) (sym same) ∙ f .2 j lo hi) ∙ events-clash v variables F c (f .1) clash-here
 
-    pub resolvable : Resolvable mid q v a b
-    resolvable = record {
-      inside = d .inside;
-      formed = d .formed;
-      proper = searchable .proper;
-      fits = searchable .fits;
-      within = variable-small;
-      clash = k .3;
-      space = λ o. omega (arith, m, d .end-is, r .space c (events-from (v + 1) variables (after F (clash-lines c))) events-are o);
-      room =
-          let l = room-first (clash-lines c) (lines (events-from (v + 1) variables (after F (clash-lines c)))) (rw (ap lines events-are ∙ lines-clash c (events-from (v + 1) variables (after F (clash-lines c)))) at (r .room)) in
-          record { text = omega (arith, l .text, d .at-same); count = omega (arith, l .count, d .lines-same) };
-    }
+    pub resolvable : q .end ≡ numbers-of F → Resolvable mid q v x y
+    resolvable n =
+        let m = slid-ready left-are in
+        record {
+          good = good-up (r .within) (good-first (clash-cleared c ∷ []) others (m .good));
+          clash = f .3;
+          space = λ o. omega (arith, n, ap numbers-of (after-none (standing mid q) ∙ same), m .space [] others c refl o);
+        }
 
-    pub scanned-clash : {new : List ℤ} {x y : Bytes} {w : Progress} → Ran (stored t) (clash-cleared c ∷ []) (length mid) x q new y w → Scanned F (length work) x z variables new y (record { progress = w; next = v + 1 })
-    scanned-clash {new} {x} {y} {w} g = record {
-      events = clash-cleared c ∷ [];
-      ran =
-          ran-join {es = []} (slid-ran x)
-          (subst (λ (n : ℕ). Ran (after F (lines [])) (clash-cleared c ∷ []) n x q new y w) m (subst (λ (f : Formula). Ran f (clash-cleared c ∷ []) (length mid) x q new y w) (d .same ∙ sym (after-none F)) g));
-      rest = ap (λ (f : Formula). clash-cleared c ∷ events-from (v + 1) variables f) (after-clash F c) ∙ sym events-are;
-      clearable = rw (after-clash F c) (clearable-after F variables v c (r .clearable) found);
-      later = omega (arith, k .0);
-      order = omega (arith, k .1);
-    }
+    pub scanned-clash : {new : List ℤ} {new-log : Bytes} {w : Progress} → Runs (clash-cleared c ∷ []) mid log q new new-log w → Scanned variables work log z new new-log (record { progress = w; next = v + 1 })
+    scanned-clash {new} {new-log} {w} g =
+        let all = runs-join {es = []} k g in
+        let i = clash-at-some F v c clash-here .1 in
+        let e : clash-cleared c ∷ events-from (v + 1) variables (standing new w) ≡ events-left work z variables = ap (λ (G : Formula). clash-cleared c ∷ events-from (v + 1) variables G) (all .stands ∙ after-clash F c) ∙ sym left-are in
+        record {
+          events = clash-cleared c ∷ [];
+          runs = all;
+          rest = e;
+          ready =
+              ready-rest (clash-cleared c ∷ []) (events-from (v + 1) variables (standing new w)) (subst (λ (es : List Event). Clash-ready es work (z .progress) variables) (sym e) r) all
+              (rw (after-clash F c) (after-proper F c (r .good .proper) i)) (rw (after-clash F c) (after-fits F c (r .good .proper) i variables (r .good .fits)));
+          order = omega (arith, f .1);
+        }
 
 -- ---- the loop
 
--- the variables before the next one are gone through
-pub record Clearing (F : Formula) (size : ℕ) (old-log : Bytes) (old : Progress) (variables : ℕ) (work : List ℤ) (log : Bytes) (z : Scan) : Type 0 where
-  pub events : List Event
-  pub ran : Ran F events size old-log old work log (z .progress)
-  pub rest : events ++ events-from (z .next) variables (after F (lines events)) ≡ clear-clashes F
-  pub clearable : Clearable (after F (lines events)) variables
-  pub order : z .next ≤ variables + 1
+pub scanned-then : {variables : ℕ} {a b c : List ℤ} {l m n : Bytes} {x y z : Scan} → Scanned variables a l x b m y → Scanned variables b m y c n z → Scanned variables a l x c n z
+scanned-then {variables} {c = c} {z = z} s t = record {
+  events = s .events ++ t .events;
+  runs = runs-join (s .runs) (t .runs);
+  rest = append-assoc (s .events) (t .events) (events-left c z variables) ∙ ap (λ (es : List Event). s .events ++ es) (t .rest) ∙ s .rest;
+  ready = t .ready;
+  order = t .order;
+}
 
-module _ {work : List ℤ} {p : Progress} {variables : ℕ} (r : Clash-ready work p variables) where
-  abbrev F₀ : Formula
-  F₀ = stored (take (p .end) work)
+module _ {work : List ℤ} {p : Progress} {variables : ℕ} (r : Clash-ready (clear-clashes (standing work p)) work p variables) where
+  abbrev start : Scan
+  start = record { progress = p; next = 1 }
 
-  pub clearing-start : (log : Bytes) → Clearing F₀ (length work) log p variables work log (record { progress = p; next = 1 })
-  clearing-start log = record {
+  all-left : clear-clashes (standing work p) ≡ events-left work start variables
+  all-left =
+      let n : variables ≡ variables + 1 - 1 = omega arith in
+      sym (scan-clashes variables (standing work p) (r .good .proper) (highest-of-le variables (standing work p) (λ d i x j. r .good .fits d i x j .1))) ∙ ap (λ (k : ℕ). scan-from 1 k (standing work p)) n
+
+  pub scanned-start : (log : Bytes) → Scanned variables work log (record { progress = p; next = 1 }) work log (record { progress = p; next = 1 })
+  scanned-start log = record {
     events = [];
-    ran = ran-nothing log p p (record { inside = r .inside; formed = r .formed; stands = refl }) refl refl;
-    rest =
-        let n : variables + 1 - 1 ≡ variables = omega arith in
-        ap₂ (λ (k : ℕ) (f : Formula). scan-from 1 k f) n (after-none F₀) ∙ scan-clashes variables F₀ (r .proper) (highest-of-le variables F₀ (λ d i x j. r .fits d i x j .1));
-    clearable = rw (after-none F₀) (record { proper = r .proper; fits = r .fits; few = r .few });
+    runs = runs-nothing log p p refl (record { inside = r .good .inside; formed = r .good .formed; stands = refl }) refl refl;
+    rest = refl;
+    ready = subst (λ (es : List Event). Clash-ready es work p variables) all-left r;
     order = omega arith;
   }
 
-  module _ {new : List ℤ} {x y : Bytes} {z : Scan} (i : Clearing F₀ (length work) x p variables new y z) where
-    abbrev rest-of : List Event
-    rest-of = events-from (z .next) variables (after F₀ (lines (i .events)))
-
-    pub clearing-ready : z .next ≤ variables → Scan-ready new z variables
-    clearing-ready h = record {
-      inside = omega (arith, i .ran .size, i .ran .inside);
-      formed = i .ran .formed;
-      clearable = rw (i .ran .stands) (i .clearable);
-      within = r .within;
-      order = h;
-      space = λ c es e o.
-          let f : rest-of ≡ clash-cleared c ∷ es = ap (events-from (z .next) variables) (sym (i .ran .stands)) ∙ e in
-          rw (i .ran .stands, i .ran .size) (r .space (i .events) es c (sym (i .rest) ∙ ap (λ (k : List Event). i .events ++ k) f) o);
-      room = rw (i .ran .stands) (room-rest (lines (i .events)) (lines rest-of) (rw (ap lines (sym (i .rest)) ∙ lines-++ (i .events) rest-of) at (r .room)) (ran-written (i .ran)));
-    }
-
-    pub clearing-step : {next : List ℤ} {l : Bytes} {w : Scan} → Scanned (stored (take (z .progress .end) new)) (length new) y z variables next l w → Clearing F₀ (length work) x p variables next l w
-    clearing-step {next} {l} {w} k =
-        let g : Scanned (after F₀ (lines (i .events))) (length work) y z variables next l w = subst (λ (f : Formula). Scanned f (length work) y z variables next l w) (i .ran .stands) (subst (λ (n : ℕ). Scanned (stored (take (z .progress .end) new)) n y z variables next l w) (i .ran .size) k) in
-        let e : after F₀ (lines (i .events ++ g .events)) ≡ after (after F₀ (lines (i .events))) (lines (g .events)) = ap (after F₀) (lines-++ (i .events) (g .events)) ∙ after-++ F₀ (lines (i .events)) (lines (g .events)) in
-        record {
-          events = i .events ++ g .events;
-          ran = ran-join (i .ran) (g .ran);
-          rest =
-              ap (λ (f : Formula). (i .events ++ g .events) ++ events-from (w .next) variables f) e
-              ∙ append-assoc (i .events) (g .events) (events-from (w .next) variables (after (after F₀ (lines (i .events))) (lines (g .events))))
-              ∙ ap (λ (k : List Event). i .events ++ k) (g .rest) ∙ i .rest;
-          clearable = rw e (g .clearable);
-          order = g .order;
-        }
-
-    pub clearing-end : variables < z .next → Ran F₀ (clear-clashes F₀) (length work) x p new y (z .progress)
-    clearing-end h =
-        let e : i .events ≡ clear-clashes F₀ = sym (append-nil (i .events)) ∙ ap (λ (k : List Event). i .events ++ k) (sym (events-none (z .next) variables (after F₀ (lines (i .events))) h)) ∙ i .rest in
-        subst (λ (k : List Event). Ran F₀ k (length work) x p new y (z .progress)) e (i .ran)
+  pub scanned-end : {new : List ℤ} {log new-log : Bytes} {z : Scan} → Scanned variables work log (record { progress = p; next = 1 }) new new-log z → variables < z .next → Runs (clear-clashes (standing work p)) work log p new new-log (z .progress)
+  scanned-end {new} {log} {new-log} {z} s h =
+      let e : s .events ≡ clear-clashes (standing work p) =
+      sym (append-nil (s .events)) ∙ ap (λ (es : List Event). s .events ++ es) (sym (events-none (z .next) variables (standing new (z .progress)) h)) ∙ s .rest ∙ sym all-left in
+      subst (λ (es : List Event). Runs es work log p new new-log (z .progress)) e (s .runs)

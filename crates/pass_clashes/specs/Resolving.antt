@@ -1,89 +1,77 @@
--- The resolvent of a clash.
+-- One clash cleared: the resolvent added, then its two clauses deleted.
 use mathlib.Core.Path.{_≡_}
 use mathlib.Core.Bool.{Bool, true, false, not, _&&_}
 use mathlib.Core.List.{List, [], _∷_, _++_, List·Memᴰ}
-use Prim.Native.Nat.{ℕ, _+_, _-_, _≤_, _<_}
+use Prim.Native.Nat.{ℕ, _+_, _≤_}
 use lib.IntN.{ℤ, pos, negℤ}
 use lib.ListN.{length, take, drop}
+use lib.Seq.{sets}
 use Rattle.definition.specs.Lists.{only-if}
-use Rattle.definition.specs.Literals.{Clause, same, without, with-first, opposed}
+use Rattle.definition.specs.Literals.{Clause, Formula, same, without, with-first, opposed}
 use Rattle.definition.specs.Text.{Bytes}
-use Rattle.definition.specs.Standing.{Line, addition, deletion, after}
-use Rattle.definition.specs.Events.{Clash}
-use Rattle.definition.specs.Clearing.{times, resolvent, clash-lines}
-use Rattle.theory_base.specs.Clauses.{Proper-all, Fits}
+use Rattle.definition.specs.Standing.{Line, deletion, after}
+use Rattle.definition.specs.Events.{Clash, clash-cleared}
+use Rattle.definition.specs.Clearing.{times, resolvent}
 use Rattle.literals.specs.Literal.{signed-of}
-use Rattle.store.specs.Store.{Formed, stored, deleted-at, clause-at, Place}
+use Rattle.store.specs.Store.{Formed, stored, clause-at}
 use Rattle.progress.specs.declared.Progress.{Progress}
-use Rattle.progress.specs.Progress.{Written, Log-room}
-use Rattle.pass_pure.specs.Table.{pure-in}
-use Rattle.pass_pure.specs.Pass.{reach}
-use Rattle.pass_clashes.specs.Clashes.{Clashing}
+use Rattle.progress.specs.Progress.{Written, Good}
+use Rattle.tables.specs.Sizes.{input-reach}
+use Rattle.tables.specs.Counts.{pure-in}
+use Rattle.pass_clashes.specs.Places.{Stands-at}
+use Rattle.pass_clashes.specs.Clashes.{clash-there, Clashing}
 
 -- l is not the literal that is left out, and its negation is counted
 abbrev pub opposite-in : List ℕ → ℤ → ℤ → Bool
 opposite-in t out l = not (same out l) && not (pure-in t l)
 
+-- n literals of a store from a place on, without a variable or its negation
+abbrev pub part-without : List ℤ → ℕ → ℕ → Bool → ℕ → Clause
+part-without s from n is-negative v = without (signed-of is-negative v) (take n (drop from s))
+
+-- they are copied to another place; r is the one past them
+pub record Copied (work : List ℤ) (to from n : ℕ) (is-negative : Bool) (v : ℕ) (new : List ℤ) (r : ℕ) : Type 0 where
+  pub next : r ≡ to + length (part-without work from n is-negative v)
+  pub copied : new ≡ sets work to (part-without work from n is-negative v)
+
 -- na literals of a store from a on without v, then nb from b on without -v
 abbrev pub joined : List ℤ → ℕ → ℕ → ℕ → ℕ → ℕ → Clause
-joined s a na b nb v = without (signed-of false v) (take na (drop a s)) ++ without (signed-of true v) (take nb (drop b s))
+joined s a na b nb v = part-without s a na false v ++ part-without s b nb true v
 
--- ---- one clash, by places
+-- both parts lie before the end, and the entry of what they give fits behind it
+pub record Joinable (work : List ℤ) (end a na b nb v : ℕ) : Type 0 where
+  pub one : a + na ≤ end
+  pub other : b + nb ≤ end
+  pub space : end + (length (joined work a na b nb v) + 1) ≤ length work
 
--- the clash of v whose clauses' literals begin at a and b
-abbrev pub clash-there : List ℤ → ℕ → ℕ → ℕ → Clash
-clash-there s v a b = record { v = pos v; one = clause-at s (a - 1); other = clause-at s (b - 1) }
-
--- a clause stands at the place
-pub record Standing (s : List ℤ) (at : ℕ) : Type 0 where
-  pub inside : at < length s
-  pub place : Place s at
-  pub stands : deleted-at s at ≡ false
-
--- v stands once, in the clause whose literals begin at a, and -v once, in the one whose literals begin at b
-pub record Parents (s : List ℤ) (v a b : ℕ) : Type 0 where
-  pub one-first : 1 ≤ a
-  pub one-stands : Standing s (a - 1)
-  pub one-holds : List·Memᴰ (pos v) (clause-at s (a - 1))
-  pub one-once : times (pos v) (stored s) ≡ 1
-  pub other-first : 1 ≤ b
-  pub other-stands : Standing s (b - 1)
-  pub other-holds : List·Memᴰ (negℤ (pos v)) (clause-at s (b - 1))
-  pub other-once : times (negℤ (pos v)) (stored s) ≡ 1
-  pub apart : List·Memᴰ (negℤ (pos v)) (clause-at s (a - 1)) → ⊥
-  pub small : v ≤ reach
+-- the clause that a clash adds, if it does
+abbrev pub added-by : Clash → Formula
+added-by c = only-if (not (opposed (resolvent c))) (resolvent c ∷ [])
 
 -- the deletions of a clash
 abbrev pub parent-lines : Clash → List Line
 parent-lines c = deletion (with-first (c .v) (c .one)) ∷ deletion (with-first (negℤ (c .v)) (c .other)) ∷ []
 
--- its addition, if there is one
-abbrev pub resolvent-lines : Clash → List Line
-resolvent-lines c = only-if (not (opposed (resolvent c))) (addition (resolvent c) ∷ [])
+-- what clearing the clash of v at x and y needs
+pub record Resolvable (work : List ℤ) (p : Progress) (v x y : ℕ) : Type 0 where
+  pub good : Good input-reach (clash-cleared (clash-there (take (p .end) work) v x y) ∷ []) work p
+  pub clash : Clashing (take (p .end) work) v x y
+  pub space : opposed (resolvent (clash-there (take (p .end) work) v x y)) ≡ false → p .end + (length (resolvent (clash-there (take (p .end) work) v x y)) + 1) ≤ length work
+
+-- v stands once, in the clause at x, and -v once, in the one at y
+pub record Parents (s : List ℤ) (v x y : ℕ) : Type 0 where
+  pub one-stands : Stands-at s x
+  pub one-holds : List·Memᴰ (pos v) (clause-at s x)
+  pub one-once : times (pos v) (stored s) ≡ 1
+  pub other-stands : Stands-at s y
+  pub other-holds : List·Memᴰ (negℤ (pos v)) (clause-at s y)
+  pub other-once : times (negℤ (pos v)) (stored s) ≡ 1
+  pub apart : List·Memᴰ (negℤ (pos v)) (clause-at s x) → ⊥
+  pub small : v ≤ input-reach
 
 -- the clauses of the clash c are deleted
-pub record Parents-gone (old : List ℤ) (c : Clash) (old-log : Bytes) (p : Progress) (new : List ℤ) (log : Bytes) (q : Progress) : Type 0 where
+pub record Parents-gone (c : Clash) (s : List ℤ) (log : Bytes) (p : Progress) (new : List ℤ) (new-log : Bytes) (r : Progress) : Type 0 where
   pub formed : Formed new
-  pub stands : stored new ≡ after (stored old) (parent-lines c)
-  pub written : Written (parent-lines c) old-log p log q
-  pub kept : q .end ≡ p .end
-
--- what a clash of v at a and b needs of the workspace, whose first elements are the store
-pub record Resolvable (work : List ℤ) (p : Progress) (v a b : ℕ) : Type 0 where
-  pub inside : p .end ≤ length work
-  pub formed : Formed (take (p .end) work)
-  pub proper : Proper-all (stored (take (p .end) work))
-  pub fits : Fits reach (stored (take (p .end) work))
-  pub within : v ≤ reach
-  pub clash : Clashing (take (p .end) work) v a b
-  pub space : opposed (resolvent (clash-there (take (p .end) work) v a b)) ≡ false → p .end + (length (resolvent (clash-there (take (p .end) work) v a b)) + 1) ≤ length work
-  pub room : Log-room (clash-lines (clash-there (take (p .end) work) v a b)) p
-
--- the resolvent of the clash c is added behind what stood, unless it is opposed
-pub record Resolvent-added (old : List ℤ) (c : Clash) (old-log : Bytes) (p : Progress) (new : List ℤ) (log : Bytes) (q : Progress) : Type 0 where
-  pub inside : q .end ≤ length new
-  pub longer : p .end ≤ q .end
-  pub before : take (p .end) new ≡ take (p .end) old
-  pub formed : Formed (take (q .end) new)
-  pub stands : stored (take (q .end) new) ≡ after (stored (take (p .end) old)) (resolvent-lines c)
-  pub written : Written (resolvent-lines c) old-log p log q
+  pub stands : stored new ≡ after (stored s) (parent-lines c)
+  pub written : Written (parent-lines c) log p new-log r
+  pub kept : r .end ≡ p .end

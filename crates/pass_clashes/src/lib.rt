@@ -1,58 +1,39 @@
 // Clearing clashes: a variable stands in one unique literal clause and its negation in another.
 ghost use mathlib.Core.Path.{_≡_};
-ghost use Prim.Native.Nat.{_+_, _<_, _≤_, _^_, ℕ, _-_};
-ghost use lib.ListN.{length, take, drop, set, getD, replicate};
-ghost use Rattle.literals.specs.Literal.{index-of, signed-of};
-ghost use Rattle.store.specs.Store.{Formed, stored, entry, marked, clause-at};
-ghost use Rattle.pass_clashes.specs.Places.{with-places, placed-at, Countable, Placed};
 ghost use mathlib.Core.Bool.{true, false};
-ghost use Rattle.pass_clashes.specs.Clashes.{both, Searchable, Next, Clash-ready};
 ghost use mathlib.Core.List.{[], _∷_};
+ghost use Prim.Native.Nat.{ℕ, _+_, _-_, _≤_, _<_, _^_};
 ghost use lib.IntN.{pos};
+ghost use lib.ListN.{length, take, drop, getD, replicate};
 ghost use lib.Seq.{sets};
 ghost use Rattle.definition.specs.Lists.{any};
 ghost use Rattle.definition.specs.Literals.{without, with-first};
-ghost use Rattle.store.specs.Tally.{tallied};
-ghost use Rattle.pass_clashes.specs.Resolving.{opposite-in, joined, clash-there, Parents, parent-lines, Parents-gone, Resolvable, Resolvent-added};
-ghost use Rattle.definition.specs.Standing.{deletion, addition};
-ghost use Rattle.progress.specs.Progress.{Written, Log-room, Ran};
+ghost use Rattle.definition.specs.Standing.{deletion};
 ghost use Rattle.definition.specs.Events.{clash-cleared};
 ghost use Rattle.definition.specs.Clearing.{clear-clashes};
-ghost use Rattle.pass_clashes.specs.Scan.{Slid-down, Scan-ready, Scanned};
+ghost use Rattle.literals.specs.Literal.{signed-of};
+ghost use Rattle.tables.specs.Sizes.{input-reach, input-size};
+ghost use Rattle.tables.specs.Entries.{entry-of, tallied};
+ghost use Rattle.store.specs.Store.{Formed, stored, entry, marked, clause-at, Counted};
+ghost use Rattle.progress.specs.Progress.{Written, Log-room, standing, Good, Runs};
+ghost use Rattle.progress.specs.Growth.{Grown};
+ghost use Rattle.pass_clashes.specs.Places.{placed-at, Placed};
+ghost use Rattle.pass_clashes.specs.Clashes.{both, Next, clash-there};
+ghost use Rattle.pass_clashes.specs.Resolving.{opposite-in, part-without, Copied, joined, Joinable, added-by, parent-lines, Resolvable, Parents, Parents-gone};
+ghost use Rattle.pass_clashes.specs.Scan.{Clash-ready, events-left, Scanned};
 use progress::Progress;
 
-// The next variable with a clash, and where the literals of its two clauses begin.
+// The next variable with a clash, and the places of its two clauses.
 pub enum NextClash {
     At(u32, usize, usize),
     Nothing,
 }
 
-// ---- the place of the unique literal clause that holds a literal, at the literal's index; 0 where there is none
+// ---- the places of unique literal clauses: a table with an entry for each literal, one more than the place of the one that holds it, 0 where there is none
 
-// Sets a literal's place, where the table reaches.
-fn set_place(places: &mut [usize], l: i32, place: usize)
-    ensures { λ _. ⌜ now (places .exit) ≡ set (now (places .entry)) (index-of l) place ⌝ }
-{
-    let i = literals::literal_index(l);
-    if i < places.len() {
-        places[i] = place;
-    }
-}
-
-// Sets the place of each literal of a clause.
-fn set_places(places: &mut [usize], clause: &[i32], place: usize)
-    ensures { λ _. ⌜ now (places .exit) ≡ with-places (now (places .entry)) (now (clause .entry)) place ⌝ }
-{
-    let mut i = 0;
-    while i < clause.len() {
-        set_place(places, clause[i], place);
-        i += 1;
-    }
-}
-
-// Sets the place of the literals of the clause at a place, if it stands and is a unique literal clause.
-fn place_entry(places: &mut [usize], counts: &[u32], store: &[i32], at: usize)
-    requires { ⌜ (at < length (now store)) × Formed (drop at (now store)) ⌝ }
+// Sets the entries of the clause at a place, if it stands and is a unique literal clause.
+fn place_entry(places: &mut [u32], counts: &[u32], store: &[i32], at: usize)
+    requires { ⌜ (at < length (now store)) × Formed (drop at (now store)) × (length (now store) < 2 ^ 31) ⌝ }
     ensures { λ _. ⌜ now (places .exit) ≡ placed-at (now (places .entry)) (now (counts .entry)) (now (store .entry)) at ⌝ }
 {
     if literals::is_negative(store[at]) {
@@ -60,14 +41,15 @@ fn place_entry(places: &mut [usize], counts: &[u32], store: &[i32], at: usize)
     }
     let next = store::next_at(store, at);
     let first = at + 1;
-    if pass_pure::is_unique(counts, &store[first..next]) {
-        set_places(places, &store[first..next], first);
+    if tables::is_unique(counts, &store[first..next]) {
+        tables::set_entries(places, &store[first..next], first as u32);
     }
 }
 
-// Sets the places of the literals of all unique literal clauses.
-fn place_all(places: &mut [usize], counts: &[u32], store: &[i32])
-    requires { ⌜ Countable (now store) (now counts) (now places) ⌝ }
+// Sets the entries of all unique literal clauses.
+fn place_all(places: &mut [u32], counts: &[u32], store: &[i32])
+    requires { ⌜ Counted input-reach (now store) (now counts) × (length (now store) < 2 ^ 31) ⌝ }
+    requires { ⌜ now places ≡ replicate input-size 0 ⌝ }
     ensures { λ _. ⌜ Placed (stored (now (store .entry))) (stored (now (store .entry))) (now (store .entry)) (now (places .exit)) ⌝ }
 {
     let mut at = 0;
@@ -79,27 +61,26 @@ fn place_all(places: &mut [usize], counts: &[u32], store: &[i32])
 
 // ---- the next clash
 
-// The place of a literal's unique literal clause; 0 past the table's reach.
-fn place_of(places: &[usize], l: i32) -> usize
-    ensures { λ r. ⌜ r ≡ getD (now (places .entry)) (index-of l) 0 ⌝ }
+// The entry of a variable or its negation.
+fn place_of(places: &[u32], is_negative: bool, v: u32) -> u32
+    ensures { λ r. ⌜ r ≡ entry-of (now (places .entry)) (signed-of «is_negative» v) ⌝ }
 {
-    let i = literals::literal_index(l);
-    if i < places.len() { places[i] } else { 0 }
+    tables::entry_of(places, literals::signed(is_negative, v))
 }
 
 // Whether a variable and its negation stand in unique literal clauses.
-fn clashes(places: &[usize], v: u32) -> bool
+fn clashes(places: &[u32], v: u32) -> bool
     ensures { λ r. ⌜ r ≡ both (now (places .entry)) v ⌝ }
 {
-    if 0 < place_of(places, literals::signed(false, v)) {
-        0 < place_of(places, literals::signed(true, v))
+    if 0 < place_of(places, false, v) {
+        0 < place_of(places, true, v)
     } else {
         false
     }
 }
 
 // The first variable of a range that clashes, or the one past the range.
-fn find_clash(places: &[usize], from: u32, to: u32) -> u32
+fn find_clash(places: &[u32], from: u32, to: u32) -> u32
     requires { ⌜ (from ≤ to + 1) × (to < 2 ^ 31) ⌝ }
     ensures within { λ r. ⌜ (from ≤ r) × (r ≤ to + 1) ⌝ }
     ensures before { λ r. ⌜ ((k : ℕ) → from ≤ k → k < r → both (now (places .entry)) k ≡ false) ⌝ }
@@ -115,22 +96,23 @@ fn find_clash(places: &[usize], from: u32, to: u32) -> u32
     v
 }
 
-// The next clash of a store, in a range of variables.
-fn next_clash(store: &[i32], from: u32, to: u32) -> NextClash
-    requires { ⌜ Searchable (now store) from to ⌝ }
-    ensures { λ r. ⌜ Next (now (store .entry)) from to r ⌝ }
+// The next clash of the store in a workspace, in a range of variables.
+fn next_clash(work: &[i32], p: Progress, from: u32, to: u32) -> NextClash
+    requires { ⌜ Good to [] (now work) p × (from ≤ to) × (to ≤ input-reach) ⌝ }
+    ensures { λ r. ⌜ Next (take (p .end) (now (work .entry))) from to r ⌝ }
 {
-    let mut counts = [0u32; 16002];
-    let mut places = [0usize; 16002];
-    store::count_all(&mut counts, store);
-    place_all(&mut places, &counts, store);
+    let end = p.end;
+    let mut counts = [0u32; tables::INPUT_SIZE];
+    let mut places = [0u32; tables::INPUT_SIZE];
+    store::count_all(&mut counts, &work[..end]);
+    place_all(&mut places, &counts, &work[..end]);
     let v = find_clash(&places, from, to);
     if to < v {
         return NextClash::Nothing;
     }
-    let a = place_of(&places, literals::signed(false, v));
-    let b = place_of(&places, literals::signed(true, v));
-    NextClash::At(v, a, b)
+    let a = place_of(&places, false, v) as usize;
+    let b = place_of(&places, true, v) as usize;
+    NextClash::At(v, a - 1, b - 1)
 }
 
 // ---- the resolvent
@@ -142,7 +124,7 @@ fn is_opposite(table: &[u32], gone: i32, l: i32) -> bool
     if literals::same(gone, l) {
         return false;
     }
-    !pass_pure::is_pure(table, l)
+    !tables::is_pure(table, l)
 }
 
 // Whether the negation of a literal of a clause, without one literal, is counted.
@@ -159,13 +141,13 @@ fn any_opposite(table: &[u32], gone: i32, clause: &[i32]) -> bool
     false
 }
 
-// Whether a clause, without one literal, has a literal whose negation is in another clause.
-fn is_opposed(one: &[i32], gone: i32, other: &[i32]) -> bool
-    ensures { λ r. ⌜ r ≡ any (opposite-in (tallied (replicate 16002 0) (now (one .entry))) gone) (now (other .entry)) ⌝ }
+// Whether a clause, without -v, has a literal whose negation is in another clause.
+fn is_opposed(one: &[i32], v: u32, other: &[i32]) -> bool
+    ensures { λ r. ⌜ r ≡ any (opposite-in (tallied (replicate input-size 0) (now (one .entry))) (signed-of true v)) (now (other .entry)) ⌝ }
 {
-    let mut table = [0u32; 16002];
-    store::count_clause(&mut table, one);
-    any_opposite(&table, gone, other)
+    let mut table = [0u32; tables::INPUT_SIZE];
+    tables::count_clause(&mut table, one);
+    any_opposite(&table, literals::signed(true, v), other)
 }
 
 // Copies an element down the list unless it is the literal left out; the result is the place past it.
@@ -182,12 +164,19 @@ fn copy_one(work: &mut [i32], to: usize, from: usize, gone: i32) -> usize
     to + 1
 }
 
-// Copies n elements further on, without one literal; the result is the place past them.
-fn copy_without(work: &mut [i32], to: usize, from: usize, n: usize, gone: i32) -> usize
-    requires { ⌜ (from + n ≤ to) × (to + length (without gone (take n (drop from (now work)))) ≤ length (now work)) ⌝ }
-    ensures next { λ r. ⌜ r ≡ to + length (without gone (take n (drop from (now (work .entry))))) ⌝ }
-    ensures copied { λ _. ⌜ now (work .exit) ≡ sets (now (work .entry)) to (without gone (take n (drop from (now (work .entry))))) ⌝ }
+// Copies n elements further on, without a variable or its negation; the result is the place past them.
+fn copy_without(
+    work: &mut [i32],
+    to: usize,
+    from: usize,
+    n: usize,
+    is_negative: bool,
+    v: u32,
+) -> usize
+    requires { ⌜ (from + n ≤ to) × (to + length (part-without (now work) from n «is_negative» v) ≤ length (now work)) ⌝ }
+    ensures { λ r. ⌜ Copied (now (work .entry)) to from n «is_negative» v (now (work .exit)) r ⌝ }
 {
+    let gone = literals::signed(is_negative, v);
     let mut end = to;
     let mut i = 0;
     while i < n {
@@ -207,102 +196,68 @@ fn append_resolvent(
     nb: usize,
     v: u32,
 ) -> usize
-    requires { ⌜ (a + na ≤ end) × (b + nb ≤ end) × (end + (length (joined (now work) a na b nb v) + 1) ≤ length (now work)) ⌝ }
+    requires { ⌜ Joinable (now work) end a na b nb v ⌝ }
     ensures next { λ r. ⌜ r ≡ end + (length (joined (now (work .entry)) a na b nb v) + 1) ⌝ }
     ensures written { λ _. ⌜ now (work .exit) ≡ sets (now (work .entry)) end (entry (joined (now (work .entry)) a na b nb v)) ⌝ }
 {
     let first = end + 1;
-    let c = copy_without(work, first, a, na, literals::signed(false, v));
-    let d = copy_without(work, c, b, nb, literals::signed(true, v));
+    let c = copy_without(work, first, a, na, false, v);
+    let d = copy_without(work, c, b, nb, true, v);
     work[end] = literals::header(d - first);
     d
 }
 
-// Deletes the clause at a place, recorded with a literal first.
-fn delete_first(work: &mut [i32], at: usize, log: &mut [u8], p: Progress, l: i32) -> Progress
-    requires { ⌜ (at < length (now work)) × Formed (drop at (now work)) ⌝ }
-    requires { ⌜ (p .at < 2 ^ 63) × (p .lines < 2 ^ 63) ⌝ }
-    ensures written { λ r. ⌜ Written (deletion (with-first l (clause-at (now (work .entry)) at)) ∷ []) (now (log .entry)) p (now (log .exit)) r ⌝ }
-    ensures kept { λ r. ⌜ r .end ≡ p .end ⌝ }
-    ensures marked { λ _. ⌜ now (work .exit) ≡ marked (now (work .entry)) at ⌝ }
-{
-    let n = literals::header_length(work[at]);
-    let first = at + 1;
-    let next = first + n;
-    let q = progress::record_first(log, p, l, &work[first..next]);
-    store::mark_deleted(work, at);
-    q
-}
-
 // ---- one clash
 
-// Records the clause whose entry was written from the store's end up to another place as added.
-fn record_added(work: &[i32], log: &mut [u8], p: Progress, next: usize) -> Progress
-    requires { ⌜ (p .end < next) × (next ≤ length (now work)) × (next ≤ p .end + 2 ^ 32) ⌝ }
-    requires { ⌜ (p .at < 2 ^ 63) × (p .lines < 2 ^ 63) ⌝ }
-    ensures written { λ r. ⌜ Written (addition (take (next - (p .end + 1)) (drop (p .end + 1) (now (work .entry)))) ∷ []) (now (log .entry)) p (now (log .exit)) r ⌝ }
-    ensures end { λ r. ⌜ r .end ≡ next ⌝ }
-{
-    let first = p.end + 1;
-    let q = progress::record_line(log, p, false, &work[first..next]);
-    Progress {
-        end: next,
-        at: q.at,
-        lines: q.lines,
-    }
-}
-
-// Adds the resolvent of the clauses whose literals begin at a and b, and records it, unless it has a literal and its negation.
+// Adds the resolvent of the clauses at x and y, and records it, unless it has a literal and its negation.
 fn add_resolvent(
     work: &mut [i32],
     log: &mut [u8],
     p: Progress,
     v: u32,
-    a: usize,
-    b: usize,
+    x: usize,
+    y: usize,
 ) -> Progress
-    requires { ⌜ Resolvable (now work) p v a b ⌝ }
-    ensures { λ r. ⌜ Resolvent-added (now (work .entry)) (clash-there (take (p .end) (now (work .entry))) v a b) (now (log .entry)) p (now (work .exit)) (now (log .exit)) r ⌝ }
+    requires { ⌜ Resolvable (now work) p v x y ⌝ }
+    ensures { λ r. ⌜ Grown (added-by (clash-there (take (p .end) (now (work .entry))) v x y)) (now (work .entry)) (now (log .entry)) p (now (work .exit)) (now (log .exit)) r ⌝ }
 {
-    let past_a = store::next_at(work, a - 1);
-    let past_b = store::next_at(work, b - 1);
-    if is_opposed(
-        &work[a..past_a],
-        literals::signed(true, v),
-        &work[b..past_b],
-    ) {
+    let a = x + 1;
+    let b = y + 1;
+    let past_a = store::next_at(work, x);
+    let past_b = store::next_at(work, y);
+    if is_opposed(&work[a..past_a], v, &work[b..past_b]) {
         return p;
     }
     let end = p.end;
     let next = append_resolvent(work, end, a, past_a - a, b, past_b - b, v);
-    record_added(work, log, p, next)
+    progress::record_added(work, log, p, next)
 }
 
-// Deletes the two clauses of a clash: the literals of that with v begin at a, of that with -v at b.
+// Deletes the two clauses of a clash: that with v at x, that with -v at y.
 fn delete_parents(
     store: &mut [i32],
     log: &mut [u8],
     p: Progress,
     v: u32,
-    a: usize,
-    b: usize,
+    x: usize,
+    y: usize,
 ) -> Progress
-    requires { ⌜ Parents (now store) v a b ⌝ }
-    requires { ⌜ Log-room (parent-lines (clash-there (now store) v a b)) p ⌝ }
-    ensures { λ r. ⌜ Parents-gone (now (store .entry)) (clash-there (now (store .entry)) v a b) (now (log .entry)) p (now (store .exit)) (now (log .exit)) r ⌝ }
+    requires { ⌜ Parents (now store) v x y ⌝ }
+    requires { ⌜ Log-room (parent-lines (clash-there (now store) v x y)) p ⌝ }
+    ensures { λ r. ⌜ Parents-gone (clash-there (now (store .entry)) v x y) (now (store .entry)) (now (log .entry)) p (now (store .exit)) (now (log .exit)) r ⌝ }
 {
-    let q = delete_first(store, a - 1, log, p, literals::signed(false, v));
-    delete_first(store, b - 1, log, q, literals::signed(true, v))
+    let q = progress::delete_first(store, x, log, p, literals::signed(false, v));
+    progress::delete_first(store, y, log, q, literals::signed(true, v))
 }
 
-// Clears the clash of v whose clauses' literals begin at a and b.
-fn resolve(work: &mut [i32], log: &mut [u8], p: Progress, v: u32, a: usize, b: usize) -> Progress
-    requires { ⌜ Resolvable (now work) p v a b ⌝ }
-    ensures { λ r. ⌜ Ran (stored (take (p .end) (now (work .entry)))) (clash-cleared (clash-there (take (p .end) (now (work .entry))) v a b) ∷ []) (length (now (work .entry))) (now (log .entry)) p (now (work .exit)) (now (log .exit)) r ⌝ }
+// Clears the clash of v whose clauses are at x and y.
+fn resolve(work: &mut [i32], log: &mut [u8], p: Progress, v: u32, x: usize, y: usize) -> Progress
+    requires { ⌜ Resolvable (now work) p v x y ⌝ }
+    ensures { λ r. ⌜ Runs (clash-cleared (clash-there (take (p .end) (now (work .entry))) v x y) ∷ []) (now (work .entry)) (now (log .entry)) p (now (work .exit)) (now (log .exit)) r ⌝ }
 {
-    let q = add_resolvent(work, log, p, v, a, b);
+    let q = add_resolvent(work, log, p, v, x, y);
     let end = q.end;
-    delete_parents(&mut work[..end], log, q, v, a, b)
+    delete_parents(&mut work[..end], log, q, v, x, y)
 }
 
 // ---- all clashes
@@ -313,30 +268,16 @@ pub struct Scan {
     pub next: u32,
 }
 
-// Slides the standing clauses of the store down.
-fn slide_down(work: &mut [i32], p: Progress) -> Progress
-    requires { ⌜ (p .end ≤ length (now work)) × Formed (take (p .end) (now work)) ⌝ }
-    ensures { λ r. ⌜ Slid-down (now (work .entry)) p (now (work .exit)) r ⌝ }
-{
-    let end = p.end;
-    let n = store::compact(&mut work[..end]);
-    Progress {
-        end: n,
-        at: p.at,
-        lines: p.lines,
-    }
-}
-
 // Clears the next clash, if there is one.
 fn clear_next(work: &mut [i32], log: &mut [u8], s: Scan, variables: u32) -> Scan
-    requires { ⌜ Scan-ready (now work) s variables ⌝ }
-    ensures { λ r. ⌜ Scanned (stored (take (s .progress .end) (now (work .entry)))) (length (now (work .entry))) (now (log .entry)) s variables (now (work .exit)) (now (log .exit)) r ⌝ }
+    requires { ⌜ (s .next ≤ variables) × Clash-ready (events-left (now work) s variables) (now work) (s .progress) variables ⌝ }
+    ensures scanned { λ r. ⌜ Scanned variables (now (work .entry)) (now (log .entry)) s (now (work .exit)) (now (log .exit)) r ⌝ }
+    ensures later { λ r. ⌜ s .next < r .next ⌝ }
 {
-    let p = slide_down(work, s.progress);
-    let end = p.end;
-    match next_clash(&work[..end], s.next, variables) {
-        NextClash::At(v, a, b) => {
-            let q = resolve(work, log, p, v, a, b);
+    let p = progress::slide_down(work, s.progress);
+    match next_clash(work, p, s.next, variables) {
+        NextClash::At(v, x, y) => {
+            let q = resolve(work, log, p, v, x, y);
             Scan {
                 progress: q,
                 next: v + 1,
@@ -351,8 +292,8 @@ fn clear_next(work: &mut [i32], log: &mut [u8], s: Scan, variables: u32) -> Scan
 
 // Clears all clashes of the store, the lowest variable first.
 pub fn clear_clashes(work: &mut [i32], log: &mut [u8], p: Progress, variables: u32) -> Progress
-    requires { ⌜ Clash-ready (now work) p variables ⌝ }
-    ensures { λ r. ⌜ Ran (stored (take (p .end) (now (work .entry)))) (clear-clashes (stored (take (p .end) (now (work .entry))))) (length (now (work .entry))) (now (log .entry)) p (now (work .exit)) (now (log .exit)) r ⌝ }
+    requires { ⌜ Clash-ready (clear-clashes (standing (now work) p)) (now work) p variables ⌝ }
+    ensures { λ r. ⌜ Runs (clear-clashes (standing (now (work .entry)) p)) (now (work .entry)) (now (log .entry)) p (now (work .exit)) (now (log .exit)) r ⌝ }
 {
     let mut s = Scan {
         progress: p,

@@ -12,15 +12,17 @@ use mir.ValLaws.{toZ-ofZ}
 use Rattle.definition.specs.Lists.{for-from}
 use Rattle.definition.specs.Literals.{Clause, Formula}
 use Rattle.definition.specs.Text.{Bytes}
+use Rattle.definition.specs.Events.{choice-of}
 use Rattle.definition.specs.Counter.{size, lit, new, stage-2, stage-3, counter}
 use Rattle.literals.specs.Literal.{negation, signed-of}
-use Rattle.literals.proofs.Laws.{signed-small}
+use Rattle.literals.proofs.Laws.{signed-small, negation-small}
 use Rattle.progress.specs.declared.Progress.{Progress}
-use Rattle.theory_counter.specs.Ready.{of-literals}
-use Rattle.pass_counter.specs.Pairs.{literal-at}
-use Rattle.pass_counter.specs.Growth.{Grow-room, Grown, link-2, link-3, Small}
-use Rattle.pass_counter.proofs.Places.{negation-at}
-use Rattle.pass_counter.proofs.Growing.{grow-first, grow-rest, grown-then, grown-length}
+use Rattle.theory_base.proofs.Loops.{getD-mem}
+use Rattle.pairs.specs.Pairs.{literal-at}
+use Rattle.tables.specs.Places.{Small}
+use Rattle.progress.specs.Growth.{Grow-room, Grown}
+use Rattle.pass_counter.specs.Links.{link-2, link-3}
+use Rattle.progress.proofs.Growing.{grow-first, grow-rest, grown-then, grown-length}
 
 -- ---- literals passed on
 
@@ -40,19 +42,21 @@ grown-as a e = rw e at a
 -- ---- the literals of a choice, old and new
 
 module _ {l : Clause} {below : ℕ} (s : Small l below) where
-  pub new-is : (m n : ℕ) → n ≡ below + m → m ≤ 64 → signed-of false n ≡ new (of-literals l below) m
+  pub new-is : (m n : ℕ) → n ≡ below + m → m ≤ 64 → signed-of false n ≡ new (choice-of l below) m
   unfolding new
-  new-is m n e h = signed-small false n (omega (arith, s .new-few)) ∙ ap pos e
+  new-is m n e h = signed-small false n (omega (arith, s .new)) ∙ ap pos e
 
-  pub new-negated : (m n : ℕ) → n ≡ below + m → m ≤ 64 → signed-of true n ≡ negℤ (new (of-literals l below) m)
+  pub new-negated : (m n : ℕ) → n ≡ below + m → m ≤ 64 → signed-of true n ≡ negℤ (new (choice-of l below) m)
   unfolding new
-  new-negated m n e h = signed-small true n (omega (arith, s .new-few)) ∙ ap (λ (k : ℕ). negℤ (pos k)) e
+  new-negated m n e h = signed-small true n (omega (arith, s .new)) ∙ ap (λ (k : ℕ). negℤ (pos k)) e
 
-  pub lit-negated : (i : ℕ) → 1 ≤ i → i ≤ length l → negation (literal-at l (i - 1)) ≡ negℤ (lit (of-literals l below) i)
+  pub lit-negated : (i : ℕ) → 1 ≤ i → i ≤ length l → negation (literal-at l (i - 1)) ≡ negℤ (lit (choice-of l below) i)
   unfolding lit
-  lit-negated i a b = negation-at l (s .reach) (i - 1) (omega arith)
+  lit-negated i a b =
+      let x = literal-at l (i - 1) in
+      negation-small x (omega (arith, s .old x (getD-mem l (i - 1) (pos 0) (omega arith)) .1))
 
-pub lit-is : (l : Clause) (below i : ℕ) → literal-at l (i - 1) ≡ lit (of-literals l below) i
+pub lit-is : (l : Clause) (below i : ℕ) → literal-at l (i - 1) ≡ lit (choice-of l below) i
 unfolding lit
 lit-is l below i = refl
 
@@ -60,56 +64,56 @@ lit-is l below i = refl
 
 module _ {l : Clause} {below : ℕ} (s : Small l below) (i : ℕ) (a : 2 ≤ i) (b : i ≤ length l) where
   pub first-made : {x y : ℤ} → SFits w32 x → SFits w32 y → SFits w32 (literal-at l (i - 1)) → x ≡ signed-of true (below + i) → y ≡ signed-of false (below + i - 1) →
-      _≡_ {A = Formula} ((toZ w32 (ofZ w32 x) ∷ toZ w32 (ofZ w32 y) ∷ toZ w32 (ofZ w32 (literal-at l (i - 1))) ∷ []) ∷ []) ((negℤ (new (of-literals l below) i) ∷ new (of-literals l below) (i - 1) ∷ lit (of-literals l below) i ∷ []) ∷ [])
+      _≡_ {A = Formula} ((toZ w32 (ofZ w32 x) ∷ toZ w32 (ofZ w32 y) ∷ toZ w32 (ofZ w32 (literal-at l (i - 1))) ∷ []) ∷ []) ((negℤ (new (choice-of l below) i) ∷ new (choice-of l below) (i - 1) ∷ lit (choice-of l below) i ∷ []) ∷ [])
   first-made f g h d e =
-      three-passed f g h (d ∙ new-negated s i (below + i) refl (omega (arith, s .most-literals))) (e ∙ new-is s (i - 1) (below + i - 1) (omega arith) (omega (arith, s .most-literals))) (lit-is l below i)
+      three-passed f g h (d ∙ new-negated s i (below + i) refl (omega (arith, s .few))) (e ∙ new-is s (i - 1) (below + i - 1) (omega arith) (omega (arith, s .few))) (lit-is l below i)
 
   pub second-made : {x y : ℤ} → SFits w32 x → SFits w32 y → x ≡ signed-of false (below + i) → y ≡ signed-of true (below + i - 1) →
-      _≡_ {A = Formula} ((toZ w32 (ofZ w32 x) ∷ toZ w32 (ofZ w32 y) ∷ []) ∷ []) ((new (of-literals l below) i ∷ negℤ (new (of-literals l below) (i - 1)) ∷ []) ∷ [])
+      _≡_ {A = Formula} ((toZ w32 (ofZ w32 x) ∷ toZ w32 (ofZ w32 y) ∷ []) ∷ []) ((new (choice-of l below) i ∷ negℤ (new (choice-of l below) (i - 1)) ∷ []) ∷ [])
   second-made f g d e =
-      two-passed f g (d ∙ new-is s i (below + i) refl (omega (arith, s .most-literals))) (e ∙ new-negated s (i - 1) (below + i - 1) (omega arith) (omega (arith, s .most-literals)))
+      two-passed f g (d ∙ new-is s i (below + i) refl (omega (arith, s .few))) (e ∙ new-negated s (i - 1) (below + i - 1) (omega arith) (omega (arith, s .few)))
 
   pub third-made : {x y : ℤ} → SFits w32 x → SFits w32 y → x ≡ signed-of false (below + i) → y ≡ negation (literal-at l (i - 1)) →
-      _≡_ {A = Formula} ((toZ w32 (ofZ w32 x) ∷ toZ w32 (ofZ w32 y) ∷ []) ∷ []) ((new (of-literals l below) i ∷ negℤ (lit (of-literals l below) i) ∷ []) ∷ [])
-  third-made f g d e = two-passed f g (d ∙ new-is s i (below + i) refl (omega (arith, s .most-literals))) (e ∙ lit-negated s i (omega arith) b)
+      _≡_ {A = Formula} ((toZ w32 (ofZ w32 x) ∷ toZ w32 (ofZ w32 y) ∷ []) ∷ []) ((new (choice-of l below) i ∷ negℤ (lit (choice-of l below) i) ∷ []) ∷ [])
+  third-made f g d e = two-passed f g (d ∙ new-is s i (below + i) refl (omega (arith, s .few))) (e ∙ lit-negated s i (omega arith) b)
 
   pub link-3-made : {x y : ℤ} → SFits w32 x → SFits w32 y → x ≡ signed-of true (below + i - 1) → y ≡ negation (literal-at l (i - 1)) →
-      _≡_ {A = Formula} ((toZ w32 (ofZ w32 x) ∷ toZ w32 (ofZ w32 y) ∷ []) ∷ []) (link-3 (of-literals l below) i)
-  link-3-made f g d e = two-passed f g (d ∙ new-negated s (i - 1) (below + i - 1) (omega arith) (omega (arith, s .most-literals))) (e ∙ lit-negated s i (omega arith) b)
+      _≡_ {A = Formula} ((toZ w32 (ofZ w32 x) ∷ toZ w32 (ofZ w32 y) ∷ []) ∷ []) (link-3 (choice-of l below) i)
+  link-3-made f g d e = two-passed f g (d ∙ new-negated s (i - 1) (below + i - 1) (omega arith) (omega (arith, s .few))) (e ∙ lit-negated s i (omega arith) b)
 
 -- ---- the stages in parts
 
 -- the clauses of stage 2 behind the first of a literal, and the last
 abbrev pub link-2-more : Clause → ℕ → ℕ → Formula
-link-2-more l below i = (new (of-literals l below) i ∷ negℤ (new (of-literals l below) (i - 1)) ∷ []) ∷ (new (of-literals l below) i ∷ negℤ (lit (of-literals l below) i) ∷ []) ∷ []
+link-2-more l below i = (new (choice-of l below) i ∷ negℤ (new (choice-of l below) (i - 1)) ∷ []) ∷ (new (choice-of l below) i ∷ negℤ (lit (choice-of l below) i) ∷ []) ∷ []
 
 abbrev pub link-2-last : Clause → ℕ → ℕ → Formula
-link-2-last l below i = (new (of-literals l below) i ∷ negℤ (lit (of-literals l below) i) ∷ []) ∷ []
+link-2-last l below i = (new (choice-of l below) i ∷ negℤ (lit (choice-of l below) i) ∷ []) ∷ []
 
-pub link-2-parts : (l : Clause) (below i : ℕ) → link-2 (of-literals l below) i ≡
-    ((negℤ (new (of-literals l below) i) ∷ new (of-literals l below) (i - 1) ∷ lit (of-literals l below) i ∷ []) ∷ []) ++ (((new (of-literals l below) i ∷ negℤ (new (of-literals l below) (i - 1)) ∷ []) ∷ []) ++ link-2-last l below i)
+pub link-2-parts : (l : Clause) (below i : ℕ) → link-2 (choice-of l below) i ≡
+    ((negℤ (new (choice-of l below) i) ∷ new (choice-of l below) (i - 1) ∷ lit (choice-of l below) i ∷ []) ∷ []) ++ (((new (choice-of l below) i ∷ negℤ (new (choice-of l below) (i - 1)) ∷ []) ∷ []) ++ link-2-last l below i)
 link-2-parts l below i = refl
 
 -- the clauses of stage 2 from the second literal on, and with the second clause
 abbrev pub stage-2-last : Clause → ℕ → Formula
-stage-2-last l below = for-from 2 (length l - 2) (link-2 (of-literals l below))
+stage-2-last l below = for-from 2 (length l - 2) (link-2 (choice-of l below))
 
 abbrev pub stage-2-more : Clause → ℕ → Formula
-stage-2-more l below = ((new (of-literals l below) 1 ∷ negℤ (lit (of-literals l below) 1) ∷ []) ∷ []) ++ stage-2-last l below
+stage-2-more l below = ((new (choice-of l below) 1 ∷ negℤ (lit (choice-of l below) 1) ∷ []) ∷ []) ++ stage-2-last l below
 
-pub stage-2-parts : (l : Clause) (below : ℕ) → stage-2 (of-literals l below) ≡ ((negℤ (new (of-literals l below) 1) ∷ lit (of-literals l below) 1 ∷ []) ∷ []) ++ stage-2-more l below
+pub stage-2-parts : (l : Clause) (below : ℕ) → stage-2 (choice-of l below) ≡ ((negℤ (new (choice-of l below) 1) ∷ lit (choice-of l below) 1 ∷ []) ∷ []) ++ stage-2-more l below
 unfolding stage-2 size
 stage-2-parts l below = refl
 
 -- the last clause of stage 3
 abbrev pub stage-3-last : Clause → ℕ → Formula
-stage-3-last l below = (new (of-literals l below) (length l - 1) ∷ lit (of-literals l below) (length l) ∷ []) ∷ []
+stage-3-last l below = (new (choice-of l below) (length l - 1) ∷ lit (choice-of l below) (length l) ∷ []) ∷ []
 
-pub stage-3-parts : (l : Clause) (below : ℕ) → stage-3 (of-literals l below) ≡ for-from 2 (length l - 1) (link-3 (of-literals l below)) ++ stage-3-last l below
+pub stage-3-parts : (l : Clause) (below : ℕ) → stage-3 (choice-of l below) ≡ for-from 2 (length l - 1) (link-3 (choice-of l below)) ++ stage-3-last l below
 unfolding stage-3 size
 stage-3-parts l below = refl
 
-pub counter-parts : (l : Clause) (below : ℕ) → counter (of-literals l below) ≡ stage-2 (of-literals l below) ++ stage-3 (of-literals l below)
+pub counter-parts : (l : Clause) (below : ℕ) → counter (choice-of l below) ≡ stage-2 (choice-of l below) ++ stage-3 (choice-of l below)
 unfolding counter
 counter-parts l below = refl
 

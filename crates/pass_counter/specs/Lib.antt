@@ -1,3 +1,2 @@
 pub mod Choice
-pub mod Pairs
-pub mod Growth
+pub mod Links

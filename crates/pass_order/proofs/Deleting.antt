@@ -1,4 +1,4 @@
--- Deletions one after the other. Assumes nothing.
+-- Deletions one after the other: recorded, and the first clause with the same set taken out; the clauses with each literal in turn. Assumes nothing.
 use mathlib.Core.Path.{_≡_, refl, sym, ap, ap₂, subst, _∙_}
 use mathlib.Core.Bool.{Bool, true, false}
 use mathlib.Core.List.{List, [], _∷_, _++_, map, map-append, append-assoc}
@@ -16,7 +16,7 @@ use Rattle.definition.specs.Literals.{Clause, Formula}
 use Rattle.definition.specs.Text.{Bytes}
 use Rattle.definition.specs.Standing.{deletion}
 use Rattle.theory_base.proofs.Loops.{for-from-snoc, getD-mem, for-from-around}
-use Rattle.theory_base.specs.Clauses.{Fit-all}
+use Rattle.definition.specs.Events.{choice-of}
 use Rattle.definition.specs.Counter.{size, lit, new}
 use Rattle.definition.specs.Order.{previous, negated-new, deletions-of}
 use Rattle.literals.specs.Literal.{signed-of, negation}
@@ -26,21 +26,22 @@ use Rattle.theory_soundness.specs.Removals.{take-all}
 use Rattle.store.specs.Store.{Formed, stored}
 use Rattle.progress.specs.declared.Progress.{Progress}
 use Rattle.progress.proofs.Laws.{written-none, written-then, written-length, room-first, room-rest}
-use Rattle.theory_counter.specs.Ready.{of-literals}
 use Rattle.pass_order.specs.Order.{first-deletion, Deletable, Deletes}
-use Rattle.pass_order.proofs.Writing.{wanted, new-arg, array-clause}
+use Rattle.tables.specs.Sizes.{log-reach}
+use Rattle.tables.specs.Places.{Small}
+use Rattle.replacement.proofs.Writing.{wanted, new-arg, array-clause}
 
 pub deletes-none : {s : List ℤ} (log : Bytes) (p : Progress) → Formed s → Deletes [] s log p s log p
 deletes-none log p f = record { formed = f; stands = refl; written = written-none log p p refl refl; kept = refl }
 
-pub deletable-first : (A B : List Clause) {s : List ℤ} {p : Progress} → Deletable (A ++ B) s p → Deletable A s p
+deletable-first : (A B : List Clause) {s : List ℤ} {p : Progress} → Deletable (A ++ B) s p → Deletable A s p
 deletable-first A B d = record { formed = d .formed; room = room-first (map deletion A) (map deletion B) (rw (map-append deletion A B) at (d .room)) }
 
 module _ (A B : List Clause) {s s1 : List ℤ} {x y : Bytes} {p q : Progress} where
-  pub deletable-rest : Deletable (A ++ B) s p → Deletes A s x p s1 y q → Deletable B s1 q
+  deletable-rest : Deletable (A ++ B) s p → Deletes A s x p s1 y q → Deletable B s1 q
   deletable-rest d e = record { formed = e .formed; room = room-rest (map deletion A) (map deletion B) (rw (map-append deletion A B) at (d .room)) (e .written) }
 
-  pub deletes-then : {s2 : List ℤ} {z : Bytes} {r : Progress} → Deletes A s x p s1 y q → Deletes B s1 y q s2 z r → Deletes (A ++ B) s x p s2 z r
+  deletes-then : {s2 : List ℤ} {z : Bytes} {r : Progress} → Deletes A s x p s1 y q → Deletes B s1 y q s2 z r → Deletes (A ++ B) s x p s2 z r
   deletes-then d e = record {
     formed = e .formed;
     stands = e .stands ∙ ap (λ (F : Formula). take-all F B) (d .stands) ∙ sym (take-all-++ (stored s) A B);
@@ -93,8 +94,8 @@ deleting-end {f} {n} {old} {x} {p} {i} {s} {y} {q} d h =
 
 -- ---- the clauses as i32
 
-pub pair-is : (b : Bool) (x y : ℤ) → b ≡ true → SFits w32 x → SFits w32 y → only-if b ((x ∷ y ∷ []) ∷ []) ≡ (toZ w32 (ofZ w32 x) ∷ toZ w32 (ofZ w32 y) ∷ []) ∷ []
-pair-is b x y e f g = wanted b ((x ∷ y ∷ []) ∷ []) e ∙ sym (at-arg2 (λ (m n : ℤ). (m ∷ n ∷ []) ∷ []) x y f g)
+pub pair-wanted : (b : Bool) (x y : ℤ) → b ≡ true → SFits w32 x → SFits w32 y → only-if b ((x ∷ y ∷ []) ∷ []) ≡ (toZ w32 (ofZ w32 x) ∷ toZ w32 (ofZ w32 y) ∷ []) ∷ []
+pair-wanted b x y e f g = wanted b ((x ∷ y ∷ []) ∷ []) e ∙ sym (at-arg2 (λ (m n : ℤ). (m ∷ n ∷ []) ∷ []) x y f g)
 
 one-long : (b : Bool) (x : ℤ) → length (only-if b (x ∷ [])) ≤ 1
 unfolding only-if
@@ -102,7 +103,7 @@ one-long true x = omega arith
 one-long false x = omega arith
 
 -- the clause with the literal itself, written into an array
-module _ (l : ℤ) (i n below : ℕ) (f : SFits w32 l) (h : i ≤ 64) (k : below + 64 ≤ 70000) (z y : ℤ) (p : SFits w32 z) (q : SFits w32 y)
+module _ (l : ℤ) (i n below : ℕ) (f : SFits w32 l) (h : i ≤ 64) (k : below + 64 ≤ log-reach) (z y : ℤ) (p : SFits w32 z) (q : SFits w32 y)
     (o : z ≡ signed-of true (below + i)) (u : y ≡ signed-of false (below + (i - 1))) where
   abbrev A : Clause
   A = only-if (ltb i n) (toZ w32 (ofZ w32 z) ∷ [])
@@ -120,18 +121,18 @@ module _ (l : ℤ) (i n below : ℕ) (f : SFits w32 l) (h : i ≤ 64) (k : below
       (omega (arith, length-append A B, one-long (ltb i n) (toZ w32 (ofZ w32 z)), one-long (ltb 1 i) (toZ w32 (ofZ w32 y)))) a b c d
       ∙ ap₂ (λ (r s : Clause). (l ∷ r) ++ s) (new-arg (ltb i n) true below i z p o (omega arith)) (new-arg (ltb 1 i) false below (i - 1) y q u (omega arith))
 
-pub one-room : (b : Bool) (x : ℤ) → 1 + length (only-if b (x ∷ [])) ≤ 3
-one-room b x = omega (arith, one-long b x)
+pub first-fits : (b : Bool) (x : ℤ) → 1 + length (only-if b (x ∷ [])) ≤ 3
+first-fits b x = omega (arith, one-long b x)
 
-pub two-room : (b c : Bool) (x y : ℤ) {a n : ℕ} → a ≡ 1 + length (only-if b (x ∷ [])) → n ≡ 3 → a + length (only-if c (y ∷ [])) ≤ n
-two-room b c x y e f = omega (arith, one-long b x, one-long c y)
+pub second-fits : (b c : Bool) (x y : ℤ) {a n : ℕ} → a ≡ 1 + length (only-if b (x ∷ [])) → n ≡ 3 → a + length (only-if c (y ∷ [])) ≤ n
+second-fits b c x y e f = omega (arith, one-long b x, one-long c y)
 
-pub long-room : (b c : Bool) (x y : ℤ) {a d n m : ℕ} → a ≡ 1 + length (only-if b (x ∷ [])) → n ≡ 3 → d ≡ a + length (only-if c (y ∷ [])) → m ≡ n → (d ≤ m) × (d ≤ 3)
-long-room b c x y e f g h = (omega (arith, one-long b x, one-long c y), omega (arith, one-long b x, one-long c y))
+pub clause-fits : (b c : Bool) (x y : ℤ) {a d n m : ℕ} → a ≡ 1 + length (only-if b (x ∷ [])) → n ≡ 3 → d ≡ a + length (only-if c (y ∷ [])) → m ≡ n → (d ≤ m) × (d ≤ 3)
+clause-fits b c x y e f g h = (omega (arith, one-long b x, one-long c y), omega (arith, one-long b x, one-long c y))
 
 -- ---- the clauses with one literal
-module _ (l : Clause) (below i : ℕ) (h : 1 ≤ i) (b : i ≤ length l) (n : length l ≤ 64) (k : below + 64 ≤ 70000) (u : Fit-all 8000 l) (s : SFits w32 (getD l (i - 1) (pos 0)))
-    {store : List ℤ} {p : Progress} (r : Deletable (deletions-of (of-literals l below) i) store p) where
+module _ (l : Clause) (below i : ℕ) (h : 1 ≤ i) (b : i ≤ length l) (u : Small l below) (s : SFits w32 (getD l (i - 1) (pos 0)))
+    {store : List ℤ} {p : Progress} (r : Deletable (deletions-of (choice-of l below) i) store p) where
   abbrev x : ℤ
   x = getD l (i - 1) (pos 0)
 
@@ -144,7 +145,7 @@ module _ (l : Clause) (below i : ℕ) (h : 1 ≤ i) (b : i ≤ length l) (n : le
   abbrev Z : List Clause
   Z = only-if (ltb 1 i) ((negℤ x ∷ negℤ (pos (below + (i - 1))) ∷ []) ∷ [])
 
-  are : deletions-of (of-literals l below) i ≡ D1 ++ (Y ++ Z)
+  are : deletions-of (choice-of l below) i ≡ D1 ++ (Y ++ Z)
   unfolding deletions-of negated-new previous new size lit
   are = append-assoc (first-deletion x i (length l) below ∷ []) Y Z ∙ ap (λ (m : ℤ). (first-deletion m i (length l) below ∷ []) ++ (Y ++ Z)) (sym (toZ-ofZ w32 x s))
 
@@ -160,13 +161,13 @@ module _ (l : Clause) (below i : ℕ) (h : 1 ≤ i) (b : i ≤ length l) (n : le
     rest-deletable = deletable-rest D1 (Y ++ Z) all-deletable d1
 
     small-literal : natAbs x < 2 ^ 31
-    small-literal = omega (arith, u x (getD-mem l (i - 1) (pos 0) (omega arith)) .1)
+    small-literal = omega (arith, u .old x (getD-mem l (i - 1) (pos 0) (omega arith)) .1)
 
     negated-is : toZ w32 (ofZ w32 m) ≡ negℤ x
     negated-is = toZ-ofZ w32 m fm ∙ em ∙ negation-small x small-literal
 
     second-is : Y ≡ only-if (ltb i (length l)) ((toZ w32 (ofZ w32 m) ∷ toZ w32 (ofZ w32 a) ∷ []) ∷ [])
-    second-is = sym (ap₂ (λ (v w : ℤ). only-if (ltb i (length l)) ((v ∷ w ∷ []) ∷ [])) negated-is (toZ-ofZ w32 a fa ∙ ea ∙ signed-small false (below + i) (omega arith)))
+    second-is = sym (ap₂ (λ (v w : ℤ). only-if (ltb i (length l)) ((v ∷ w ∷ []) ∷ [])) negated-is (toZ-ofZ w32 a fa ∙ ea ∙ signed-small false (below + i) (omega (arith, u .new, u .few))))
 
     pub second-deletable : Deletable (only-if (ltb i (length l)) ((toZ w32 (ofZ w32 m) ∷ toZ w32 (ofZ w32 a) ∷ []) ∷ [])) s1 q
     second-deletable = subst (λ (D : List Clause). Deletable D s1 q) second-is (deletable-first Y Z rest-deletable)
@@ -177,12 +178,12 @@ module _ (l : Clause) (below i : ℕ) (h : 1 ≤ i) (b : i ≤ length l) (n : le
       d2′ = subst (λ (D : List Clause). Deletes D s1 y1 q s2 y2 q2) (sym second-is) d2
 
       third-is : Z ≡ only-if (ltb 1 i) ((toZ w32 (ofZ w32 m) ∷ toZ w32 (ofZ w32 e) ∷ []) ∷ [])
-      third-is = sym (ap₂ (λ (v w : ℤ). only-if (ltb 1 i) ((v ∷ w ∷ []) ∷ [])) negated-is (toZ-ofZ w32 e fe ∙ ee ∙ signed-small true (below + (i - 1)) (omega arith)))
+      third-is = sym (ap₂ (λ (v w : ℤ). only-if (ltb 1 i) ((v ∷ w ∷ []) ∷ [])) negated-is (toZ-ofZ w32 e fe ∙ ee ∙ signed-small true (below + (i - 1)) (omega (arith, u .new, u .few))))
 
       pub third-deletable : Deletable (only-if (ltb 1 i) ((toZ w32 (ofZ w32 m) ∷ toZ w32 (ofZ w32 e) ∷ []) ∷ [])) s2 q2
       third-deletable = subst (λ (D : List Clause). Deletable D s2 q2) third-is (deletable-rest Y Z rest-deletable d2′)
 
-      pub literal-deletes : {y3 : Bytes} {s3 : List ℤ} {q3 : Progress} → Deletes (only-if (ltb 1 i) ((toZ w32 (ofZ w32 m) ∷ toZ w32 (ofZ w32 e) ∷ []) ∷ [])) s2 y2 q2 s3 y3 q3 → Deletes (deletions-of (of-literals l below) i) store x0 p s3 y3 q3
+      pub literal-deletes : {y3 : Bytes} {s3 : List ℤ} {q3 : Progress} → Deletes (only-if (ltb 1 i) ((toZ w32 (ofZ w32 m) ∷ toZ w32 (ofZ w32 e) ∷ []) ∷ [])) s2 y2 q2 s3 y3 q3 → Deletes (deletions-of (choice-of l below) i) store x0 p s3 y3 q3
       literal-deletes {y3} {s3} {q3} d3 =
           subst (λ (D : List Clause). Deletes D store x0 p s3 y3 q3) (sym are)
           (deletes-then D1 (Y ++ Z) d1 (deletes-then Y Z d2′ (subst (λ (D : List Clause). Deletes D s2 y2 q2 s3 y3 q3) (sym third-is) d3)))

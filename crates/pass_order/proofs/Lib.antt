@@ -1,8 +1,4 @@
-pub mod Filling
-pub mod Tests
-pub mod Replaced
-pub mod Writing
-pub mod Deleting
-pub mod Passing
-pub mod Ordered
 pub mod Steps
+pub mod Passing
+pub mod Deleting
+pub mod Ordered

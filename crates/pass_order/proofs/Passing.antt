@@ -2,41 +2,36 @@
 use mathlib.Core.Path.{_≡_, refl, sym, ap, ap₂, subst, _∙_}
 use mathlib.Core.Bool.{Bool, true, false, not}
 use mathlib.Core.List.{List, [], _∷_, _++_, append-nil, append-assoc, List·Memᴰ, List·Memᴰ·head as here, Memᴰ·append-right}
-use Prim.Native.Nat.{ℕ, _+_, _≤_, _<_}
+use Prim.Native.Nat.{ℕ, _+_, _≤_, _<_, _^_}
 use native.Mathlib.Omega.{arith}
 use lib.IntN.{ℤ, pos}
 use lib.ListN.{length, set, take, drop, length-append, length-set, take-append-drop, List·getD-append}
 use lib.Seq.{length-take-le, take-all, take-at, take-take, sets, sets-eq, set-append-left, drop-append-add}
 use Rattle.definition.specs.Lists.{those, only-if, for-each}
-use Rattle.definition.specs.Literals.{Clause, Formula, opposes, opposed}
+use Rattle.definition.specs.Literals.{Clause, Formula, opposes}
 use Rattle.definition.specs.Text.{Bytes}
-use Rattle.definition.specs.Standing.{Line, deletion}
-use Rattle.definition.specs.Events.{Choice, Event, clause-replaced}
-use Rattle.definition.specs.Counter.{last-new}
+use Rattle.definition.specs.Standing.{Line}
+use Rattle.definition.specs.Events.{Choice, choice-of, Event, clause-replaced}
 use Rattle.definition.specs.Order.{replacement-lines, replaced, replace}
 use Rattle.definition.specs.Calls.{numbers-of}
 use Rattle.definition.specs.Reencoding.{lines, lines-of}
 use Rattle.theory_base.proofs.Tests.{by-test}
 use Rattle.theory_base.proofs.Members.{those-++}
-use Rattle.theory_base.specs.Clauses.{Proper, Proper-all, Fit-all}
-use Rattle.theory_base.proofs.Fitting.{proper-length}
-use Rattle.theory_base.proofs.Clauses.{numbers-none, numbers-first, numbers-++, tests-proper}
+use Rattle.theory_base.specs.Clauses.{Proper-all}
+use Rattle.theory_base.proofs.Clauses.{numbers-none, numbers-++}
 use Rattle.theory_base.proofs.Loops.{for-each-++}
 use Rattle.theory_base.proofs.Replay.{lines-++}
-use Rattle.theory_counter.specs.Ready.{Well-formed, of-literals}
-use Rattle.theory_order.proofs.Replace.{replaced-fit}
-use Rattle.theory_order.proofs.Results.{replaced-distinct}
 use Rattle.theory_order.specs.Pass.{kept, added, results as results-of, Before}
-use Rattle.literals.specs.Literal.{largest, negative, header-literals, flip}
-use Rattle.store.specs.Store.{Formed, stored, entry, header-at, deleted-at, clause-at, past, marked, Place}
-use Rattle.store.proofs.Laws.{formed-++, stored-++, stored-none, place-start, place-next, place-formed, formed-next, prefix-deleted, prefix-stands, prefix-clause, rest-deleted, rest-stands, marked-place, marked-past, marked-behind, marked-prefix, entry-formed, entry-stored, stored-end}
+use Rattle.literals.specs.Literal.{negative, header-literals, flip}
+use Rattle.store.specs.Store.{Formed, stored, header-at, deleted-at, clause-at, past, marked, Place}
+use Rattle.store.proofs.Laws.{formed-++, stored-++, stored-none, place-start, place-next, place-formed, formed-next, prefix-deleted, prefix-stands, prefix-clause, rest-deleted, rest-stands, marked-place, marked-past, marked-behind, marked-prefix, stored-end}
 use Rattle.progress.specs.declared.Progress.{Progress}
 use Rattle.progress.specs.Progress.{Written, Log-room}
 use Rattle.progress.proofs.Laws.{lines-none, lines-one, written-none, written-then, room-first, room-rest}
-use Rattle.pass_order.specs.Table.{Places, opposed-by, replaced-by}
-use Rattle.pass_order.specs.Pass.{entry-added, line-added, Addable, touched, Step}
+use Rattle.progress.specs.Growth.{entries}
+use Rattle.progress.proofs.Growing.{entries-length}
+use Rattle.pass_order.specs.Pass.{result-of, Replaceable, touched, Replaced-at, Step}
 use Rattle.pass_order.specs.Order.{Passed}
-use Rattle.pass_order.proofs.Replaced.{replaced-is, negated-is, opposed-is}
 
 -- a run behind a list
 sets-behind : (X Z W : List ℤ) (n : ℕ) → n ≡ length X → length W ≤ length Z → sets (X ++ Z) n W ≡ X ++ (W ++ drop (length W) Z)
@@ -75,43 +70,9 @@ module _ (k : Choice) (X : Formula) (d : Clause) where
     unfolding those
     kept-gone = those-++ (λ c. not (opposes (k .literals) c)) X (d ∷ []) ∙ rw e (append-nil (kept k X))
 
-    pub lines-replaced : lines (for-each (X ++ (d ∷ [])) (replace k)) ≡ lines (for-each X (replace k)) ++ replacement-lines d (replaced k d)
+    lines-replaced : lines (for-each (X ++ (d ∷ [])) (replace k)) ≡ lines (for-each X (replace k)) ++ replacement-lines d (replaced k d)
     unfolding replace only-if lines-of
     lines-replaced = lines-more ∙ rw e (ap (λ (r : List Line). lines (for-each X (replace k)) ++ r) (lines-one (clause-replaced d (replaced k d))))
-
--- ---- the entry of a result
-module _ (t : List ℕ) (l : Clause) (below : ℕ) (v : Places t l) (u : Well-formed (of-literals l below)) (b : length l ≤ 64) (n : below + 64 ≤ 70000) (d : Clause) (a : Proper d) (f : Fit-all below d) where
-  abbrev k : Choice
-  k = of-literals l below
-
-  test : opposed-by t d ≡ opposed (replaced k d)
-  test = opposed-is t l below v u b d a (λ x i. f x i .1)
-
-  short : opposed (replaced k d) ≡ false → length (replaced k d) ≤ largest
-  unfolding last-new
-  short e =
-      let g = replaced-fit k u d f in
-      let c = proper-length (last-new k) (replaced k d) (tests-proper (replaced k d) (replaced-distinct k u d a (λ x i. f x i .1)) e (λ x i. g x i .0), λ x i. g x i .1) in
-      omega arith
-
-  pub result-short : opposed-by t d ≡ false → length (replaced-by t (length l) below d) ≤ largest
-  result-short e = rw (replaced-is t l below v d) (short (sym test ∙ e))
-
-  lines-there : line-added t (length l) below d ++ (deletion d ∷ []) ≡ replacement-lines d (replaced k d)
-  unfolding replacement-lines
-  lines-there = rw (test, replaced-is t l below v d) refl
-
-  module _ (o : opposes l d ≡ true) where
-    entry-is : entry-added t (length l) below d ≡ only-if (not (opposed (replaced k d))) (entry (replaced k d))
-    entry-is = rw (test, replaced-is t l below v d) refl
-
-    entry-there : Formed (entry-added t (length l) below d) × (stored (entry-added t (length l) below d) ≡ results-of k d) × (length (entry-added t (length l) below d) ≡ numbers-of (results-of k d))
-    unfolding only-if
-    entry-there = rw (entry-is, o) (go (opposed (replaced k d)) refl)
-      where
-        go : (q : Bool) → opposed (replaced k d) ≡ q → Formed (only-if (not q) (entry (replaced k d))) × (stored (only-if (not q) (entry (replaced k d))) ≡ only-if (not q) (replaced k d ∷ [])) × (length (only-if (not q) (entry (replaced k d))) ≡ numbers-of (only-if (not q) (replaced k d ∷ [])))
-        go true e = (tt, stored-none, sym numbers-none)
-        go false e = (entry-formed (replaced k d) (short e), entry-stored (replaced k d) (short e), omega (arith, numbers-first (replaced k d) [], numbers-none))
 
 -- ---- the loop
 
@@ -170,7 +131,7 @@ module _ {k : Choice} {E : Formula} {middle : List ℤ} {start : ℕ} {x : Bytes
   header : header-at work at ≡ header-at L at
   header = ap (λ (s : List ℤ). header-at s at) (i .parts) ∙ List·getD-append L behind (pos 0) at inside
 
-  pub past-same : past work at ≡ past (i .left) at
+  past-same : past work at ≡ past (i .left) at
   past-same = ap (λ (z : ℤ). at + (1 + header-literals z)) header
 
   past-inside : past L at ≤ start
@@ -243,25 +204,35 @@ module _ {k : Choice} {E : Formula} {middle : List ℤ} {start : ℕ} {x : Bytes
     }
 
     -- ---- a clause is replaced
-    module _ (o : opposes (k .literals) c ≡ true) (W : List ℤ) (g : Formed W) (s : stored W ≡ results-of k c) (z : length W ≡ numbers-of (results-of k c)) (space : length W ≤ length (i .free)) where
+    module _ (o : opposes (k .literals) c ≡ true) {z : Bytes} {new : List ℤ} {r : Progress} (v : Replaced-at k c work at log q new z r) (space : numbers-of (result-of k c) ≤ length (i .free)) where
+      abbrev W : List ℤ
+      W = entries (result-of k c)
+
+      size : length W ≡ numbers-of (result-of k c)
+      size = entries-length (result-of k c)
+
+      same-results : results-of k c ≡ result-of k c
+      unfolding only-if
+      same-results = rw o refl
+
       new-place : Place (marked L at) (past L at)
       new-place = subst (λ (r : ℕ). Place (marked L at) r) (marked-past L at inside) (place-next (marked L at) at (rw length-set inside) (marked-place L at inside (i .place)))
 
       store-parts : sets work (q .end) W ≡ L ++ (middle ++ ((i .results ++ W) ++ drop (length W) (i .free)))
       store-parts =
           ap (λ (r : List ℤ). sets r (q .end) W) (i .parts ∙ sym (append-assoc L middle (i .results ++ i .free)) ∙ sym (append-assoc (L ++ middle) (i .results) (i .free)))
-          ∙ sets-behind ((L ++ middle) ++ i .results) (i .free) W (q .end) (omega (arith, i .end, m, i .left-size, length-append (L ++ middle) (i .results), length-append L middle)) space
+          ∙ sets-behind ((L ++ middle) ++ i .results) (i .free) W (q .end) (omega (arith, i .end, m, i .left-size, length-append (L ++ middle) (i .results), length-append L middle)) (omega (arith, size, space))
           ∙ simp append-assoc
 
-      new-parts : marked (sets work (q .end) W) at ≡ marked L at ++ (middle ++ ((i .results ++ W) ++ drop (length W) (i .free)))
+      new-parts : new ≡ marked L at ++ (middle ++ ((i .results ++ W) ++ drop (length W) (i .free)))
       new-parts =
           let Y = middle ++ ((i .results ++ W) ++ drop (length W) (i .free)) in
-          ap (λ (r : List ℤ). marked r at) store-parts
+          v .put ∙ ap (λ (r : List ℤ). marked r at) store-parts
           ∙ ap (λ (y : ℤ). set (L ++ Y) at (flip y)) (List·getD-append L Y (pos 0) at inside)
           ∙ set-append-left L Y at (flip (header-at L at)) inside
 
-      passing-replaced : {z : Bytes} {r : Progress} → r .end ≡ q .end + length W → Written (replacement-lines c (replaced k c)) log q z r → Passing k E middle start x p (past L at) (marked (sets work (q .end) W) at) z r
-      passing-replaced e w = record {
+      passing-replaced : Passing k E middle start x p (past L at) new z r
+      passing-replaced = record {
         left = marked L at;
         results = i .results ++ W;
         free = drop (length W) (i .free);
@@ -271,18 +242,19 @@ module _ {k : Choice} {E : Formula} {middle : List ℤ} {start : ℕ} {x : Bytes
         left-size = length-set L at (flip (header-at L at)) ∙ i .left-size;
         place = new-place;
         left-stands = marked-prefix L at inside (i .place) d ∙ i .left-stands ∙ sym (kept-gone k (i .done) c o);
-        results-formed = formed-++ (i .results) W (i .results-formed) g;
-        results-stand = stored-++ (i .results) W (i .results-formed) ∙ ap₂ (λ (a b : Formula). a ++ b) (i .results-stand) s ∙ sym (added-more k (i .done) c);
-        results-size = omega (arith, length-append (i .results) W, i .results-size, z, numbers-++ (added k (i .done)) (results-of k c), ap numbers-of (added-more k (i .done) c));
-        end = omega (arith, e, i .end, length-append (i .results) W);
-        written = rw (lines-replaced k (i .done) c o) (written-then (i .written) w);
+        results-formed = formed-++ (i .results) W (i .results-formed) (v .formed);
+        results-stand = stored-++ (i .results) W (i .results-formed) ∙ ap₂ (λ (a b : Formula). a ++ b) (i .results-stand) (v .stands ∙ sym same-results) ∙ sym (added-more k (i .done) c);
+        results-size = omega (arith, length-append (i .results) W, i .results-size, size, ap numbers-of same-results, numbers-++ (added k (i .done)) (results-of k c), ap numbers-of (added-more k (i .done) c));
+        end = omega (arith, v .next, size, i .end, length-append (i .results) W);
+        written = rw (lines-replaced k (i .done) c o) (written-then (i .written) (v .written));
       }
 
--- ---- by the table
-module _ (t : List ℕ) (l : Clause) (below : ℕ) (v : Places t l) {E : Formula} (b : Before E (of-literals l below)) (a : Proper-all E) (z : length l ≤ 64) (n : below + 64 ≤ 70000)
-    {middle : List ℤ} {start : ℕ} {x : Bytes} {p : Progress} {at : ℕ} {work : List ℤ} {log : Bytes} {q : Progress} (i : Passing (of-literals l below) E middle start x p at work log q) (h : at < start) (m : start + length middle ≡ p .end) where
+-- ---- by the test
+module _ {l : Clause} {below : ℕ} {E : Formula} (b : Before E (choice-of l below)) (a : Proper-all E)
+    {middle : List ℤ} {start : ℕ} {x : Bytes} {p : Progress} {at : ℕ} {work : List ℤ} {log : Bytes} {q : Progress} (i : Passing (choice-of l below) E middle start x p at work log q) (h : at < start) (m : start + length middle ≡ p .end)
+    (w : p .end + numbers-of (added (choice-of l below) E) ≤ length work) (n : length work < 2 ^ 31) where
   abbrev K : Choice
-  K = of-literals l below
+  K = choice-of l below
 
   abbrev C : Clause
   C = clause-at (i .left) at
@@ -290,40 +262,30 @@ module _ (t : List ℕ) (l : Clause) (below : ℕ) (v : Places t l) {E : Formula
   deleted-same : deleted-at work at ≡ deleted-at (i .left) at
   deleted-same = ap negative (header i h m)
 
-  not-touched : deleted-at (i .left) at ≡ true → touched t work at ≡ false
+  not-touched : deleted-at (i .left) at ≡ true → touched l work at ≡ false
   not-touched d = rw (deleted-same ∙ d) refl
 
-  touched-is : deleted-at (i .left) at ≡ false → touched t work at ≡ opposes l C
-  touched-is d = rw (deleted-same ∙ d) (negated-is t l below v (clause-at work at) ∙ ap (opposes l) (clause-same i h m))
+  touched-is : deleted-at (i .left) at ≡ false → touched l work at ≡ opposes l C
+  touched-is d = rw (deleted-same ∙ d) (ap (opposes l) (clause-same i h m))
 
   module _ (d : deleted-at (i .left) at ≡ false) (o : opposes l C ≡ true) where
     in-E : List·Memᴰ C E
     in-E = member i h m d
 
-    abbrev Added : List ℤ
-    Added = entry-added t (length l) below C
-
-    there : Formed Added × (stored Added ≡ results-of K C) × (length Added ≡ numbers-of (results-of K C))
-    there = entry-there t l below v (b .well-formed) z n C (a C in-E) (b .fits C in-E) o
-
     abbrev Others : Formula
     Others = stored (drop (past (i .left) at) (i .left))
 
-    added-split : added K E ≡ (added K (i .done) ++ results-of K C) ++ added K Others
-    added-split = ap (added K) (sym (one-more i h m d)) ∙ for-each-++ (i .done ++ (C ∷ [])) Others (results-of K) ∙ ap (λ (r : Formula). r ++ added K Others) (added-more K (i .done) C)
+    same-result : results-of K C ≡ result-of K C
+    unfolding only-if
+    same-result = rw o refl
 
-    space : p .end + numbers-of (added K E) ≤ length work → q .end + length Added ≤ length work
-    space w =
-        omega (
-          arith,
-          w,
-          there .2,
-          i .end,
-          i .results-size,
-          ap numbers-of added-split,
-          numbers-++ (added K (i .done) ++ results-of K C) (added K Others),
-          numbers-++ (added K (i .done)) (results-of K C),
-        )
+    added-split : added K E ≡ (added K (i .done) ++ result-of K C) ++ added K Others
+    added-split =
+        ap (added K) (sym (one-more i h m d)) ∙ for-each-++ (i .done ++ (C ∷ [])) Others (results-of K)
+        ∙ ap (λ (r : Formula). r ++ added K Others) (added-more K (i .done) C ∙ ap (λ (r : Formula). added K (i .done) ++ r) same-result)
+
+    space : q .end + numbers-of (result-of K C) ≤ length work
+    space = omega (arith, w, i .end, i .results-size, ap numbers-of added-split, numbers-++ (added K (i .done) ++ result-of K C) (added K Others), numbers-++ (added K (i .done)) (result-of K C))
 
     lines-split : lines (for-each E (replace K)) ≡ lines (for-each (i .done) (replace K)) ++ (replacement-lines C (replaced K C) ++ lines (for-each Others (replace K)))
     lines-split =
@@ -332,47 +294,39 @@ module _ (t : List ℕ) (l : Clause) (below : ℕ) (v : Places t l) {E : Formula
         ∙ ap (λ (r : List Line). r ++ lines (for-each Others (replace K))) (lines-replaced K (i .done) C o)
         ∙ append-assoc (lines (for-each (i .done) (replace K))) (replacement-lines C (replaced K C)) (lines (for-each Others (replace K)))
 
-    same-lines : line-added t (length l) below C ++ (deletion C ∷ []) ≡ replacement-lines C (replaced K C)
-    same-lines = lines-there t l below v (b .well-formed) z n C (a C in-E) (b .fits C in-E)
-
-    addable-there : p .end + numbers-of (added K E) ≤ length work → Log-room (lines (for-each E (replace K))) p → Addable t (length l) below C (length work) q
-    addable-there w r = record {
-      space = space w;
-      small = result-short t l below v (b .well-formed) z n C (a C in-E) (b .fits C in-E);
-      room = subst (λ (ls : List Line). Log-room ls q) (sym same-lines)
-          (room-first (replacement-lines C (replaced K C)) (lines (for-each Others (replace K)))
-          (room-rest (lines (for-each (i .done) (replace K))) (replacement-lines C (replaced K C) ++ lines (for-each Others (replace K))) (subst (λ (ls : List Line). Log-room ls p) lines-split r) (i .written)));
+    replaceable : Log-room (lines (for-each E (replace K))) p → Replaceable K C (length work) q
+    replaceable r = record {
+      proper = a C in-E;
+      fit = b .fits C in-E;
+      small = n;
+      space = space;
+      room = room-first (replacement-lines C (replaced K C)) (lines (for-each Others (replace K)))
+          (room-rest (lines (for-each (i .done) (replace K))) (replacement-lines C (replaced K C) ++ lines (for-each Others (replace K))) (subst (λ (ls : List Line). Log-room ls p) lines-split r) (i .written));
     }
 
-    passing-touched : p .end + numbers-of (added K E) ≤ length work → {new : List ℤ} {y : Bytes} {r : Progress} → Step true t (length l) below work at log q new y r → Passing K E middle start x p (past (i .left) at) new y r
-    passing-touched w {new} {y} {r} s =
-        let e : clause-at work at ≡ C = clause-same i h m in
-        let f : r .end ≡ q .end + length Added = s .1 ∙ ap (λ (c : Clause). q .end + length (entry-added t (length l) below c)) e in
-        let g : Written (replacement-lines C (replaced K C)) log q y r = subst (λ (ls : List Line). Written ls log q y r) same-lines (subst (λ (c : Clause). Written (line-added t (length l) below c ++ (deletion c ∷ [])) log q y r) e (s .2)) in
-        let o′ = o in
-        let j : new ≡ marked (sets work (q .end) Added) at = s .0 ∙ ap (λ (c : Clause). marked (sets work (q .end) (entry-added t (length l) below c)) at) e in
-        let k : length Added ≤ length (i .free) = omega (arith, space w, work-size i h m, i .end) in
-        subst (λ (u : List ℤ). Passing K E middle start x p (past (i .left) at) u y r) (sym j)
-        (passing-replaced i h m d o′ Added (there .0) (there .1) (there .2) k f g)
+    passing-touched : {new : List ℤ} {y : Bytes} {r : Progress} → Replaced-at K (clause-at work at) work at log q new y r → Passing K E middle start x p (past (i .left) at) new y r
+    passing-touched {new} {y} {r} s =
+        let v : Replaced-at K C work at log q new y r = subst (λ (c : Clause). Replaced-at K c work at log q new y r) (clause-same i h m) s in
+        passing-replaced i h m d o v (omega (arith, space, work-size i h m, i .end))
 
-  pub passing-addable : p .end + numbers-of (added K E) ≤ length work → Log-room (lines (for-each E (replace K))) p → touched t work at ≡ true → Addable t (length l) below (clause-at work at) (length work) q
-  passing-addable w r e =
-      subst (λ (c : Clause). Addable t (length l) below c (length work) q) (sym (clause-same i h m))
+  pub passing-replaceable : Log-room (lines (for-each E (replace (choice-of l below)))) p → touched l work at ≡ true → Replaceable (choice-of l below) (clause-at work at) (length work) q
+  passing-replaceable r e =
+      subst (λ (c : Clause). Replaceable K c (length work) q) (sym (clause-same i h m))
       (by-test (deleted-at (i .left) at)
       (λ d. let f : _≡_ {A = Bool} false true = sym (not-touched d) ∙ e in let y : _≡_ {A = ℕ} 0 1 = cc in absurd (omega arith))
-      (λ d. addable-there d (sym (touched-is d) ∙ e) w r))
+      (λ d. replaceable d (sym (touched-is d) ∙ e) r))
 
-  module _ (w : p .end + numbers-of (added K E) ≤ length work) {new : List ℤ} {y : Bytes} {r : Progress} (s : Step (touched t work at) t (length l) below work at log q new y r) where
-    stays : touched t work at ≡ false → Passing K E middle start x p (past (i .left) at) work log q → Passing K E middle start x p (past (i .left) at) new y r
-    stays e j = let g : Step false t (length l) below work at log q new y r = subst (λ (c : Bool). Step c t (length l) below work at log q new y r) e s in rw (g .0, g .1, g .2) j
+  module _ {new : List ℤ} {y : Bytes} {r : Progress} (s : Step (touched l work at) (choice-of l below) work at log q new y r) where
+    stays : touched l work at ≡ false → Passing K E middle start x p (past (i .left) at) work log q → Passing K E middle start x p (past (i .left) at) new y r
+    stays e j = let g : Step false K work at log q new y r = subst (λ (c : Bool). Step c K work at log q new y r) e s in rw (g .0, g .1, g .2) j
 
-    pub passing-step : Passing K E middle start x p (past work at) new y r
+    pub passing-step : Passing (choice-of l below) E middle start x p (past work at) new y r
     passing-step =
-        subst (λ (k : ℕ). Passing K E middle start x p k new y r) (sym (past-same i h m))
+        subst (λ (n : ℕ). Passing K E middle start x p n new y r) (sym (past-same i h m))
         (by-test (deleted-at (i .left) at)
         (λ d. stays (not-touched d) (passing-deleted i h m d))
         (λ d. by-test (opposes l C)
-        (λ o. passing-touched d o w (subst (λ (c : Bool). Step c t (length l) below work at log q new y r) (touched-is d ∙ o) s))
+        (λ o. passing-touched d o (subst (λ (c : Bool). Step c K work at log q new y r) (touched-is d ∙ o) s))
         (λ o. stays (touched-is d ∙ o) (passing-kept i h m d o))))
 
 pub passing-end : {k : Choice} {E : Formula} {middle : List ℤ} {start : ℕ} {x : Bytes} {p : Progress} {at : ℕ} {work : List ℤ} {log : Bytes} {q : Progress} → Passing k E middle start x p at work log q → start ≤ at → Passed k E middle start x p work log q

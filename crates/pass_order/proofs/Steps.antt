@@ -1,129 +1,143 @@
 -- Adding a result and replacing the clause at a place, by what the functions answer. Assumes nothing.
 use mathlib.Core.Path.{_≡_, refl, sym, ap, subst, _∙_}
 use mathlib.Core.Bool.{Bool, true, false, not}
-use mathlib.Core.List.{List, [], _∷_, _++_}
-use Prim.Native.Nat.{ℕ, suc, _+_, _*_, _-_, _≤_, _<_, _^_}
+use mathlib.Core.List.{List, [], _∷_, _++_, map}
+use Prim.Native.Nat.{ℕ, _+_, _*_, _-_, _≤_, _<_, _^_}
 use native.Mathlib.Omega.{arith}
-use native.Mathlib.Numerals.{add-one}
 use lib.IntN.{ℤ}
-use lib.ListN.{length, set, take, drop, length-take, length-set}
-use lib.Seq.{sets}
+use lib.ListN.{length, take, drop, length-take}
+use lib.Seq.{sets, length-sets}
 use mir.Syntax.{w32}
 use mir.Val.{SFits}
-use Rattle.definition.specs.Lists.{any}
-use Rattle.definition.specs.Literals.{Clause}
+use Rattle.definition.specs.Lists.{only-if}
+use Rattle.definition.specs.Literals.{Clause, opposes, opposed}
 use Rattle.definition.specs.Text.{Bytes}
-use Rattle.definition.specs.Standing.{addition, deletion}
+use Rattle.definition.specs.Standing.{Line, addition, deletion}
+use Rattle.definition.specs.Events.{Choice, choice-of}
+use Rattle.definition.specs.Order.{replaced, replacement-lines}
+use Rattle.theory_base.specs.Clauses.{Proper, Fit-all}
+use Rattle.theory_base.proofs.Clauses.{numbers-none, numbers-first}
 use Rattle.theory_base.proofs.Slices.{part-is, part-before}
-use Rattle.literals.specs.Literal.{header-of}
+use Rattle.theory_counter.specs.Ready.{Well-formed}
+use Rattle.literals.specs.Literal.{largest, header-of}
 use Rattle.literals.proofs.Laws.{literals-within}
-use Rattle.store.specs.Store.{entry, header-at, size-at, deleted-at, clause-at, marked}
+use Rattle.tables.specs.Places.{Places}
+use Rattle.store.specs.Store.{entry, header-at, deleted-at, clause-at, past, marked}
+use Rattle.store.proofs.Laws.{part-there}
 use Rattle.progress.specs.declared.Progress.{Progress}
 use Rattle.progress.specs.Progress.{Written, Log-room}
-use Rattle.progress.proofs.Laws.{written-none, written-then, room-rest}
-use Rattle.pass_order.specs.Table.{negated-in, opposed-by, replaced-by}
-use Rattle.pass_order.specs.Pass.{entry-added, line-added, Addable, Result-added, touched, Step-ready, Step}
-use Rattle.pass_order.proofs.Writing.{wanted, unwanted, part-back}
+use Rattle.progress.specs.Growth.{entries, Grown}
+use Rattle.progress.proofs.Laws.{written-then, room-rest}
+use Rattle.progress.proofs.Growing.{grown-none, added-grown}
+use Rattle.pass_order.specs.Pass.{result-of, Tabled, Replaceable, touched, Step-ready, Step}
 
--- ---- adding a result
-module _ (t : List ℕ) (n below : ℕ) (work : List ℤ) (from len : ℕ) where
+-- ---- the result of a clause
+module _ (k : Choice) (d : Clause) where
+  result-none : opposed (replaced k d) ≡ true → result-of k d ≡ []
+  unfolding only-if
+  result-none e = rw e refl
+
+  result-one : opposed (replaced k d) ≡ false → result-of k d ≡ replaced k d ∷ []
+  unfolding only-if
+  result-one e = rw e refl
+
+  -- its lines: the result is added, then the clause deleted
+  replacement-parts : replacement-lines d (replaced k d) ≡ map addition (result-of k d) ++ (deletion d ∷ [])
+  unfolding replacement-lines only-if
+  replacement-parts = go (opposed (replaced k d))
+    where
+      go : (b : Bool) → only-if (not b) (addition (replaced k d) ∷ []) ++ (deletion d ∷ []) ≡ map addition (only-if (not b) (replaced k d ∷ [])) ++ (deletion d ∷ [])
+      go true = refl
+      go false = refl
+
+-- ---- adding it
+module _ {t : List ℕ} {l : Clause} {below : ℕ} (v : Tabled t l below) (work : List ℤ) (from len : ℕ) {size : ℕ} {p : Progress} (a : Replaceable (choice-of l below) (take len (drop from work)) size p) where
+  abbrev k : Choice
+  k = choice-of l below
+
   abbrev d : Clause
   d = take len (drop from work)
 
   abbrev W : Clause
-  W = replaced-by t n below d
+  W = replaced k d
 
-  module _ {r b : Bool} (e : r ≡ opposed-by t (take (from + len - from) (drop from work))) (f : r ≡ b) where
-    pub opposed-there : opposed-by t (take len (drop from work)) ≡ b
-    opposed-there = ap (opposed-by t) (sym (part-is work from len)) ∙ sym e ∙ f
+  -- by what is_opposed answers of the part of the store
+  pub opposed-there : {r b : Bool} → ((j : Choice) → Places t (j .literals) → Well-formed j → length (j .literals) ≤ 64 → Proper (take (from + len - from) (drop from work)) → Fit-all (j .below) (take (from + len - from) (drop from work)) → r ≡ opposed (replaced j (take (from + len - from) (drop from work)))) → r ≡ b →
+      opposed (replaced (choice-of l below) (take len (drop from work))) ≡ b
+  opposed-there e f =
+      let q = part-is work from len in
+      ap (λ (c : Clause). opposed (replaced k c)) (sym q) ∙ sym (e k (v .places) (v .well-formed) (v .small .few) (rw q (a .proper)) (rw q (a .fit))) ∙ f
 
-  not-false : (b : Bool) → b ≡ false → not b ≡ true
-  not-false b e = rw e refl
+  pub none-added : (log : Bytes) → opposed (replaced (choice-of l below) (take len (drop from work))) ≡ true → Grown (result-of (choice-of l below) (take len (drop from work))) work log p work log p
+  none-added log e = rw (result-none k d e) (grown-none work log p)
 
-  not-true : (b : Bool) → b ≡ true → not b ≡ false
-  not-true b e = rw e refl
+  module _ (e : opposed (replaced (choice-of l below) (take len (drop from work))) ≡ false) where
+    pub entry-room : p .end + length (entry (replaced (choice-of l below) (take len (drop from work)))) ≤ size
+    entry-room = omega (arith, rw (result-one k d e) at (a .space), numbers-first W [], numbers-none)
 
-  pub result-opposed : (log : Bytes) (p : Progress) → opposed-by t (take len (drop from work)) ≡ true → Result-added t n below (take len (drop from work)) work log p work log p
-  result-opposed log p e =
-      let a : entry-added t n below d ≡ [] = unwanted (not (opposed-by t d)) (entry W) (not-true (opposed-by t d) e) in
-      let b : line-added t n below d ≡ [] = unwanted (not (opposed-by t d)) (addition W ∷ []) (not-true (opposed-by t d) e) in
-      record { stored = rw a refl; next = rw a (omega arith); written = rw b (written-none log p p refl refl) }
+    short : length W ≤ largest
+    short = omega (arith, entry-room, a .small)
 
-  module _ (e : opposed-by t (take len (drop from work)) ≡ false) where
-    entry-is : entry-added t n below d ≡ entry W
-    entry-is = wanted (not (opposed-by t d)) (entry W) (not-false (opposed-by t d) e)
+    module _ {new : List ℤ} {next : ℕ} (s : length work ≡ size) (g : next ≡ p .end + length (entry (replaced (choice-of l below) (take len (drop from work))))) (h : new ≡ sets work (p .end) (entry (replaced (choice-of l below) (take len (drop from work))))) where
+      pub added-room : ((p .end < next) × (next ≤ length new) × (length new < 2 ^ 31)) × ((p .at < 2 ^ 63) × (p .lines < 2 ^ 63))
+      added-room = ((omega arith, omega (arith, entry-room, ap length h, length-sets work (p .end) (entry W)), omega (arith, a .small, ap length h, length-sets work (p .end) (entry W))), (omega (arith, a .room .text), omega (arith, a .room .count)))
 
-    line-is : line-added t n below d ≡ addition W ∷ []
-    line-is = wanted (not (opposed-by t d)) (addition W ∷ []) (not-false (opposed-by t d) e)
-
-    module _ {size : ℕ} {p : Progress} (a : Addable t n below (take len (drop from work)) size p) where
-      pub entry-room : p .end + length (entry (replaced-by t n below (take len (drop from work)))) ≤ size
-      entry-room = omega (arith, a .space, ap length entry-is)
-
-      log-room : (p .at < 2 ^ 62) × (p .lines < 2 ^ 62)
-      log-room = (omega (arith, a .room .text), omega (arith, a .room .count))
-
-      module _ {new : List ℤ} {next : ℕ} (s : length work ≡ size) (g : next ≡ p .end + length (entry (replaced-by t n below (take len (drop from work))))) (h : new ≡ sets work (p .end) (entry (replaced-by t n below (take len (drop from work))))) where
-        written-part : take (next - (p .end + 1)) (drop (p .end + 1) new) ≡ W
-        written-part =
-            let k : next - (p .end + 1) ≡ length W = omega arith in
-            let o : p .end + 1 ≡ suc (p .end) = add-one (p .end) in
-            rw (k, o, h) (part-back W (set work (p .end) (header-of (length W))) (suc (p .end)) (omega (arith, length-set work (p .end) (header-of (length W)), entry-room)))
-
-        pub line-room : (p .at + 12 * length (take (next - (p .end + 1)) (drop (p .end + 1) new)) + 4 < 2 ^ 64) × (p .lines + 1 < 2 ^ 64)
-        line-room = (omega (arith, ap length written-part, a .small e, log-room .0), omega (arith, log-room .1))
-
-        pub result-added : {x y : Bytes} {q r : Progress} → Written (addition (take (next - (p .end + 1)) (drop (p .end + 1) new)) ∷ []) x p y q → r .end ≡ next → r .at ≡ q .at → r .lines ≡ q .lines → Result-added t n below (take len (drop from work)) work x p new y r
-        result-added {x} {y} {q} {r} w i j k =
-            let v : Written (line-added t n below d) x p y q = rw line-is (subst (λ (c : Clause). Written (addition c ∷ []) x p y q) written-part w) in
-            record {
-              stored = h ∙ ap (sets work (p .end)) (sym entry-is);
-              next = i ∙ g ∙ ap (λ (c : List ℤ). p .end + length c) (sym entry-is);
-              written = record { written = rw j (v .written); counted = k ∙ v .counted };
-            }
+      pub result-added : {x y : Bytes} {r : Progress} → Written (addition (take (next - (p .end + 1)) (drop (p .end + 1) new)) ∷ []) x p y r → r .end ≡ next → Grown (result-of (choice-of l below) (take len (drop from work))) work x p new y r
+      result-added w i = rw (result-one k d e) (added-grown W short (omega (arith, entry-room)) (omega arith) h w i)
 
 -- ---- the clause at a place
-module _ (t : List ℕ) (n below : ℕ) (s : List ℤ) (at : ℕ) where
-  pub step-deleted : (log : Bytes) (p : Progress) → deleted-at s at ≡ true → Step (touched t s at) t n below s at log p s log p
-  step-deleted log p e = rw e (refl, refl, refl)
+module _ {t : List ℕ} {l : Clause} {below : ℕ} (s : List ℤ) (at : ℕ) {p : Progress} (u : Step-ready t l below s at p) where
+  abbrev K : Choice
+  K = choice-of l below
 
-  module _ (m : ℕ) (f : m ≡ size-at s at) (d : deleted-at s at ≡ false) where
-    part : take (at + 1 + m - (at + 1)) (drop (at + 1) s) ≡ clause-at s at
-    part = part-is s (at + 1) m ∙ ap (λ (k : ℕ). take k (drop (at + 1) s)) f
+  pub step-deleted : (log : Bytes) → deleted-at s at ≡ true → Step (touched l s at) (choice-of l below) s at log p s log p
+  step-deleted log e = rw e (refl, refl, refl)
 
-    tested : {r b : Bool} → r ≡ any (negated-in t) (take (at + 1 + m - (at + 1)) (drop (at + 1) s)) → r ≡ b → touched t s at ≡ b
-    tested e g = rw d (ap (any (negated-in t)) (sym part) ∙ sym e ∙ g)
+  module _ {next : ℕ} (f : next ≡ past s at) (d : deleted-at s at ≡ false) where
+    part : take (next - (at + 1)) (drop (at + 1) s) ≡ clause-at s at
+    part = part-there s at next f
 
-    pub step-other : (log : Bytes) (p : Progress) {r : Bool} → r ≡ any (negated-in t) (take (at + 1 + m - (at + 1)) (drop (at + 1) s)) → r ≡ false → Step (touched t s at) t n below s at log p s log p
-    step-other log p e g = rw (tested e g) (refl, refl, refl)
+    pub clause-inside : at + 1 + (next - (at + 1)) ≤ p .end
+    clause-inside = omega (arith, f, u .before)
 
-    module _ {p : Progress} (u : Step-ready t n below s at p) {r : Bool} (e : r ≡ any (negated-in t) (take (at + 1 + m - (at + 1)) (drop (at + 1) s))) (g : r ≡ true) where
-      clause-is : take m (drop (at + 1) s) ≡ clause-at s at
-      clause-is = ap (λ (k : ℕ). take k (drop (at + 1) s)) f
+    module _ {r b : Bool} (e : (j : Clause) → Places t j → r ≡ opposes j (take (next - (at + 1)) (drop (at + 1) s))) (g : r ≡ b) where
+      tested : touched l s at ≡ b
+      tested = rw d (ap (opposes l) (sym part) ∙ sym (e l (u .table .places)) ∙ g)
 
-      pub step-addable : Addable t n below (take m (drop (at + 1) s)) (length s) p
-      step-addable = subst (λ (c : Clause). Addable t n below c (length s) p) (sym clause-is) (u .addable (tested e g))
+    pub step-other : (log : Bytes) {r : Bool} → ((j : Clause) → Places t j → r ≡ opposes j (take (next - (at + 1)) (drop (at + 1) s))) → r ≡ false → Step (touched l s at) (choice-of l below) s at log p s log p
+    step-other log e g = rw (tested e g) (refl, refl, refl)
 
-      module _ {x y : Bytes} {new : List ℤ} {q : Progress} (w : Result-added t n below (take m (drop (at + 1) s)) s x p new y q) where
-        old-part : take (at + 1 + m - (at + 1)) (drop (at + 1) new) ≡ clause-at s at
+    module _ {r : Bool} (e : (j : Clause) → Places t j → r ≡ opposes j (take (next - (at + 1)) (drop (at + 1) s))) (g : r ≡ true) where
+      pub step-replaceable : Replaceable (choice-of l below) (take (next - (at + 1)) (drop (at + 1) s)) (length s) p
+      step-replaceable = subst (λ (c : Clause). Replaceable K c (length s) p) (sym part) (u .replaceable (tested e g))
+
+      module _ {x y : Bytes} {new : List ℤ} {q : Progress} (w : Grown (result-of (choice-of l below) (take (next - (at + 1)) (drop (at + 1) s))) s x p new y q) where
+        grown : Grown (result-of K (clause-at s at)) s x p new y q
+        grown = rw part at w
+
+        -- the clause stands where it stood
+        old-part : take (next - (at + 1)) (drop (at + 1) new) ≡ clause-at s at
         old-part =
-            part-is new (at + 1) m ∙ ap (λ (r : List ℤ). take m (drop (at + 1) r)) (w .stored)
-            ∙ part-before (entry-added t n below (take m (drop (at + 1) s))) s (p .end) (at + 1) m (omega (arith, u .before)) (u .within) ∙ clause-is
+            ap (λ (r : List ℤ). take (next - (at + 1)) (drop (at + 1) r)) (grown .put)
+            ∙ part-before (entries (result-of K (clause-at s at))) s (p .end) (at + 1) (next - (at + 1)) clause-inside (u .within) ∙ part
 
-        last-room : Log-room (deletion (take m (drop (at + 1) s)) ∷ []) q
-        last-room = room-rest (line-added t n below (take m (drop (at + 1) s))) (deletion (take m (drop (at + 1) s)) ∷ []) (step-addable .room) (w .written)
+        last-room : Log-room (deletion (clause-at s at) ∷ []) q
+        last-room =
+            room-rest (map addition (result-of K (clause-at s at))) (deletion (clause-at s at) ∷ [])
+            (subst (λ (ls : List Line). Log-room ls p) (replacement-parts K (clause-at s at)) (u .replaceable (tested e g) .room)) (grown .written)
 
-        pub deletion-room : SFits w32 (header-at s at) → (q .at + 12 * length (take (at + 1 + m - (at + 1)) (drop (at + 1) new)) + 4 < 2 ^ 64) × (q .lines + 1 < 2 ^ 64)
+        pub deletion-room : SFits w32 (header-at s at) → (q .at + 12 * length (take (next - (at + 1)) (drop (at + 1) new)) + 4 < 2 ^ 64) × (q .lines + 1 < 2 ^ 64)
         deletion-room j = (
-          omega (arith, literals-within (header-at s at) j, length-take (at + 1 + m - (at + 1)) (drop (at + 1) new), last-room .text),
+          omega (arith, f, literals-within (header-at s at) j, length-take (next - (at + 1)) (drop (at + 1) new), last-room .text),
           omega (arith, last-room .count),
         )
 
-        pub step-replaced : {z : Bytes} {last : List ℤ} {o : Progress} → Written (deletion (take (at + 1 + m - (at + 1)) (drop (at + 1) new)) ∷ []) y q z o → o .end ≡ q .end → last ≡ marked new at → Step (touched t s at) t n below s at x p last z o
+        pub step-replaced : {z : Bytes} {last : List ℤ} {o : Progress} → Written (deletion (take (next - (at + 1)) (drop (at + 1) new)) ∷ []) y q z o → o .end ≡ q .end → last ≡ marked new at → Step (touched l s at) (choice-of l below) s at x p last z o
         step-replaced {z} {last} {o} v i j =
-            rw (tested e g) (
-              j ∙ ap (λ (r : List ℤ). marked r at) (w .stored ∙ ap (λ (c : Clause). sets s (p .end) (entry-added t n below c)) clause-is),
-              i ∙ w .next ∙ ap (λ (c : Clause). p .end + length (entry-added t n below c)) clause-is,
-              subst (λ (c : Clause). Written (line-added t n below c ++ (deletion (clause-at s at) ∷ [])) x p z o) clause-is
-                  (written-then (w .written) (subst (λ (c : Clause). Written (deletion c ∷ []) y q z o) old-part v)),
-            )
+            rw (tested e g) (record {
+              put = j ∙ ap (λ (r : List ℤ). marked r at) (grown .put);
+              next = i ∙ grown .next;
+              formed = grown .formed;
+              stands = grown .stands;
+              written = subst (λ (ls : List Line). Written ls x p z o) (sym (replacement-parts K (clause-at s at))) (written-then (grown .written) (subst (λ (c : Clause). Written (deletion c ∷ []) y q z o) old-part v));
+            })

@@ -9,42 +9,32 @@ use Rattle.definition.specs.Lists.{for-each, only-if}
 use Rattle.definition.specs.Literals.{Clause, Formula}
 use Rattle.definition.specs.Text.{Bytes}
 use Rattle.definition.specs.Standing.{deletion}
-use Rattle.definition.specs.Events.{Choice}
-use Rattle.definition.specs.Counter.{counter}
+use Rattle.definition.specs.Events.{Choice, choice-of}
+use Rattle.definition.specs.Counter.{counter, last-new}
 use Rattle.definition.specs.Order.{replace, order-events}
 use Rattle.definition.specs.Calls.{numbers-of}
 use Rattle.definition.specs.Reencoding.{lines}
-use Rattle.theory_base.specs.Clauses.{Proper-all, Fit-all}
 use Rattle.theory_soundness.specs.Removals.{take-all}
 use Rattle.theory_order.specs.Pass.{kept, added, Before}
-use Rattle.store.specs.Store.{Formed, stored}
+use Rattle.tables.specs.Places.{Small}
+use Rattle.store.specs.Store.{Formed, stored, Place}
 use Rattle.progress.specs.declared.Progress.{Progress}
-use Rattle.progress.specs.Progress.{Written, Log-room}
-pub use Rattle.theory_counter.specs.Ready.{of-literals}
+use Rattle.progress.specs.Progress.{Written, Log-room, standing, Good}
 
--- what stands before the counter clauses, which begin at `start`
+-- what stands before a place
 abbrev pub front : List ℤ → ℕ → Formula
 front work start = stored (take start work)
 
--- what stands with the counter clauses
-abbrev pub with-counter : List ℤ → ℕ → Clause → ℕ → Formula
-with-counter work start l below = front work start ++ counter (of-literals l below)
-
+-- what the order form needs
 pub record Order-ready (work : List ℤ) (p : Progress) (start : ℕ) (l : Clause) (below : ℕ) : Type 0 where
-  pub inside : p .end ≤ length work
-  pub starts : start ≤ p .end
-  pub front-formed : Formed (take start work)
-  pub counter-formed : Formed (drop start (take (p .end) work))
-  pub counter-stands : stored (drop start (take (p .end) work)) ≡ counter (of-literals l below)
-  pub proper : Proper-all (front work start)
-  pub before : Before (front work start) (of-literals l below)
-  pub least : 5 ≤ length l
-  pub most-literals : length l ≤ 64
-  pub reach : Fit-all 8000 l
-  pub new-few : below + 64 ≤ 70000
+  pub good : Good (last-new (choice-of l below)) (order-events (choice-of l below) (standing work p)) work p
+  -- from `start` on stand the counter clauses, the last in the store
+  pub place : Place (take (p .end) work) start
+  pub counter-stands : stored (drop start (take (p .end) work)) ≡ counter (choice-of l below)
+  pub before : Before (front work start) (choice-of l below)
+  pub small : Small l below
   -- the results fit behind the store
-  pub space : p .end + numbers-of (added (of-literals l below) (front work start)) ≤ length work
-  pub room : Log-room (lines (order-events (of-literals l below) (with-counter work start l below))) p
+  pub space : p .end + numbers-of (added (choice-of l below) (front work start)) ≤ length work
 
 -- ---- after the pass: the clauses left of E, then the rest of the store as it was, then the results
 
@@ -60,12 +50,6 @@ pub record Passed (k : Choice) (E : Formula) (middle : List ℤ) (start : ℕ) (
   pub results-stand : stored results ≡ added k E
   pub end : q .end ≡ old .end + length results
   pub written : Written (lines (for-each E (replace k))) old-log old log q
-
--- the literals and the new variables are few
-pub record Short (l : Clause) (below : ℕ) : Type 0 where
-  pub most-literals : length l ≤ 64
-  pub reach : Fit-all 8000 l
-  pub new-few : below + 64 ≤ 70000
 
 -- ---- deletions recorded and carried out
 

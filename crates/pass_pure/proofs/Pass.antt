@@ -6,12 +6,12 @@ use mathlib.Core.Option.{Option, some, none}
 use Prim.Native.Nat.{ℕ, _+_, _-_, _≤_, _<_, _^_}
 use native.Mathlib.Omega.{arith}
 use lib.IntN.{ℤ, negℤ}
-use lib.ListN.{length, take, drop, length-append, length-drop, length-set, replicate}
+use lib.ListN.{length, take, drop, length-set, replicate}
+use lib.Seq.{take-all, length-take-le}
 use Rattle.definition.specs.Lists.{for-each}
 use Rattle.definition.specs.Literals.{Clause, Formula, with-first}
 use Rattle.definition.specs.Text.{Bytes}
 use Rattle.definition.specs.Standing.{Line, deletion, changed, after}
-use Rattle.definition.specs.Log.{log-text}
 use Rattle.definition.specs.Events.{Event, pure-deleted}
 use Rattle.definition.specs.Clearing.{times, pure-literal, pure-lines, pure-next, clear-pure}
 use Rattle.definition.specs.Reencoding.{lines, lines-of}
@@ -23,18 +23,18 @@ use Rattle.theory_soundness.proofs.Times.{times-removed, times-at, unique-at, u
 use Rattle.theory_clearing.specs.Clashes.{Clash-free}
 use Rattle.theory_clearing.proofs.Pure.{Is-pure, pure-some, pure-removed}
 use Rattle.theory_clearing.proofs.Pass.{pure-at-start}
+use Rattle.tables.specs.Sizes.{input-reach, input-size}
+use Rattle.tables.specs.Entries.{tallied-all}
+use Rattle.tables.specs.Counts.{Counts}
 use Rattle.store.specs.Store.{Formed, stored, deleted-at, clause-at, past, marked, Place}
 use Rattle.store.proofs.Laws.{place-start, place-formed, place-next, stored-end, stored-around, rest-deleted, rest-stands, marked-place, marked-past, marked-behind, marked-stored, part-there}
 use Rattle.progress.specs.declared.Progress.{Progress}
-use Rattle.progress.specs.Progress.{Written, Ran}
-use Rattle.progress.proofs.Laws.{lines-none, lines-one, text-++, written-none, written-then, ran-lines}
-use Rattle.pass_pure.specs.Table.{Counts, pure-by, as-pure}
+use Rattle.progress.specs.Progress.{Written, Log-room, standing, Good, Runs}
+use Rattle.progress.proofs.Laws.{lines-none, lines-one, written-none, written-then, room-rest, runs-lines, standing-part, good-counts, good-part}
 use Rattle.pass_pure.specs.declared.Pure.{Pure}
 use Rattle.pass_pure.specs.declared.Pure.the-variants.{Literal, Nothing}
-use lib.Seq.{length-take-le, take-at}
-use Rattle.store.specs.Tally.{tallied-all}
-use Rattle.pass_pure.specs.Pass.{reach, pure-at, Step, Room, Ready, Passed, Pure-ready}
-use Rattle.pass_pure.proofs.Tests.{literal-is, nothing-is, counted-table, pure-literal-is}
+use Rattle.pass_pure.specs.Pass.{pure-by, as-pure, pure-at, Step, Passable}
+use Rattle.pass_pure.proofs.Tests.{literal-is, nothing-is, pure-literal-is}
 
 -- the events of a clause, tested where F stands
 abbrev pub pure-of : Formula → Clause → List Event
@@ -51,16 +51,16 @@ pub record Passing (F : Formula) (old-log : Bytes) (old : Progress) (s : List �
   pub stands : stored s ≡ after F (lines events)
   pub kept : q .end ≡ old .end
 
-pub passing-start : (s : List ℤ) (log : Bytes) (p : Progress) → Formed s → Clash-free (stored s) → Passing (stored s) log p s 0 log p
+pub passing-start : {F : Formula} (s : List ℤ) (log : Bytes) (p : Progress) → F ≡ stored s → Formed s → Clash-free F → Passing F log p s 0 log p
 unfolding after
-passing-start s log p f n = record {
+passing-start {F} s log p e f n = record {
   events = [];
   place = place-start f;
-  inside = λ c i. i;
-  fewer = λ x. omega arith;
-  rest = sym (pure-at-start (stored s) n);
+  inside = λ c i. rw e i;
+  fewer = λ x. rw e (omega arith);
+  rest = ap (λ (g : Formula). for-each g (pure-of F)) (sym e) ∙ sym (pure-at-start F n);
   written = rw lines-none (written-none log p p refl refl);
-  stands = ap (after (stored s)) (sym lines-none);
+  stands = sym e ∙ ap (after F) (sym lines-none);
   kept = refl;
 }
 
@@ -148,7 +148,7 @@ module _ {F : Formula} {x y : Bytes} {p q : Progress} {s : List ℤ} {at : ℕ} 
       kept = k ∙ i .kept;
     }
 
-  module _ (t : List ℕ) (f : Fits reach F) (k : Counts reach t F) (u : List ℤ) (z : Bytes) (r : Progress) where
+  module _ (t : List ℕ) (f : Fits input-reach F) (k : Counts input-reach t F) (u : List ℤ) (z : Bytes) (r : Progress) where
     by-literal : deleted-at s at ≡ false → (o : Option ℤ) → pure-literal F (clause-at s at) ≡ o → Step o s at y q u z r → Passing F x p u (past s at) z r
     unfolding for-each pure-next
     by-literal d none e w =
@@ -157,7 +157,7 @@ module _ {F : Formula} {x y : Bytes} {p q : Progress} {s : List ℤ} {at : ℕ} 
 
     same-literal : deleted-at s at ≡ false → pure-by t (clause-at s at) ≡ pure-literal F (clause-at s at)
     same-literal d =
-        pure-literal-is reach (omega arith) t F k (clause-at s at)
+        pure-literal-is input-reach (omega arith) t F k (clause-at s at)
         (λ b j. f (clause-at s at) (i .inside (clause-at s at) (rw (stored-around s at h (i .place) d) (Memᴰ·append-right (stored (take at s)) (here refl)))) b j .1)
 
     passing-stays : deleted-at s at ≡ true → Step none s at y q u z r → Passing F x p u (past s at) z r
@@ -168,23 +168,23 @@ module _ {F : Formula} {x y : Bytes} {p q : Progress} {s : List ℤ} {at : ℕ} 
         by-test (deleted-at s at) (λ d. passing-stays d (rw d at w))
         (λ d. by-literal d (pure-literal F (clause-at s at)) refl (rw (same-literal d) at (rw d at w)))
 
-pub passing-end : {F : Formula} {x y : Bytes} {p q : Progress} {s : List ℤ} {at : ℕ} → Passing F x p s at y q → length s ≤ at → Passed F x p s y q
+-- all clauses are gone through
+pub passing-end : (work : List ℤ) {x y : Bytes} {p q : Progress} {s : List ℤ} {at : ℕ} → Passing (standing work p) x p s at y q → length work ≡ p .end → length s ≡ length work → length s ≤ at → Runs (clear-pure (standing work p)) work x p s y q
 unfolding for-each
-passing-end {F} {s = s} {at = at} i h =
+passing-end work {p = p} {q = q} {s = s} {at = at} i w n h =
+    let F = standing work p in
     let e : i .events ≡ clear-pure F = sym (append-nil (i .events)) ∙ ap (λ (f : Formula). i .events ++ for-each f (pure-of F)) (sym (stored-end s at h)) ∙ i .rest in
-    record { formed = place-formed (i .place); stands = i .stands ∙ ap (λ (es : List Event). after F (lines es)) e; written = rw e at (i .written); kept = i .kept }
+    let t : take (q .end) s ≡ s = take-all (q .end) s (omega (arith, i .kept)) in
+    runs-lines n (record { inside = omega (arith, i .kept); formed = rw t (place-formed (i .place)); stands = ap stored t })
+    (i .stands ∙ ap (λ (es : List Event). after F (lines es)) e) (rw e at (i .written))
 
 -- the log has room for the next line
-pub passing-room : {F : Formula} {x y : Bytes} {p q : Progress} {s : List ℤ} {at : ℕ} → Room F p → Passing F x p s at y q → (q .at < 2 ^ 62) × (q .lines < 2 ^ 62)
+pub passing-room : {F : Formula} {x y : Bytes} {p q : Progress} {s : List ℤ} {at : ℕ} → Log-room (lines (clear-pure F)) p → Passing F x p s at y q → (q .at < 2 ^ 62) × (q .lines < 2 ^ 62)
 passing-room {F} {s = s} {at = at} b i =
     let others = for-each (stored (drop at s)) (pure-of F) in
-    let e : lines (i .events) ++ lines others ≡ lines (clear-pure F) = sym (lines-++ (i .events) others) ∙ ap lines (i .rest) in
-    let g = ap length e in
-    let k = ap (λ (ls : List Line). length (log-text ls)) e in
-    let m = ap length (text-++ (lines (i .events)) (lines others)) in (
-      omega (arith, b .text, i .written .written .next, k, m, length-append (log-text (lines (i .events))) (log-text (lines others))),
-      omega (arith, b .count, i .written .counted, g, length-append (lines (i .events)) (lines others)),
-    )
+    let e : lines (clear-pure F) ≡ lines (i .events) ++ lines others = ap lines (sym (i .rest)) ∙ lines-++ (i .events) others in
+    let r = room-rest (lines (i .events)) (lines others) (rw e at b) (i .written) in
+    (omega (arith, r .text), omega (arith, r .count))
 
 -- ---- at a place, by what the functions answer there
 
@@ -201,23 +201,23 @@ module _ (t : List ℕ) (s : List ℤ) (at next : ℕ) (e : next ≡ past s at) 
       rw (d, k) (refl, refl, refl)
 
   pub at-literal : {log new-log : Bytes} {p q : Progress} {new : List ℤ} {r : Pure} (l : ℤ) → r ≡ as-pure (pure-by t (take (next - (at + 1)) (drop (at + 1) s))) → r ≡ Literal l → new ≡ marked s at →
-      Written (deletion (with-first l (take (next - (at + 1)) (drop (at + 1) s))) ∷ []) log p new-log q → q .end ≡ p .end → Step (pure-at t s at) s at log p new new-log q
+      Written (deletion (with-first l (clause-at s at)) ∷ []) log p new-log q → q .end ≡ p .end → Step (pure-at t s at) s at log p new new-log q
   at-literal l a b n w f =
       let k = literal-is (pure-by t (clause-at s at)) l (ap (λ (c : Clause). as-pure (pure-by t c)) (sym part) ∙ sym a ∙ b) in
-      rw (d, k) (n, rw part at w, f)
+      rw (d, k) (n, w, f)
 
--- ---- the store as the first part of the workspace
+-- ---- the workspace's store
 
-pub ready-of : {work : List ℤ} {t : List ℕ} {p : Progress} → Pure-ready work p → t ≡ tallied-all (replicate (reach + reach + 2) 0) (stored (take (p .end) work)) → Ready (take (p .end) work) t p
-ready-of {work} {t} {p} r e =
-    record { formed = r .formed; fits = r .fits; free = r .free; table = rw e (counted-table reach (stored (take (p .end) work)) (r .proper) (r .few)); room = r .room }
+-- all of a workspace
+pub standing-all : (work : List ℤ) (p : Progress) → length work ≡ p .end → standing work p ≡ stored work
+standing-all work p e = ap stored (take-all (p .end) work (omega arith))
 
-pub pass-ran : {work new : List ℤ} {x y : Bytes} {p q : Progress} → Pure-ready work p → length new ≡ length (take (p .end) work) → Passed (stored (take (p .end) work)) x p new y q →
-    Ran (stored (take (p .end) work)) (clear-pure (stored (take (p .end) work))) (length work) x p (new ++ drop (p .end) work) y q
-pass-ran {work} {new} {p = p} {q = q} r e s =
-    let n : length new ≡ p .end = e ∙ length-take-le (p .end) work (r .inside) in
-    let size = length-append new (drop (p .end) work) in
-    let part : take (q .end) (new ++ drop (p .end) work) ≡ new = take-at new (drop (p .end) work) (q .end) (n ∙ sym (s .kept)) in
-    ran-lines (omega (arith, size, n, length-drop (p .end) work, r .inside))
-    (record { inside = omega (arith, size, n, s .kept); formed = rw part (s .formed); stands = ap stored part })
-    (s .stands) (s .written)
+pub passable : {work : List ℤ} {t : List ℕ} {p : Progress} → Good input-reach (clear-pure (standing work p)) work p → Clash-free (standing work p) → t ≡ tallied-all (replicate input-size 0) (standing work p) → Passable (take (p .end) work) t p
+passable {work} {t} {p} g f e =
+    let s = take (p .end) work in
+    let k = sym (standing-part work p) in record {
+      good = subst (λ (F : Formula). Good input-reach (clear-pure F) s p) k (good-part g);
+      free = subst (λ (F : Formula). Clash-free F) k f;
+      table = subst (λ (F : Formula). Counts input-reach t F) k (good-counts g e);
+      whole = length-take-le (p .end) work (g .inside);
+    }

@@ -1,32 +1,35 @@
--- The pass over the store.
+-- The pass over a store: the literal for which a clause is deleted, by a table of counts, and what happens at a place.
 use mathlib.Core.Path.{_≡_}
 use mathlib.Core.Bool.{cond}
 use mathlib.Core.List.{List, [], _∷_}
 use mathlib.Core.Option.{Option, some, none}
-use Prim.Native.Nat.{ℕ, _+_, _≤_, _<_, _^_}
+use Prim.Native.Nat.{ℕ}
 use lib.IntN.{ℤ}
-use lib.ListN.{length, take}
-use Rattle.definition.specs.Literals.{Formula, with-first}
+use lib.ListN.{length}
+use Rattle.definition.specs.Lists.{first}
+use Rattle.definition.specs.Literals.{Clause, with-first}
 use Rattle.definition.specs.Text.{Bytes}
-use Rattle.definition.specs.Standing.{deletion, after}
-use Rattle.definition.specs.Log.{log-text}
+use Rattle.definition.specs.Standing.{deletion}
 use Rattle.definition.specs.Clearing.{clear-pure}
-use Rattle.definition.specs.Reencoding.{lines}
-use Rattle.theory_base.specs.Clauses.{Proper-all, Fits}
 use Rattle.theory_clearing.specs.Clashes.{Clash-free}
-use Rattle.store.specs.Store.{Formed, stored, deleted-at, clause-at, marked}
-use Rattle.store.specs.Tally.{most}
+use Rattle.tables.specs.Sizes.{input-reach}
+use Rattle.tables.specs.Counts.{Counts, pure-in, unique-by}
+use Rattle.store.specs.Store.{deleted-at, clause-at, marked}
 use Rattle.progress.specs.declared.Progress.{Progress}
-use Rattle.progress.specs.Progress.{Written}
-use Rattle.pass_pure.specs.Table.{Counts, pure-by}
+use Rattle.progress.specs.Progress.{Written, standing, Good}
+use Rattle.pass_pure.specs.declared.Pure.{Pure}
+use Rattle.pass_pure.specs.declared.Pure.the-variants.{Literal, Nothing}
 
--- the highest variable that the tables reach
-abbrev pub reach : ℕ
-reach = 8000
+-- the literal for which a clause is deleted, if it is
+abbrev pub pure-by : List ℕ → Clause → Option ℤ
+pure-by t c = cond (unique-by t c) (first (pure-in t) c) none
 
--- ---- at a place
+-- the same as the function answers it
+abbrev pub as-pure : Option ℤ → Pure
+as-pure none = Nothing
+as-pure (some l) = Literal l
 
--- the literal for which the clause there is deleted, if it is
+-- the same of the clause at a place
 abbrev pub pure-at : List ℕ → List ℤ → ℕ → Option ℤ
 pure-at t s at = cond (deleted-at s at) none (pure-by t (clause-at s at))
 
@@ -36,34 +39,9 @@ Step none s at log p new-s new-log q = (new-s ≡ s) × (new-log ≡ log) × (q 
 Step (some l) s at log p new-s new-log q =
     (new-s ≡ marked s at) × Written (deletion (with-first l (clause-at s at)) ∷ []) log p new-log q × (q .end ≡ p .end)
 
--- ---- the whole store
-
--- the log has room for the lines of the pass
-pub record Room (F : Formula) (p : Progress) : Type 0 where
-  pub text : p .at + length (log-text (lines (clear-pure F))) < 2 ^ 62
-  pub count : p .lines + length (lines (clear-pure F)) < 2 ^ 62
-
--- what the pass over a store needs
-pub record Ready (s : List ℤ) (t : List ℕ) (p : Progress) : Type 0 where
-  pub formed : Formed s
-  pub fits : Fits reach (stored s)
-  pub free : Clash-free (stored s)
-  pub table : Counts reach t (stored s)
-  pub room : Room (stored s) p
-
--- what it gives where F stood
-pub record Passed (F : Formula) (old-log : Bytes) (old : Progress) (s : List ℤ) (log : Bytes) (new : Progress) : Type 0 where
-  pub formed : Formed s
-  pub stands : stored s ≡ after F (lines (clear-pure F))
-  pub written : Written (lines (clear-pure F)) old-log old log new
-  pub kept : new .end ≡ old .end
-
--- what the phase needs of the workspace, whose first elements are the store
-pub record Pure-ready (work : List ℤ) (p : Progress) : Type 0 where
-  pub inside : p .end ≤ length work
-  pub formed : Formed (take (p .end) work)
-  pub proper : Proper-all (stored (take (p .end) work))
-  pub fits : Fits reach (stored (take (p .end) work))
-  pub few : length (stored (take (p .end) work)) ≤ most
-  pub free : Clash-free (stored (take (p .end) work))
-  pub room : Room (stored (take (p .end) work)) p
+-- a good workspace that is all store, without a clash, and the table of its counts
+pub record Passable (work : List ℤ) (t : List ℕ) (p : Progress) : Type 0 where
+  pub good : Good input-reach (clear-pure (standing work p)) work p
+  pub free : Clash-free (standing work p)
+  pub table : Counts input-reach t (standing work p)
+  pub whole : length work ≡ p .end

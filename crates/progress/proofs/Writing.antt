@@ -1,25 +1,30 @@
 -- Laws of writing a deletion with a literal first. Assumes nothing.
-use mathlib.Core.Path.{_≡_, refl, sym, ap, _∙_}
+use mathlib.Core.Path.{_≡_, refl, sym, ap, subst, _∙_}
 use mathlib.Core.Bool.{Bool, true, false, not, cond}
-use mathlib.Core.List.{[], _∷_, _++_, append-nil, append-assoc}
-use Prim.Native.Nat.{ℕ, _+_, _*_, _≤_, _<_}
+use mathlib.Core.List.{List, [], _∷_, _++_, append-nil, append-assoc}
+use Prim.Native.Nat.{ℕ, _+_, _-_, _*_, _≤_, _<_, _^_}
 use native.Mathlib.Omega.{arith}
 use native.Mathlib.Numerals.{add-one}
 use lib.IntN.{ℤ, pos}
-use lib.ListN.{length, getD, take}
+use lib.ListN.{length, getD, take, drop, length-take}
 use lib.Seq.{take-suc, take-all}
 use mir.Syntax.{w32}
 use mir.Val.{SFits, ofZ, toZ}
+use mir.ValLaws.{toZ-ofZ}
 use Rattle.definition.specs.Lists.{those, for-each}
 use Rattle.definition.specs.Literals.{Clause, same, without, with-first}
 use Rattle.definition.specs.Text.{Bytes, bytes, literal-text}
 use Rattle.definition.specs.Standing.{deletion}
 use Rattle.definition.specs.Log.{clause-text, log-line-text}
 use Rattle.theory_base.proofs.Loops.{for-each-++}
-use Rattle.literals.proofs.Laws.{at-arg, at-arg2}
+use Rattle.literals.proofs.Laws.{at-arg, at-arg2, literals-within}
 use Rattle.theory_text.specs.ClauseText.{literals-text}
+use Rattle.store.specs.Store.{header-at, clause-at, past}
+use Rattle.store.proofs.Laws.{part-there}
 use Rattle.text.specs.Output.{Put}
 use Rattle.text.proofs.Output.{put-none, put-then, put-same, put-length}
+use Rattle.progress.specs.declared.Progress.{Progress}
+use Rattle.progress.specs.Progress.{Written}
 
 -- ---- the literals without the first one
 
@@ -86,3 +91,16 @@ line-put f c s p q t u =
     let p' = put-same p (at-arg (λ (z : ℤ). bytes "d " ++ literal-text z ++ bytes " ") f s) in
     let q' = put-same q (at-arg (λ (z : ℤ). literals-text (without z c)) f s) in
     put-same (put-then (put-then (put-then p' q') t) u) (simp append-assoc)
+
+-- ---- a clause of a store deleted
+
+-- its line, written from its part of the store
+pub clause-written : {x y : Bytes} {p q : Progress} (l : ℤ) (s : List ℤ) (at next : ℕ) → SFits w32 l → next ≡ past s at → Written (deletion (with-first (toZ w32 (ofZ w32 l)) (take (next - (at + 1)) (drop (at + 1) s))) ∷ []) x p y q
+    → Written (deletion (with-first l (clause-at s at)) ∷ []) x p y q
+clause-written {x} {y} {p} {q} l s at next f e w =
+    subst (λ (c : Clause). Written (deletion (with-first l c) ∷ []) x p y q) (part-there s at next e)
+    (subst (λ (z : ℤ). Written (deletion (with-first z (take (next - (at + 1)) (drop (at + 1) s))) ∷ []) x p y q) (toZ-ofZ w32 l f) w)
+
+-- it is short enough for a line
+pub clause-short : (s : List ℤ) (at next : ℕ) → SFits w32 (header-at s at) → next ≡ past s at → length (take (next - (at + 1)) (drop (at + 1) s)) < 2 ^ 31
+clause-short s at next f e = omega (arith, literals-within (header-at s at) f, length-take (next - (at + 1)) (drop (at + 1) s))

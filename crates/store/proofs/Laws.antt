@@ -303,6 +303,20 @@ fits-within size end c a b = rw (le-leb (length c) largest a, le-leb (length c +
 
 -- ---- a store has room for what stands in it
 
+-- no more clauses stand than the store has elements
+few-from : (k : ℕ) (s : List ℤ) → length (stored-from k s) ≤ length s
+unfolding stored-from
+few-from k [] = omega arith
+few-from zero (h ∷ s) = go (negative h) (few-from (header-literals h) s)
+  where
+    go : (b : Bool) → length (stored-from (header-literals h) s) ≤ length s → length (cond b (stored-from (header-literals h) s) (take (header-literals h) s ∷ stored-from (header-literals h) s)) ≤ length (h ∷ s)
+    go true e = omega arith
+    go false e = omega arith
+few-from (suc k) (x ∷ s) = omega (arith, few-from k s)
+
+pub few-stored : (s : List ℤ) → length (stored s) ≤ length s
+few-stored s = few-from 0 s
+
 -- the part of a clause lies inside the store
 pub part-within : (s : List ℤ) (at : ℕ) → at < length s → Formed (drop at s) → at + 1 + size-at s at ≤ length s
 part-within s at h f = omega (arith, formed-next s at h f .0)

@@ -1,3 +1,2 @@
 pub mod Store
-pub mod Tally
 pub mod Marks

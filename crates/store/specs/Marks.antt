@@ -1,17 +1,13 @@
--- A table of marks: 1 at the index of each literal of a clause.
+-- A table of marks: where it reaches, an entry says whether the marked clause holds its literal.
 use mathlib.Core.Path.{_≡_}
-use mathlib.Core.List.{List, [], _∷_}
+use mathlib.Core.List.{List}
 use Prim.Native.Nat.{ℕ, _<_}
 use lib.IntN.{ℤ}
-use lib.ListN.{length, getD, set}
+use lib.ListN.{length}
 use Rattle.definition.specs.Lists.{bit}
 use Rattle.definition.specs.Literals.{Clause, holds}
 use Rattle.literals.specs.Literal.{index-of}
+use Rattle.tables.specs.Entries.{entry-of}
 
-unfoldable pub with-marks : List ℕ → Clause → List ℕ
-with-marks t [] = t
-with-marks t (l ∷ c) = with-marks (set t (index-of l) 1) c
-
--- where the table reaches, an entry says whether the clause holds its literal
 abbrev pub Marks : List ℕ → Clause → Type 0
-Marks t c = (l : ℤ) → index-of l < length t → getD t (index-of l) 0 ≡ bit (holds l c)
+Marks t c = (l : ℤ) → index-of l < length t → entry-of t l ≡ bit (holds l c)

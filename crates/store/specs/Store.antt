@@ -10,7 +10,10 @@ use lib.Seq.{sets}
 use Rattle.definition.specs.Literals.{Clause, Formula, same-set}
 use Rattle.definition.specs.Standing.{stands, take-out}
 use Rattle.definition.specs.Calls.{numbers-of}
+use Rattle.theory_base.specs.Clauses.{Fits}
 use Rattle.literals.specs.Literal.{largest, negative, header-of, flip, header-literals}
+use Rattle.tables.specs.Entries.{tallied}
+use Rattle.tables.specs.Counts.{Counts}
 use Rattle.store.specs.declared.Found.{Found}
 use Rattle.store.specs.declared.Found.the-variants.{At, Nothing}
 use Rattle.store.specs.declared.Added.{Added}
@@ -65,11 +68,21 @@ past s at = at + (1 + size-at s at)
 abbrev pub marked : List ℤ → ℕ → List ℤ
 marked s at = set s at (flip (header-at s at))
 
+-- a table of counts with the clause at a place, if it stands
+abbrev pub tallied-at : List ℕ → List ℤ → ℕ → List ℕ
+tallied-at t s at = cond (deleted-at s at) t (tallied t (clause-at s at))
+
 -- an entry begins at the place, or the store ends there
 pub record Place (s : List ℤ) (at : ℕ) : Type 0 where
   pub inside : at ≤ length s
   pub before : Formed (take at s)
   pub rest : Formed (drop at s)
+
+-- a store with variables up to h, and the table of its counts
+pub record Counted (h : ℕ) (s : List ℤ) (t : List ℕ) : Type 0 where
+  pub formed : Formed s
+  pub fits : Fits h (stored s)
+  pub table : Counts h t (stored s)
 
 -- ---- the first standing clause with the same set of literals
 

@@ -7,10 +7,9 @@ ghost use lib.Seq.{sets};
 ghost use Rattle.definition.specs.Lists.{all};
 ghost use Rattle.definition.specs.Literals.{holds as holds-literal, same-set as same-literals};
 ghost use Rattle.definition.specs.Calls.{numbers-of};
-ghost use Rattle.literals.specs.Literal.{index-of};
-ghost use Rattle.store.specs.Marks.{with-marks, Marks};
-ghost use Rattle.store.specs.Tally.{bumped, tallied, tallied-all, tallied-at};
-ghost use Rattle.store.specs.Store.{Formed, stored, past, marked, begins-with, place-of, Deleted, end-after, with-entry, slid, slid-to, filled-by as filled, Compacted};
+ghost use Rattle.tables.specs.Entries.{tallied-all};
+ghost use Rattle.store.specs.Store.{Formed, stored, past, marked, tallied-at, begins-with, place-of, Deleted, end-after, with-entry, slid, slid-to, filled-by as filled, Compacted};
+ghost use Rattle.store.specs.Marks.{Marks};
 
 pub enum Found {
     // the place of the entry
@@ -92,29 +91,8 @@ pub fn next_at(store: &[i32], at: usize) -> usize
     at + (1 + literals::header_length(store[at]))
 }
 
-// Sets the mark of a literal, where the table reaches.
-fn mark_literal(marks: &mut [u8], l: i32)
-    ensures { λ _. ⌜ now (marks .exit) ≡ set (now (marks .entry)) (index-of l) 1 ⌝ }
-{
-    let i = literals::literal_index(l);
-    if i < marks.len() {
-        marks[i] = 1;
-    }
-}
-
-// Sets the mark of each literal of a clause.
-fn mark_literals(marks: &mut [u8], clause: &[i32])
-    ensures { λ _. ⌜ now (marks .exit) ≡ with-marks (now (marks .entry)) (now (clause .entry)) ⌝ }
-{
-    let mut i = 0;
-    while i < clause.len() {
-        mark_literal(marks, clause[i]);
-        i += 1;
-    }
-}
-
 // Whether a literal is in the marked clause; the clause is walked only past the table's reach.
-fn is_marked(marks: &[u8], clause: &[i32], l: i32) -> bool
+fn is_marked(marks: &[u32], clause: &[i32], l: i32) -> bool
     requires { ⌜ Marks (now marks) (now clause) ⌝ }
     ensures { λ r. ⌜ r ≡ holds-literal l (now (clause .entry)) ⌝ }
 {
@@ -127,7 +105,7 @@ fn is_marked(marks: &[u8], clause: &[i32], l: i32) -> bool
 }
 
 // Whether every literal of a clause is in the marked one.
-fn all_marked(a: &[i32], marks: &[u8], clause: &[i32]) -> bool
+fn all_marked(a: &[i32], marks: &[u32], clause: &[i32]) -> bool
     requires { ⌜ Marks (now marks) (now clause) ⌝ }
     ensures { λ r. ⌜ r ≡ all (λ l. holds-literal l (now (clause .entry))) (now (a .entry)) ⌝ }
 {
@@ -143,7 +121,7 @@ fn all_marked(a: &[i32], marks: &[u8], clause: &[i32]) -> bool
 }
 
 // Whether a clause has the marked one's set of literals.
-fn same_marked(a: &[i32], marks: &[u8], clause: &[i32]) -> bool
+fn same_marked(a: &[i32], marks: &[u32], clause: &[i32]) -> bool
     requires { ⌜ Marks (now marks) (now clause) ⌝ }
     ensures { λ r. ⌜ r ≡ same-literals (now (clause .entry)) (now (a .entry)) ⌝ }
 {
@@ -155,7 +133,7 @@ fn same_marked(a: &[i32], marks: &[u8], clause: &[i32]) -> bool
 }
 
 // Whether the clause at a place stands and has the marked clause's set of literals.
-fn matches(store: &[i32], at: usize, marks: &[u8], clause: &[i32]) -> bool
+fn matches(store: &[i32], at: usize, marks: &[u32], clause: &[i32]) -> bool
     requires { ⌜ at < length (now store) ⌝ }
     requires { ⌜ Formed (drop at (now store)) ⌝ }
     requires { ⌜ Marks (now marks) (now clause) ⌝ }
@@ -170,7 +148,7 @@ fn matches(store: &[i32], at: usize, marks: &[u8], clause: &[i32]) -> bool
 }
 
 // The place of the first standing clause with the marked clause's set of literals.
-fn find_marked(store: &[i32], marks: &[u8], clause: &[i32]) -> Found
+fn find_marked(store: &[i32], marks: &[u32], clause: &[i32]) -> Found
     requires { ⌜ Formed (now store) ⌝ }
     requires { ⌜ Marks (now marks) (now clause) ⌝ }
     ensures { λ r. ⌜ r ≡ place-of (now (clause .entry)) (now (store .entry)) ⌝ }
@@ -214,7 +192,7 @@ fn find_plain(store: &[i32], clause: &[i32]) -> Found
     Found::Nothing
 }
 
-// The place of the first standing clause with the same set of literals. A clause of more than 16 literals is marked in a table, which reaches up to variable 70,000.
+// The place of the first standing clause with the same set of literals. A clause of more than 16 literals is marked in a table, which reaches every variable of a log.
 pub fn find_same_set(store: &[i32], clause: &[i32]) -> Found
     requires { ⌜ Formed (now store) ⌝ }
     ensures { λ r. ⌜ r ≡ place-of (now (clause .entry)) (now (store .entry)) ⌝ }
@@ -222,8 +200,8 @@ pub fn find_same_set(store: &[i32], clause: &[i32]) -> Found
     if clause.len() <= 16 {
         return find_plain(store, clause);
     }
-    let mut marks = [0u8; 140002];
-    mark_literals(&mut marks, clause);
+    let mut marks = [0u32; tables::LOG_SIZE];
+    tables::set_entries(&mut marks, clause, 1);
     find_marked(store, &marks, clause)
 }
 
@@ -360,32 +338,7 @@ pub fn size_standing(store: &[i32]) -> usize
     n
 }
 
-// ---- how often each literal stands: a table with an entry at each literal's index
-
-// One more at a literal's index; nothing where the table has no such entry, and no more than the largest u32.
-fn bump(table: &mut [u32], l: i32)
-    ensures { λ _. ⌜ now (table .exit) ≡ bumped (now (table .entry)) l ⌝ }
-{
-    let i = literals::literal_index(l);
-    if table.len() <= i {
-        return;
-    }
-    let x = table[i];
-    if x < 4294967295 {
-        table[i] = x + 1;
-    }
-}
-
-// One more at the index of each literal of a clause.
-pub fn count_clause(table: &mut [u32], clause: &[i32])
-    ensures { λ _. ⌜ now (table .exit) ≡ tallied (now (table .entry)) (now (clause .entry)) ⌝ }
-{
-    let mut i = 0;
-    while i < clause.len() {
-        bump(table, clause[i]);
-        i += 1;
-    }
-}
+// ---- how often each literal stands
 
 // Counts the literals of the clause at a place if it stands.
 fn count_entry(table: &mut [u32], store: &[i32], at: usize)
@@ -397,7 +350,7 @@ fn count_entry(table: &mut [u32], store: &[i32], at: usize)
     }
     let next = next_at(store, at);
     let first = at + 1;
-    count_clause(table, &store[first..next]);
+    tables::count_clause(table, &store[first..next]);
 }
 
 // Counts the literals of the standing clauses.

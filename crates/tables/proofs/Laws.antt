@@ -1,24 +1,87 @@
--- Marks in a table of stamps. Assumes nothing.
-use mathlib.Core.Path.{_≡_, sym, ap, _∙_}
-use mathlib.Core.Bool.{Bool, true, false, _||_, or-false, or-true}
+-- Entries read after they are set, and marks in a table of stamps. Assumes nothing.
+use mathlib.Core.Path.{_≡_, refl, sym, ap, _∙_}
+use mathlib.Core.Logic.{_≢_}
+use mathlib.Core.Bool.{Bool, true, false, cond, _||_, or-false, or-true}
 use mathlib.Core.List.{List, [], _∷_, _++_}
 use Prim.Native.Nat.{ℕ, _+_, _≤_, _<_}
 use native.Mathlib.Omega.{arith}
 use lib.Dec.{eqb, ltb}
-use lib.IntN.{ℤ, negℤ, natAbs}
-use lib.ListN.{length, getD, set, replicate, List·getD-eq-default}
+use lib.IntN.{ℤ, pos, negsuc, negℤ, natAbs}
+use lib.ListN.{length, getD, set, drop, length-set, replicate, List·getD-eq-default}
 use lib.Seq.{getD-set-same, getD-set-other}
 use borrow.Author.Tests.{eqb-true, eqb-false, eq-eqb, ne-eqb, ltb-true, ltb-false}
 use Rattle.definition.specs.Lists.{any}
 use Rattle.definition.specs.Literals.{Clause, same, holds}
 use Rattle.theory_base.proofs.Tests.{by-test, of-true, to-true}
 use Rattle.theory_base.proofs.Members.{same-eq, same-refl, unlike, natAbs-neg, holds-snoc}
+use Rattle.theory_base.proofs.Slices.{drop-step, drop-end, getD-zeros}
 use Rattle.literals.specs.Literal.{index-of, negation}
 use Rattle.literals.proofs.Laws.{negation-small, index-injective, index-within}
-use Rattle.theory_base.proofs.Slices.{getD-zeros}
+use Rattle.tables.specs.Sizes.{log-reach, log-size}
+use Rattle.tables.specs.Entries.{entry-of, with-entries}
 use Rattle.tables.specs.Stamps.{At-most, Marks, Fresh}
 
--- ---- tables
+-- ---- where a table reaches
+
+-- an entry for each variable up to h
+pub index-inside : (h : ℕ) (t : List ℕ) (l : ℤ) → h + h + 2 ≤ length t → natAbs l ≤ h → index-of l < length t
+index-inside h t l r b = omega (arith, index-within l)
+
+index-least : (l : ℤ) → natAbs l + natAbs l ≤ index-of l
+index-least (pos n) = omega arith
+index-least (negsuc n) = omega arith
+
+-- a variable past the table reads 0
+pub entry-past : (t : List ℕ) (l : ℤ) → length t ≤ natAbs l + natAbs l → entry-of t l ≡ 0
+entry-past t l h = List·getD-eq-default t 0 (omega (arith, index-least l))
+
+pub entry-zeros : (n : ℕ) (l : ℤ) → entry-of (replicate n 0) l ≡ 0
+entry-zeros n l = getD-zeros n (index-of l)
+
+-- ---- read after set
+
+pub entry-set-same : (t : List ℕ) (v : ℕ) (l : ℤ) → index-of l < length t → entry-of (set t (index-of l) v) l ≡ v
+entry-set-same t v l h = getD-set-same t (index-of l) v 0 h
+
+pub entry-set-other : (t : List ℕ) (v : ℕ) (x l : ℤ) → l ≢ x → entry-of (set t (index-of x) v) l ≡ entry-of t l
+entry-set-other t v x l n = getD-set-other t (index-of x) (index-of l) v 0 (λ q. n (index-injective l x q))
+
+pub entry-set : (t : List ℕ) (v : ℕ) (x l : ℤ) → index-of l < length t → entry-of (set t (index-of x) v) l ≡ cond (same l x) v (entry-of t l)
+entry-set t v x l h = by-test (same l x) yes no
+  where
+    yes : same l x ≡ true → entry-of (set t (index-of x) v) l ≡ cond (same l x) v (entry-of t l)
+    yes e = rw e (rw (same-eq l x (of-true e)) (entry-set-same t v x (rw (same-eq l x (of-true e)) at h)))
+
+    no : same l x ≡ false → entry-of (set t (index-of x) v) l ≡ cond (same l x) v (entry-of t l)
+    no e = rw e (entry-set-other t v x l (unlike l x e))
+
+-- ---- the literals of a clause set
+
+pub entries-step : (t : List ℕ) (s : Clause) (i v : ℕ) → i < length s → with-entries (set t (index-of (getD s i (pos 0))) v) (drop (i + 1) s) v ≡ with-entries t (drop i s) v
+unfolding with-entries
+entries-step t s i v h = rw (drop-step s i (pos 0) h) refl
+
+pub entries-end : (t : List ℕ) (s : Clause) (i v : ℕ) → length s ≤ i → t ≡ with-entries t (drop i s) v
+unfolding with-entries
+entries-end t s i v h = rw (drop-end s i h) refl
+
+pub length-entries : (t : List ℕ) (c : Clause) (v : ℕ) → length (with-entries t c v) ≡ length t
+unfolding with-entries
+length-entries t [] v = refl
+length-entries t (l ∷ c) v = length-entries (set t (index-of l) v) c v ∙ length-set t (index-of l) v
+
+pub entry-set-all : (t : List ℕ) (c : Clause) (v : ℕ) (l : ℤ) → index-of l < length t → entry-of (with-entries t c v) l ≡ cond (holds l c) v (entry-of t l)
+unfolding with-entries holds any
+entry-set-all t [] v l h = refl
+entry-set-all t (x ∷ c) v l h =
+    entry-set-all (set t (index-of x) v) c v l (rw (length-set t (index-of x) v) h) ∙ rw (entry-set t v x l h) (go (same l x) (any (same l) c))
+  where
+    go : (a b : Bool) → cond b v (cond a v (entry-of t l)) ≡ cond (a || b) v (entry-of t l)
+    go true true = refl
+    go true false = refl
+    go false b = refl
+
+-- ---- stamps
 
 -- a table of zeros
 pub zeros-at-most : (n stamp : ℕ) → At-most (replicate n 0) stamp
@@ -66,12 +129,12 @@ marks-start table stamp f = record {
     below x h = omega arith
 
 module _ (table : List ℕ) (stamp : ℕ) (here : Clause) (k : Marks table stamp here) (l : ℤ) (room : index-of l < length table) where
-  told-same : eqb (getD (set table (index-of l) stamp) (index-of l) 0) stamp ≡ holds l (here ++ (l ∷ []))
-  told-same = eq-eqb _ _ (getD-set-same table (index-of l) stamp 0 room) ∙ sym (holds-snoc l here l ∙ ap (λ (b : Bool). holds l here || b) (to-true (same-refl l)) ∙ or-true (holds l here))
+  told-same : eqb (entry-of (set table (index-of l) stamp) l) stamp ≡ holds l (here ++ (l ∷ []))
+  told-same = eq-eqb _ _ (entry-set-same table stamp l room) ∙ sym (holds-snoc l here l ∙ ap (λ (b : Bool). holds l here || b) (to-true (same-refl l)) ∙ or-true (holds l here))
 
-  told-other : (m : ℤ) → natAbs m ≤ 70_000 → same m l ≡ false → eqb (getD (set table (index-of l) stamp) (index-of m) 0) stamp ≡ holds m (here ++ (l ∷ []))
+  told-other : (m : ℤ) → natAbs m ≤ log-reach → same m l ≡ false → eqb (entry-of (set table (index-of l) stamp) m) stamp ≡ holds m (here ++ (l ∷ []))
   told-other m g e =
-      ap (λ (x : ℕ). eqb x stamp) (getD-set-other table (index-of l) (index-of m) stamp 0 (λ q. unlike m l e (index-injective m l q)))
+      ap (λ (x : ℕ). eqb x stamp) (entry-set-other table stamp l m (unlike m l e))
       ∙ k .told m g
       ∙ sym (holds-snoc m here l ∙ ap (λ (b : Bool). holds m here || b) e ∙ or-false (holds m here))
 
@@ -86,32 +149,25 @@ module _ (table : List ℕ) (stamp : ℕ) (here : Clause) (k : Marks table stamp
     below = set-below;
   }
 
--- ---- the answers, by the entries of a literal and its negation
+-- ---- the answers, by the entries a and b of a literal and its negation
 
-module _ (l : ℤ) (h : natAbs l ≤ 70_000) (i j : ℕ) (p : i ≡ index-of l) (q : j ≡ index-of (negation l)) where
-  pub place-within : i < 140_002
-  place-within = omega (arith, index-within l)
+module _ (l : ℤ) (h : natAbs l ≤ log-reach) (table : List ℕ) (stamp : ℕ) {a : ℕ} (p : a ≡ entry-of table l) (here : Clause) (k : Marks table stamp here) where
+  itself : eqb a stamp ≡ holds l here
+  itself = rw p (k .told l h)
 
-  pub negation-within : j < 140_002
-  negation-within = omega (arith, index-within (negation l), ap natAbs (negation-small l (omega arith)) ∙ natAbs-neg l)
+  pub mark-repeated : a ≡ stamp → (holds l here ≡ true) × Marks table stamp here
+  mark-repeated e = (sym itself ∙ eq-eqb a stamp e, k)
 
-  module _ (table : List ℕ) (stamp : ℕ) (here : Clause) (k : Marks table stamp here) where
-    itself : eqb (getD table i 0) stamp ≡ holds l here
-    itself = rw p (k .told l h)
-
-    other : eqb (getD table j 0) stamp ≡ holds (negℤ l) here
+  module _ (n : a ≡ stamp → ⊥) {b : ℕ} (q : b ≡ entry-of table (negation l)) where
+    other : eqb b stamp ≡ holds (negℤ l) here
     other = rw (q, negation-small l (omega arith)) (k .told (negℤ l) (rw (natAbs-neg l) h))
 
-    pub mark-repeated : getD table i 0 ≡ stamp → (holds l here ≡ true) × Marks table stamp here
-    mark-repeated e = (sym itself ∙ eq-eqb (getD table i 0) stamp e, k)
+    pub mark-opposed : b ≡ stamp → (holds l here ≡ false) × (holds (negℤ l) here ≡ true) × Marks table stamp here
+    mark-opposed e = (sym itself ∙ ne-eqb a stamp n, sym other ∙ eq-eqb b stamp e, k)
 
-    module _ (n : getD table i 0 ≡ stamp → ⊥) where
-      pub mark-opposed : getD table j 0 ≡ stamp → (holds l here ≡ false) × (holds (negℤ l) here ≡ true) × Marks table stamp here
-      mark-opposed e = (sym itself ∙ ne-eqb (getD table i 0) stamp n, sym other ∙ eq-eqb (getD table j 0) stamp e, k)
-
-      pub mark-new : (getD table j 0 ≡ stamp → ⊥) → 140_002 ≤ length table → (holds l here ≡ false) × (holds (negℤ l) here ≡ false) × Marks (set table i stamp) stamp (here ++ (l ∷ []))
-      mark-new m room = (
-        sym itself ∙ ne-eqb (getD table i 0) stamp n,
-        sym other ∙ ne-eqb (getD table j 0) stamp m,
-        rw p (marks-add table stamp here k l (omega (arith, place-within))),
-      )
+    pub mark-new : {new : List ℕ} → (b ≡ stamp → ⊥) → log-size ≤ length table → new ≡ set table (index-of l) stamp → (holds l here ≡ false) × (holds (negℤ l) here ≡ false) × Marks new stamp (here ++ (l ∷ []))
+    mark-new m room e = (
+      sym itself ∙ ne-eqb a stamp n,
+      sym other ∙ ne-eqb b stamp m,
+      rw e (marks-add table stamp here k l (index-inside log-reach table l room h)),
+    )

@@ -7,7 +7,8 @@ use lib.Dec.{eqb}
 use lib.IntN.{ℤ, negℤ, natAbs}
 use lib.ListN.{getD}
 use Rattle.definition.specs.Literals.{Clause, holds}
-use Rattle.literals.specs.Literal.{index-of}
+use Rattle.tables.specs.Sizes.{log-reach}
+use Rattle.tables.specs.Entries.{entry-of}
 use Rattle.tables.specs.declared.Marked.{Marked}
 use Rattle.tables.specs.declared.Marked.the-variants as Marked
 
@@ -17,7 +18,7 @@ At-most table stamp = (i : ℕ) → getD table i 0 ≤ stamp
 
 -- an entry is the stamp exactly if its literal is in here; none is above
 pub record Marks (table : List ℕ) (stamp : ℕ) (here : Clause) : Type 0 where
-  pub told : (l : ℤ) → natAbs l ≤ 70_000 → eqb (getD table (index-of l) 0) stamp ≡ holds l here
+  pub told : (l : ℤ) → natAbs l ≤ log-reach → eqb (entry-of table l) stamp ≡ holds l here
   pub below : At-most table stamp
 
 -- all entries are below the stamp

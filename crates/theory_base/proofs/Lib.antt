@@ -8,6 +8,7 @@ pub mod Trues
 pub mod Removal
 pub mod Replay
 pub mod Outcomes
+pub mod Places
 pub mod Slices
 pub mod Digits
 pub mod Parts

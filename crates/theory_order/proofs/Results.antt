@@ -1,47 +1,29 @@
 -- The result of a replacement never repeats a literal; it holds a literal and its negation exactly when the old clause holds the negations of two neighbours of the choice.
 use mathlib.Core.Path.{_≡_, refl, sym, _∙_, ap}
 use mathlib.Core.Logic.{_⊎_, inl, inr, ⊎-elim, _↔_}
-use mathlib.Core.Bool.{Bool, true, false, cond}
+use mathlib.Core.Bool.{Bool, true, false}
 use mathlib.Core.List.{[], _∷_, _++_, List·Memᴰ, List·Memᴰ·head as here, List·Memᴰ·tail as there, Memᴰ·cast, Memᴰ·append-left, Memᴰ·append-right, List·Memᴰ·append-cases, List·Memᴰ·eq-of-singleton}
-use mathlib.Core.Option.{Option, some, none, Option·none-ne-some}
+use mathlib.Core.Option.{Option, some, none}
 use Prim.Native.Nat.{ℕ, zero, suc, _+_, _-_, _≤_, _<_}
 use native.Mathlib.Omega.{arith}
 use lib.Dec.{T, ltb}
 use lib.IntN.{pos-ne-negsuc, ℤ, pos, negℤ, negℤ-negℤ, natAbs}
-use lib.ListN.{length, getD}
 use borrow.Author.Tests.{lt-ltb}
 use Rattle.definition.specs.Lists.{any, only-if, for-each}
-use Rattle.definition.specs.Literals.{Clause, same, holds, opposed, repeated}
+use Rattle.definition.specs.Literals.{Clause, holds, opposed, repeated}
 use Rattle.definition.specs.Events.{Choice}
 use Rattle.definition.specs.Counter.{size, lit, new, last-new}
 use Rattle.definition.specs.Order.{place-from, previous, negated-new, instead-of, replaced}
 use Rattle.theory_base.proofs.Tests.{to-true, of-true, to-false, or-cases, or-l, or-r}
-use Rattle.theory_base.proofs.Members.{holds-mem, mem-holds, same-eq, same-refl, unlike-false, proper-unopposed, opposes-mem, mem-opposes, natAbs-neg, turn, same-variable}
+use Rattle.theory_base.proofs.Members.{holds-mem, mem-holds, proper-unopposed, opposes-mem, mem-opposes, natAbs-neg, turn, same-variable}
 use Rattle.theory_base.specs.Clauses.{Proper}
 use Rattle.theory_base.proofs.Fitting.{Up-to, Between}
-use Rattle.theory_base.proofs.Loops.{only-if-mem, for-each-mem, mem-for-each, getD-mem}
+use Rattle.theory_base.proofs.Places.{place-of, place-at}
+use Rattle.theory_base.proofs.Loops.{only-if-mem, for-each-mem, mem-for-each}
 use Rattle.theory_counter.specs.Ready.{Well-formed}
 use Rattle.theory_order.proofs.Replace.{replaced-literal}
 
 -- ---- the place of a literal
-place-of : (i : ℕ) (m : ℤ) (c : Clause) (p : ℕ) → place-from i m c ≡ some p → (j : ℕ) × (p ≡ i + j) × (j < length c) × (getD c j (pos 0) ≡ m)
-unfolding place-from
-place-of i m [] p e = absurd (Option·none-ne-some p e)
-place-of i m (a ∷ c) p e = go (same m a) refl e (place-of (suc i) m c p)
-  where
-    go : (b : Bool) → same m a ≡ b → cond b (some i) (place-from (suc i) m c) ≡ some p →
-        (place-from (suc i) m c ≡ some p → (j : ℕ) × (p ≡ suc i + j) × (j < length c) × (getD c j (pos 0) ≡ m)) →
-        (j : ℕ) × (p ≡ i + j) × (j < length (a ∷ c)) × (getD (a ∷ c) j (pos 0) ≡ m)
-    go true t e ih = let q : i ≡ p = cc in (0, omega arith, omega arith, sym (same-eq m a (of-true t)))
-    go false t e ih = let r = ih e in let s = r .1 in let l = r .2 in (suc (r .0), omega arith, omega arith, r .3)
-
-pub place-at : (i : ℕ) (c : Clause) → Proper c → (j : ℕ) → j < length c → place-from i (getD c j (pos 0)) c ≡ some (i + j)
-unfolding place-from
-place-at i [] a j b = absurd (omega arith)
-place-at i (l ∷ c) a zero b = let e : i ≡ i + 0 = omega arith in rw (to-true {b = same l l} (same-refl l)) (ap some e)
-place-at i (l ∷ c) a (suc j) b =
-    let e : suc i + j ≡ i + suc j = omega arith in
-    rw (unlike-false (getD c j (pos 0)) l (λ q. a .1 (Memᴰ·cast (sym q) (getD-mem c j (pos 0) (omega arith))))) (place-at (suc i) c (a .3) j (omega arith) ∙ ap some e)
 
 -- a literal's place in the choice
 pub placed : (k : Choice) (m : ℤ) (p : ℕ) → place-from 1 m (k .literals) ≡ some p → (1 ≤ p) × (p ≤ size k) × (lit k p ≡ m)

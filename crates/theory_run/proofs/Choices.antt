@@ -11,7 +11,7 @@ use Rattle.definition.specs.Literals.{Clause, Formula, opposes, opposed}
 use Rattle.definition.specs.Standing.{addition, deletion, after}
 use Rattle.definition.specs.Reading.{Input, input-limits}
 use Rattle.definition.specs.Events.{Choice, Event, clause-replaced, literals-deleted}
-use Rattle.definition.specs.Counter.{below-new, last-new, counter, take-choice}
+use Rattle.definition.specs.Counter.{last-new, counter, take-choice}
 use Rattle.definition.specs.Order.{replacement-lines, replaced, replace, order-events}
 use Rattle.definition.specs.Reencoding.{lines-of, lines, Form, counter-form, order-form, Settings, choice-events, choices-events, cleared, chosen, events, log, result}
 use Rattle.definition.specs.Calls.{workspace-need, numbers-of}
@@ -29,14 +29,14 @@ use Rattle.theory_counter.proofs.Counter.{after-choice}
 use Rattle.theory_order.proofs.Order.{order-events-are}
 use Rattle.theory_order.specs.Pass.{results, added as results-of}
 use Rattle.theory_text.specs.Accepted.{Accepted}
-use Rattle.theory_room.proofs.Weights.{gained, added, weight}
+use Rattle.theory_room.proofs.Weights.{gained, added}
 use Rattle.theory_room.proofs.Choice.{pairs-to}
-use Rattle.theory_room.proofs.Lines.{Arranges, ordered-length, ordered-proper, ordered-new, used-most, used-++}
+use Rattle.theory_room.proofs.Lines.{Arranges, ordered-length, ordered-proper, used-most, used-++}
 use Rattle.theory_room.specs.Choices.{new-variables, clearing, order-of, events-of-first, standing-after-first, next-choice, used-after}
 use Rattle.theory_room.proofs.Cleared.{cleared-after}
-use Rattle.theory_room.proofs.Rises.{risen, taken-changes}
+use Rattle.theory_room.proofs.Rises.{taken-changes}
 use Rattle.theory_room.proofs.Additions.{numbers}
-use Rattle.theory_room.proofs.Runs.{Run, choosing, events-are, chosen-mem, arranges, run-risen, weight-after, few-new-variables, literal-weight, literal-most, literal-least, weight-most, weight-least}
+use Rattle.theory_room.proofs.Runs.{Run, choosing, events-are, chosen-mem, arranges, weight-least}
 use Rattle.theory_room.proofs.Compaction.{choices-split, first-to}
 use Rattle.theory_run.proofs.LogSound.{chosen-parted, chosen-ready, accepted-run}
 use Rattle.theory_run.proofs.Steps.{steps}
@@ -208,31 +208,11 @@ module _ (i : Input) (a : Accepted input-limits i) (s : Settings) where
     next-below-of = sym (used-++ (order-of s i) (i .highest) cs (c ∷ []))
 
     -- ---- sizes
-    few-F : length F ≤ 300_000
-    unfolding input-limits
-    few-F =
-        let xs = events-up-to s i cs in
-        let w = literal-weight 0 (chosen s i) in
-        omega (
-          arith,
-          weight-after s i run 1 0 xs (es ++ rest) events-split,
-          weight-most 1 0 w (literal-most 0 (chosen s i)) (i .formula),
-          weight-least 1 0 w (literal-least 0 (chosen s i)) F,
-          ap (sum-of (weight 1 w)) stands-F,
-          run-risen s i run 4,
-          ap (sum-of (risen 4)) events-split,
-          sum-++ (risen 4) xs (es ++ rest),
-          few-new-variables s i run,
-          a .clauses-few,
-          a .formula-few,
-          a .literals-few,
-        )
-
     room-F : numbers-of F + added numbers (lines es) ≤ workspace-need i
     unfolding F k es
     room-F = steps i a s .choice cs ds c e
 
-    pub takeable-choice : Takeable s i (standing-after-first s i cs) c (next-choice s i cs c)
+    pub takeable-choice : Takeable (s .form) (workspace-need i) (standing-after-first s i cs) c (next-choice s i cs c)
     unfolding F k es
     takeable-choice =
         let t = chosen-mem s i c next-in in
@@ -244,10 +224,8 @@ module _ (i : Input) (a : Accepted input-limits i) (s : Settings) where
           ready = ready-k;
           least = omega (arith, k-length);
           most = omega (arith, k-length);
-          old = old-k;
           reach = λ x m. fit-up 8_000 (i .highest) x (few-variables a) (old-k x m);
           new-few = omega (arith, first-new, few-variables a, below-new-most (used-after (order-of s i) (i .highest) cs), used-most (order-of s i) (i .highest) cs arranged-first);
-          few = few-F;
           space = omega (arith, room-F, choice-space (s .form) F c k);
           order-space = λ o. omega (arith, room-F, order-space-of F c k fits-k ready-k, ap (λ (form : Form). added numbers (lines (choice-events form F c k))) o);
           before = before-order F c k fits-k ready-k;

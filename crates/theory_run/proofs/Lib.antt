@@ -7,3 +7,4 @@ pub mod Sizes
 pub mod ChoicesSound
 pub mod LogSound
 pub mod Steps
+pub mod Taken

@@ -5,7 +5,7 @@ use Prim.Native.Nat.{ℕ}
 use Rattle.definition.specs.Lists.{for-each}
 use Rattle.definition.specs.Literals.{Clause, Formula}
 use Rattle.definition.specs.Standing.{after}
-use Rattle.definition.specs.Counter.{below-new, last-new}
+use Rattle.definition.specs.Counter.{last-new}
 use Rattle.definition.specs.Reencoding.{lines, Form, choice-events, choices-events}
 use Rattle.theory_base.specs.Clauses.{Parted, Fits}
 use Rattle.theory_base.proofs.Replay.{after-++, lines-++}

@@ -11,7 +11,7 @@ use Rattle.definition.specs.Literals.{Clause, Formula, literals-of}
 use Rattle.definition.specs.Standing.{Line, addition, deletion, literals, highest-in, after}
 use Rattle.definition.specs.Reading.{Input}
 use Rattle.definition.specs.Events.{Choice}
-use Rattle.definition.specs.Counter.{below-new, last-new, missing-pairs, counter, take-choice}
+use Rattle.definition.specs.Counter.{last-new, missing-pairs, counter, take-choice}
 use Rattle.definition.specs.Order.{order-events}
 use Rattle.definition.specs.Alignment.{choice-literals}
 use Rattle.definition.specs.Reencoding.{lines-of, lines, Form, counter-form, order-form, Settings, choice-events, choices-events, cleared, chosen, log, highest-used}
@@ -25,7 +25,7 @@ use Rattle.theory_counter.proofs.Front.{taken-lines-are}
 use Rattle.theory_counter.specs.Front.{pair-copies}
 use Rattle.theory_order.proofs.Found.{counter-stands}
 use Rattle.theory_room.specs.Choices.{clearing, new-variables, as-choice, order-of, used-after}
-use Rattle.theory_room.proofs.Lines.{Arranges, ordered-formed, ordered-new, others, used-least}
+use Rattle.theory_room.proofs.Lines.{Arranges, ordered-formed, others, used-least}
 use Rattle.theory_room.proofs.Runs.{Run, top, choosing, events-are, arranges, chosen-mem, log-to}
 use Rattle.theory_counter.proofs.NewVariables.{last-new-above}
 

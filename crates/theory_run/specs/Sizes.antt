@@ -15,7 +15,7 @@ use Rattle.definition.specs.Reencoding.{lines, Settings, choice-events, unclash
 use Rattle.definition.specs.Calls.{workspace-need, numbers-of}
 use Rattle.theory_base.specs.Clauses.{Proper, Proper-all, Fits, Fit-all}
 use Rattle.theory_clearing.specs.Clashes.{Clash-free}
-use Rattle.theory_room.specs.Choices.{new-variables, standing-after-first, next-choice, used-after, order-of}
+use Rattle.theory_room.specs.Choices.{standing-after-first, next-choice, used-after, order-of}
 use Rattle.theory_run.specs.Choices.{events-up-to}
 
 -- lines ls written after lines ks: places in the log and line numbers stay small

@@ -1,3 +1,4 @@
+-- Invariant: the choices before `at` are in the list (Laws, Collecting).
 use denote.Ref.{now}
 use native.Mathlib.Omega.{arith}
 use Rattle.pass_choose.proofs.Laws.{Collecting, collecting-start, collecting-room, collecting-step, collecting-end}
@@ -15,14 +16,14 @@ abbrev μ-loop : tie.MeasureT-loop
 loop-holds : tie.Need-loop-holds Inv-loop μ-loop
 loop-holds c =
     let start = c .before in
-    collecting-start (now (start .args .chosen)) (start .pre .formed)
+    collecting-start (now (start .args .chosen)) (start .pre .0 .formed)
 
 collect-at-requires : tie.Need-collect-at-requires Inv-loop μ-loop
 collect-at-requires c κs =
     let back = c .before in let loop-test = back .loop-test in
     let back = back .before in let loop = back .loop in
     let start = back .before .before in
-    ((loop-test .taken, loop .inv .place .rest), collecting-room (start .pre) (loop .inv) (loop-test .taken))
+    ((loop-test .taken, loop .inv .place .rest), collecting-room (start .pre .0) (loop .inv) (loop-test .taken) (start .pre .1))
 
 next-at-requires : tie.Need-next-at-requires Inv-loop μ-loop
 next-at-requires c κs =
@@ -41,7 +42,7 @@ loop-again c =
     let back = back .before in let loop = back .loop in
     let start = back .before .before in
     rw (c .next-at .ensures)
-    (collecting-step (start .pre) (loop .inv) (loop-test .taken) (collect-at .kept .1 .1 .1 .0) (collect-at .ensures))
+    (collecting-step (start .pre .0) (loop .inv) (loop-test .taken) (collect-at .kept .1 .1 .1 .0) (collect-at .ensures))
 
 same-length : tie.Need-same-length Inv-loop μ-loop
 same-length c = c .before .loop .inv .same-size

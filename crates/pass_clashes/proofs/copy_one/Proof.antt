@@ -5,7 +5,7 @@ use lib.IntN.{ℤ, pos}
 use denote.Ref.{now}
 use borrow.Author.Needs.{sfits-of, needs}
 use Rattle.literals.proofs.Laws.{at-arg}
-use Rattle.pass_clashes.proofs.Resolving.{left-out, kept}
+use Rattle.pass_clashes.proofs.Copying.{without-same, without-other}
 use Rattle.pass_clashes.proofs.copy_one.Statement.{statement}
 use Rattle.pass_clashes.proofs.copy_one.Tie as tie
 
@@ -21,7 +21,7 @@ same-requires c κs = search needs
 returns : tie.Need-returns
 returns c =
     let start = c .before .before .before in
-    let e = left-out (start .args .gone) (getD (now (start .args .work)) (start .args .from) (pos 0))
+    let e = without-same (start .args .gone) (getD (now (start .args .work)) (start .args .from) (pos 0))
     (start .fits .gone) (sfits-of (c .before .before .l .given)) (c .before .same .ensures) (c .if1 .taken) in
     (rw e (omega arith), rw e refl)
 
@@ -35,7 +35,7 @@ slice-set-from-l c =
       arith,
       start .pre .1,
       ap length
-          (kept (start .args .gone) (getD (now (start .args .work)) (start .args .from) (pos 0)) (start .fits .gone)
+          (without-other (start .args .gone) (getD (now (start .args .work)) (start .args .from) (pos 0)) (start .fits .gone)
           (sfits-of (c .before .before .l .given)) (c .before .same .ensures) (c .if1 .left)),
     )
 
@@ -50,7 +50,7 @@ returns-2 c =
     let back = c .before .before in let l = back .l in
     let start = back .before in
     let x = getD (now (start .args .work)) (start .args .from) (pos 0) in
-    let e = kept (start .args .gone) x (start .fits .gone) (sfits-of (l .given)) (c .before .same .ensures)
+    let e = without-other (start .args .gone) x (start .fits .gone) (sfits-of (l .given)) (c .before .same .ensures)
     (c .if1 .left) in
     (rw e refl, rw e (at-arg (λ (z : ℤ). set (now (start .args .work)) (start .args .to) z) x (sfits-of (l .given))))
 

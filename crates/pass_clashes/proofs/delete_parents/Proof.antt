@@ -1,25 +1,21 @@
-use mathlib.Core.Bool.{true, false}
-use mathlib.Core.Path.{_∙_}
+-- Each clause is the only one with its literal, and the second stays where the first is marked (Parents).
 use native.Mathlib.Omega.{arith}
-use lib.IntN.{ℤ, pos, negℤ}
-use borrow.Author.Needs.{sfits-of, needs}
+use mathlib.Core.Path.{_∙_}
+use mathlib.Core.Bool.{true, false}
+use borrow.Author.Needs.{sfits-of}
 use Rattle.literals.proofs.Laws.{signed-small}
-use Rattle.pass_clashes.proofs.Resolving.{arg-is}
-use Rattle.pass_clashes.proofs.Parents.{second-stays, parents-gone, parents-room}
+use mir.Syntax.{w32}
+use mir.ValLaws.{toZ-ofZ}
+use Rattle.pass_clashes.proofs.Parents.{second-standing, parents-room, parents-gone}
+use borrow.Author.Needs.{needs}
 use Rattle.pass_clashes.proofs.delete_parents.Statement.{statement}
 use Rattle.pass_clashes.proofs.delete_parents.Tie as tie
-
-sub-delete-first : tie.Need-sub-delete-first
-sub-delete-first c = search needs
 
 signed-requires : tie.Need-signed-requires
 signed-requires c κs = search needs
 
 delete-first-requires : tie.Need-delete-first-requires
 delete-first-requires c κs = search needs
-
-sub-delete-first-2 : tie.Need-sub-delete-first-2
-sub-delete-first-2 c = search needs
 
 signed-requires-2 : tie.Need-signed-requires-2
 signed-requires-2 c κs = search needs
@@ -31,11 +27,13 @@ delete-first-requires-2 c κs =
     let start = back .before .before .before .before in
     let p = start .pre .0 in
     let v = start .args .v in
-    let e = arg-is (λ (z : ℤ). z) (signed .result) (pos v) (sfits-of (signed .ok))
-    (signed .ensures ∙ signed-small false v (omega (arith, p .small))) in
-    let s = second-stays p .standing in
-    let r = parents-room p _ e (start .pre .1) (delete-first .ensures .0) in
-    (rw (delete-first .ensures .1 .1) (s .inside, s .place .rest), r)
+    let e = toZ-ofZ w32 (signed .result) (sfits-of (signed .ok))
+    ∙ signed .ensures
+    ∙ signed-small false v (omega (arith, p .small)) in
+    let s = second-standing p in (
+      rw (delete-first .ensures .1 .1) (s .inside, s .place .rest),
+      parents-room p _ e (start .pre .1) (delete-first .ensures .0),
+    )
 
 same-length : tie.Need-same-length
 same-length c = search needs
@@ -52,10 +50,12 @@ returns c =
     let start = back .before .before .before .before in
     let p = start .pre .0 in
     let v = start .args .v in
-    let e = arg-is (λ (z : ℤ). z) (signed .result) (pos v) (sfits-of (signed .ok))
-    (signed .ensures ∙ signed-small false v (omega (arith, p .small))) in
-    let f = arg-is (λ (z : ℤ). z) (signed2 .result) (negℤ (pos v)) (sfits-of (signed2 .ok))
-    (signed2 .ensures ∙ signed-small true v (omega (arith, p .small))) in
+    let e = toZ-ofZ w32 (signed .result) (sfits-of (signed .ok))
+    ∙ signed .ensures
+    ∙ signed-small false v (omega (arith, p .small)) in
+    let f = toZ-ofZ w32 (signed2 .result) (sfits-of (signed2 .ok))
+    ∙ signed2 .ensures
+    ∙ signed-small true v (omega (arith, p .small)) in
     parents-gone p _ _ e f (delete-first .ensures .0) (delete-first .ensures .1 .0) (delete-first .ensures .1 .1)
     (delete-first2 .ensures .0) (delete-first2 .ensures .1 .0) (delete-first2 .ensures .1 .1)
 
@@ -63,10 +63,8 @@ pub delete-parents-spec : {M : Type 1} → statement M
 delete-parents-spec =
     tie.close
     (tie.spec
-    sub-delete-first
     signed-requires
     delete-first-requires
-    sub-delete-first-2
     signed-requires-2
     delete-first-requires-2
     same-length

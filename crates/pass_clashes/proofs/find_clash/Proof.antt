@@ -1,3 +1,4 @@
+-- Invariant: no variable of the range before v clashes.
 use borrow.Author.Needs.{needs}
 use mathlib.Core.Path.{_≡_, sym, _∙_}
 use mathlib.Core.Bool.{false}
@@ -5,7 +6,7 @@ use native.Mathlib.Omega.{arith}
 use Prim.Native.Nat.{ℕ, _+_, _-_, _≤_, _<_}
 use denote.Ref.{now}
 use Rattle.pass_clashes.specs.Clashes.{both}
-use Rattle.pass_clashes.proofs.Search.{more-free, none-passed}
+use Rattle.pass_clashes.proofs.Search.{more-free, none-before-start}
 use Rattle.pass_clashes.proofs.find_clash.Statement.{statement}
 use Rattle.pass_clashes.proofs.find_clash.Tie as tie
 
@@ -18,7 +19,7 @@ abbrev μ-loop : tie.MeasureT-loop
 loop-holds : tie.Need-loop-holds Inv-loop μ-loop
 loop-holds c =
     let start = c .before in
-    (search needs, search needs, none-passed (now (start .args .places)) (start .args .from))
+    (search needs, search needs, none-before-start (now (start .args .places)) (start .args .from))
 
 clashes-requires : tie.Need-clashes-requires Inv-loop μ-loop
 clashes-requires c κs = search needs

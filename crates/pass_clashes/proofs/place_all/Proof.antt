@@ -1,3 +1,4 @@
+-- Invariant: the unique literal clauses before `at` have their places (Filling).
 use mathlib.Core.Path.{_≡_, refl, _∙_}
 use native.Mathlib.Omega.{arith}
 use Prim.Native.Nat.{_-_}
@@ -8,7 +9,7 @@ use Rattle.pass_clashes.proofs.place_all.Statement.{statement}
 use Rattle.pass_clashes.proofs.place_all.Tie as tie
 
 abbrev Inv-loop : tie.InvT-loop
-Inv-loop places₀ counts store at₀ places at = (length places ≡ length places₀) × Filling store counts at places
+Inv-loop places₀ counts store at₀ places at = (length places ≡ length places₀) × Filling store at places
 
 abbrev μ-loop : tie.MeasureT-loop
 μ-loop places₀ counts store at₀ places at = length store - at
@@ -16,10 +17,13 @@ abbrev μ-loop : tie.MeasureT-loop
 loop-holds : tie.Need-loop-holds Inv-loop μ-loop
 loop-holds c =
     let start = c .before .before in
-    (refl, filling-start {counts = now (start .args .counts)} (start .pre))
+    (refl, filling-start (now (start .args .places)) (start .pre .0 .0 .formed) (start .pre .1))
 
 place-entry-requires : tie.Need-place-entry-requires Inv-loop μ-loop
-place-entry-requires c κs = (c .before .loop-test .taken, c .before .before .loop .inv .1 .place .rest)
+place-entry-requires c κs =
+    let back = c .before .before in let loop = back .loop in
+    let start = back .before .before .before in
+    (c .before .loop-test .taken, loop .inv .1 .place .rest, start .pre .0 .1)
 
 next-at-requires : tie.Need-next-at-requires Inv-loop μ-loop
 next-at-requires c κs =
@@ -39,7 +43,7 @@ loop-again c =
     let start = back .before .before .before in
     rw (c .next-at .ensures) (
       place-entry .kept .0 ∙ loop .inv .0,
-      rw (place-entry .ensures) (filling-step (start .pre .fits) (start .pre .table) (loop .inv .1) (loop-test .taken)),
+      rw (place-entry .ensures) (filling-step (start .pre .0 .0) (loop .inv .1) (loop-test .taken)),
     )
 
 same-length : tie.Need-same-length Inv-loop μ-loop

@@ -1,11 +1,12 @@
 use native.Mathlib.Omega.{arith}
 use denote.Ref.{now}
-use borrow.Author.Needs.{sfits-of, needs}
+use borrow.Author.Needs.{sfits-of}
 use Rattle.literals.specs.Literal.{negative}
 use Rattle.literals.proofs.Laws.{answered}
 use Rattle.store.specs.Store.{header-at}
 use Rattle.store.proofs.Laws.{formed-next}
-use Rattle.pass_clashes.proofs.Filling.{entry-deleted, entry-unique, entry-other}
+use Rattle.pass_clashes.proofs.Filling.{placed-deleted, placed-unique, placed-other}
+use borrow.Author.Needs.{needs}
 use Rattle.pass_clashes.proofs.place_entry.Statement.{statement}
 use Rattle.pass_clashes.proofs.place_entry.Tie as tie
 
@@ -21,9 +22,10 @@ is-negative-requires c κs = search needs
 returns : tie.Need-returns
 returns c =
     let start = c .before .before .before .before .before in
-    entry-deleted (now (start .args .places)) (now (start .args .counts)) (now (start .args .store)) (start .args .at)
-    (answered negative (header-at (now (start .args .store)) (start .args .at))
-    (sfits-of (c .before .before .is-negative-arg .given)) (c .before .is-negative .ensures) (c .if1 .taken))
+    let s = now (start .args .store) in
+    placed-deleted (now (start .args .places)) (now (start .args .counts)) s (start .args .at)
+    (answered negative (header-at s (start .args .at)) (sfits-of (c .before .before .is-negative-arg .given))
+    (c .before .is-negative .ensures) (c .if1 .taken))
 
 next-at-requires : tie.Need-next-at-requires
 next-at-requires c κs = search needs
@@ -52,17 +54,17 @@ part-is-unique-end c =
 is-unique-requires : tie.Need-is-unique-requires
 is-unique-requires c κs = search needs
 
-mul-set-places : tie.Need-mul-set-places
-mul-set-places c = search needs
+mul-set-entries : tie.Need-mul-set-entries
+mul-set-entries c = search needs
 
-sub-set-places : tie.Need-sub-set-places
-sub-set-places c = search needs
+sub-set-entries : tie.Need-sub-set-entries
+sub-set-entries c = search needs
 
-part-set-places-start : tie.Need-part-set-places-start
-part-set-places-start c = search needs
+part-set-entries-start : tie.Need-part-set-entries-start
+part-set-entries-start c = search needs
 
-part-set-places-end : tie.Need-part-set-places-end
-part-set-places-end c =
+part-set-entries-end : tie.Need-part-set-entries-end
+part-set-entries-end c =
     let back = c .before .before .before .before in let next-at = back .next-at in
     let start = back .before .before .before .before .before .before in
     omega (
@@ -71,8 +73,11 @@ part-set-places-end c =
       formed-next (now (start .args .store)) (start .args .at) (start .pre .0) (start .pre .1) .0,
     )
 
-set-places-requires : tie.Need-set-places-requires
-set-places-requires c κs = search needs
+cast-set-entries : tie.Need-cast-set-entries
+cast-set-entries c = search needs
+
+set-entries-requires : tie.Need-set-entries-requires
+set-entries-requires c κs = search needs
 
 same-length : tie.Need-same-length
 same-length c = search needs
@@ -86,10 +91,11 @@ returns-2 c =
     let back = back .before in let is-negative = back .is-negative in
     let back = back .before in let is-negative-arg = back .is-negative-arg in
     let start = back .before .before .before in
-    entry-unique (now (start .args .places)) (now (start .args .counts)) (now (start .args .store)) (start .args .at)
-    (next-at .result) (next-at .ensures)
-    (answered negative (header-at (now (start .args .store)) (start .args .at)) (sfits-of (is-negative-arg .given))
-    (is-negative .ensures) (if1 .left)) (is-unique .ensures) (if2 .taken) (c .before .before .set-places .ensures)
+    let s = now (start .args .store) in
+    placed-unique (now (start .args .places)) (now (start .args .counts)) s (start .args .at) (next-at .result)
+    (next-at .ensures)
+    (answered negative (header-at s (start .args .at)) (sfits-of (is-negative-arg .given)) (is-negative .ensures)
+    (if1 .left)) (is-unique .ensures) (if2 .taken) (c .before .before .set-entries .ensures)
 
 returns-3 : tie.Need-returns-3
 returns-3 c =
@@ -98,10 +104,11 @@ returns-3 c =
     let back = back .before in let is-negative = back .is-negative in
     let back = back .before in let is-negative-arg = back .is-negative-arg in
     let start = back .before .before .before in
-    entry-other (now (start .args .places)) (now (start .args .counts)) (now (start .args .store)) (start .args .at)
-    (next-at .result) (next-at .ensures)
-    (answered negative (header-at (now (start .args .store)) (start .args .at)) (sfits-of (is-negative-arg .given))
-    (is-negative .ensures) (if1 .left)) (c .before .is-unique .ensures) (c .if2 .left)
+    let s = now (start .args .store) in
+    placed-other (now (start .args .places)) (now (start .args .counts)) s (start .args .at) (next-at .result)
+    (next-at .ensures)
+    (answered negative (header-at s (start .args .at)) (sfits-of (is-negative-arg .given)) (is-negative .ensures)
+    (if1 .left)) (c .before .is-unique .ensures) (c .if2 .left)
 
 pub place-entry-spec : {M : Type 1} → statement M
 place-entry-spec =
@@ -118,11 +125,12 @@ place-entry-spec =
     part-is-unique-start
     part-is-unique-end
     is-unique-requires
-    mul-set-places
-    sub-set-places
-    part-set-places-start
-    part-set-places-end
-    set-places-requires
+    mul-set-entries
+    sub-set-entries
+    part-set-entries-start
+    part-set-entries-end
+    cast-set-entries
+    set-entries-requires
     same-length
     returns-2
     returns-3)

@@ -1,36 +1,24 @@
-use mathlib.Core.Path.{sym, ap, _∙_}
-use Prim.Native.Nat.{ℕ}
-use lib.ListN.{getD, List·getD-eq-default}
+use mathlib.Core.Path.{ap, _∙_}
 use denote.Ref.{now}
-use Rattle.literals.specs.Literal.{index-of}
+use borrow.Author.Needs.{sfits-of}
+use Rattle.tables.specs.Entries.{entry-of}
 use Rattle.literals.proofs.Laws.{answer}
 use borrow.Author.Needs.{needs}
 use Rattle.pass_clashes.proofs.place_of.Statement.{statement}
 use Rattle.pass_clashes.proofs.place_of.Tie as tie
 
-literal-index-requires : tie.Need-literal-index-requires
-literal-index-requires c κs = search needs
+signed-requires : tie.Need-signed-requires
+signed-requires c κs = search needs
 
-mul-result : tie.Need-mul-result
-mul-result c = search needs
-
-shared-slice-read-result : tie.Need-shared-slice-read-result
-shared-slice-read-result c = search needs
+entry-of-requires : tie.Need-entry-of-requires
+entry-of-requires c κs = search needs
 
 returns : tie.Need-returns
 returns c =
-    let start = c .before .before .before .before in
-    ap (λ (k : ℕ). getD (now (start .args .places)) k 0)
-    (answer index-of (start .args .l) (start .fits .l) (c .before .before .literal-index .ensures))
-
-returns-2 : tie.Need-returns-2
-returns-2 c =
-    let start = c .before .before .before in
-    sym (List·getD-eq-default (now (start .args .places)) 0 (c .if1 .left))
-    ∙ ap (λ (k : ℕ). getD (now (start .args .places)) k 0)
-    (answer index-of (start .args .l) (start .fits .l) (c .before .literal-index .ensures))
+    let back = c .before in let signed = back .signed in
+    let start = back .before .before in
+    answer (entry-of (now (start .args .places))) (signed .result) (sfits-of (signed .ok)) (c .entry-of .ensures)
+    ∙ ap (entry-of (now (start .args .places))) (signed .ensures)
 
 pub place-of-spec : {M : Type 1} → statement M
-place-of-spec =
-    tie.close
-    (tie.spec literal-index-requires mul-result shared-slice-read-result returns returns-2)
+place-of-spec = tie.close (tie.spec signed-requires entry-of-requires returns)

@@ -1,6 +1,7 @@
+-- The resolvent holds neither literal of the variable and moves neither clause (Resolved).
 use mathlib.Core.Path.{sym}
 use lib.Seq.{length-take-le}
-use Rattle.pass_clashes.proofs.Resolved.{parents-kept, room-kept, resolved}
+use Rattle.pass_clashes.proofs.Resolved.{end-inside, parents-kept, room-kept, resolved}
 use borrow.Author.Needs.{needs}
 use Rattle.pass_clashes.proofs.resolve.Statement.{statement}
 use Rattle.pass_clashes.proofs.resolve.Tie as tie
@@ -9,12 +10,16 @@ add-resolvent-requires : tie.Need-add-resolvent-requires
 add-resolvent-requires c κs = search needs
 
 slice-relend-prefix-delete-parents : tie.Need-slice-relend-prefix-delete-parents
-slice-relend-prefix-delete-parents c = search needs
+slice-relend-prefix-delete-parents c =
+    let back = c .before .before .before in let add-resolvent = back .add-resolvent in
+    let start = back .before .before .before .before in
+    end-inside (start .pre) (add-resolvent .ensures)
 
 slice-aggregate-delete-parents : tie.Need-slice-aggregate-delete-parents
 slice-aggregate-delete-parents c =
-    let add-resolvent = c .before .before .before .before .add-resolvent in
-    sym (length-take-le _ _ (add-resolvent .ensures .inside))
+    let back = c .before .before .before .before in let add-resolvent = back .add-resolvent in
+    let start = back .before .before .before .before in
+    sym (length-take-le _ _ (end-inside (start .pre) (add-resolvent .ensures)))
 
 delete-parents-requires : tie.Need-delete-parents-requires
 delete-parents-requires c κs =

@@ -1,4 +1,3 @@
-use Rattle.pass_counter.proofs.Steps.{countable-then}
 use borrow.Author.Needs.{needs}
 use Rattle.pass_counter.proofs.clear_store.Statement.{statement}
 use Rattle.pass_counter.proofs.clear_store.Tie as tie
@@ -7,10 +6,7 @@ delete-clause-requires : tie.Need-delete-clause-requires
 delete-clause-requires c κs = search needs
 
 take-pairs-requires : tie.Need-take-pairs-requires
-take-pairs-requires c κs =
-    let back = c .before .before .before in let delete-clause = back .delete-clause in
-    let start = back .before .before .before .before in
-    countable-then (start .pre) (delete-clause .ensures)
+take-pairs-requires c κs = search needs
 
 same-length : tie.Need-same-length
 same-length c = search needs

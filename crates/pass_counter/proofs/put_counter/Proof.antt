@@ -1,7 +1,7 @@
 use mathlib.Core.Path.{refl}
 use denote.Ref.{now}
 use Rattle.definition.specs.Counter.{stage-3}
-use Rattle.theory_counter.specs.Ready.{of-literals}
+use Rattle.definition.specs.Events.{choice-of}
 use Rattle.pass_counter.proofs.Links.{counter-parts, first-room, rest-room, two-grown}
 use borrow.Author.Needs.{needs}
 use Rattle.pass_counter.proofs.put_counter.Statement.{statement}
@@ -9,24 +9,20 @@ use Rattle.pass_counter.proofs.put_counter.Tie as tie
 
 put-stage-2-requires : tie.Need-put-stage-2-requires
 put-stage-2-requires c κs =
-    let start = c .before .before .before in
-    record {
-      small = start .pre .small;
-      long = start .pre .long;
-      room = first-room (stage-3 (of-literals (now (start .args .choice)) (start .args .below)))
-          (counter-parts (now (start .args .choice)) (start .args .below)) refl (start .pre .room);
-    }
+    let start = c .before .before .before in (
+      (start .pre .0 .0, start .pre .0 .1),
+      first-room (stage-3 (choice-of (now (start .args .choice)) (start .args .below)))
+          (counter-parts (now (start .args .choice)) (start .args .below)) refl (start .pre .1),
+    )
 
 put-stage-3-requires : tie.Need-put-stage-3-requires
 put-stage-3-requires c κs =
     let back = c .before .before .before .before .before in let put-stage-2 = back .put-stage-2 in
-    let start = back .before .before .before .before in
-    record {
-      small = start .pre .small;
-      long = start .pre .long;
-      room = rest-room (counter-parts (now (start .args .choice)) (start .args .below)) refl refl (start .pre .room)
-          (put-stage-2 .ensures);
-    }
+    let start = back .before .before .before .before in (
+      (start .pre .0 .0, start .pre .0 .1),
+      rest-room (counter-parts (now (start .args .choice)) (start .args .below)) refl refl (start .pre .1)
+          (put-stage-2 .ensures),
+    )
 
 same-length : tie.Need-same-length
 same-length c = search needs

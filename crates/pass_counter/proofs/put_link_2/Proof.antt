@@ -3,7 +3,7 @@ use denote.Ref.{now}
 use borrow.Author.Needs.{sfits-of, needs}
 use Rattle.literals.specs.Literal.{negation}
 use Rattle.literals.proofs.Laws.{answer}
-use Rattle.pass_counter.specs.Pairs.{literal-at}
+use Rattle.pairs.specs.Pairs.{literal-at}
 use Rattle.pass_counter.proofs.Links.{first-made, second-made, third-made, link-2-parts, link-2-more, link-2-last, first-room, second-room, third-room, three-grown}
 use Rattle.pass_counter.proofs.put_link_2.Statement.{statement}
 use Rattle.pass_counter.proofs.put_link_2.Tie as tie
@@ -40,9 +40,9 @@ put-three-requires c κs =
     let a = start .args in
     let g = start .pre in
     let e = link-2-parts (now (a .choice)) (a .below) (a .i) in
-    let d = first-made (g .small) (a .i) (g .second) (g .within) (sfits-of (signed .ok)) (sfits-of (c .signed2 .ok))
+    let d = first-made (g .0 .0) (a .i) (g .0 .1) (g .0 .2) (sfits-of (signed .ok)) (sfits-of (c .signed2 .ok))
     (sfits-of (l .given)) (signed .ensures) (c .signed2 .ensures) in
-    first-room (link-2-more (now (a .choice)) (a .below) (a .i)) e d (g .room)
+    first-room (link-2-more (now (a .choice)) (a .below) (a .i)) e d (g .1)
 
 signed-requires-3 : tie.Need-signed-requires-3
 signed-requires-3 c κs = search needs
@@ -64,11 +64,11 @@ put-two-requires c κs =
     let a = start .args in
     let g = start .pre in
     let e = link-2-parts (now (a .choice)) (a .below) (a .i) in
-    let d = first-made (g .small) (a .i) (g .second) (g .within) (sfits-of (signed .ok)) (sfits-of (signed2 .ok))
+    let d = first-made (g .0 .0) (a .i) (g .0 .1) (g .0 .2) (sfits-of (signed .ok)) (sfits-of (signed2 .ok))
     (sfits-of (l .given)) (signed .ensures) (signed2 .ensures) in
-    let k = second-made (g .small) (a .i) (g .second) (g .within) (sfits-of (signed3 .ok)) (sfits-of (c .signed4 .ok))
+    let k = second-made (g .0 .0) (a .i) (g .0 .1) (g .0 .2) (sfits-of (signed3 .ok)) (sfits-of (c .signed4 .ok))
     (signed3 .ensures) (c .signed4 .ensures) in
-    second-room (link-2-last (now (a .choice)) (a .below) (a .i)) e d k (g .room) (put-three .ensures)
+    second-room (link-2-last (now (a .choice)) (a .below) (a .i)) e d k (g .1) (put-three .ensures)
 
 signed-requires-5 : tie.Need-signed-requires-5
 signed-requires-5 c κs = search needs
@@ -90,14 +90,14 @@ put-two-requires-2 c κs =
     let a = start .args in
     let g = start .pre in
     let e = link-2-parts (now (a .choice)) (a .below) (a .i) in
-    let d = first-made (g .small) (a .i) (g .second) (g .within) (sfits-of (signed .ok)) (sfits-of (signed2 .ok))
+    let d = first-made (g .0 .0) (a .i) (g .0 .1) (g .0 .2) (sfits-of (signed .ok)) (sfits-of (signed2 .ok))
     (sfits-of (l .given)) (signed .ensures) (signed2 .ensures) in
-    let k = second-made (g .small) (a .i) (g .second) (g .within) (sfits-of (signed3 .ok)) (sfits-of (signed4 .ok))
+    let k = second-made (g .0 .0) (a .i) (g .0 .1) (g .0 .2) (sfits-of (signed3 .ok)) (sfits-of (signed4 .ok))
     (signed3 .ensures) (signed4 .ensures) in
-    let m = third-made (g .small) (a .i) (g .second) (g .within) (sfits-of (signed5 .ok)) (sfits-of (c .negated .ok))
+    let m = third-made (g .0 .0) (a .i) (g .0 .1) (g .0 .2) (sfits-of (signed5 .ok)) (sfits-of (c .negated .ok))
     (signed5 .ensures)
     (answer negation (literal-at (now (a .choice)) (a .i - 1)) (sfits-of (l .given)) (c .negated .ensures)) in
-    third-room e d k m (g .room) (put-three .ensures) (put-two .ensures)
+    third-room e d k m (g .1) (put-three .ensures) (put-two .ensures)
 
 same-length : tie.Need-same-length
 same-length c = search needs
@@ -121,11 +121,11 @@ returns c =
     let a = start .args in
     let g = start .pre in
     let e = link-2-parts (now (a .choice)) (a .below) (a .i) in
-    let d = first-made (g .small) (a .i) (g .second) (g .within) (sfits-of (signed .ok)) (sfits-of (signed2 .ok))
+    let d = first-made (g .0 .0) (a .i) (g .0 .1) (g .0 .2) (sfits-of (signed .ok)) (sfits-of (signed2 .ok))
     (sfits-of (l .given)) (signed .ensures) (signed2 .ensures) in
-    let k = second-made (g .small) (a .i) (g .second) (g .within) (sfits-of (signed3 .ok)) (sfits-of (signed4 .ok))
+    let k = second-made (g .0 .0) (a .i) (g .0 .1) (g .0 .2) (sfits-of (signed3 .ok)) (sfits-of (signed4 .ok))
     (signed3 .ensures) (signed4 .ensures) in
-    let m = third-made (g .small) (a .i) (g .second) (g .within) (sfits-of (signed5 .ok)) (sfits-of (negated .ok))
+    let m = third-made (g .0 .0) (a .i) (g .0 .1) (g .0 .2) (sfits-of (signed5 .ok)) (sfits-of (negated .ok))
     (signed5 .ensures)
     (answer negation (literal-at (now (a .choice)) (a .i - 1)) (sfits-of (l .given)) (negated .ensures)) in
     three-grown e d k m (put-three .ensures) (put-two .ensures) (put-two2 .ensures)

@@ -4,7 +4,7 @@ use denote.Ref.{now}
 use borrow.Author.Needs.{sfits-of, needs}
 use Rattle.literals.specs.Literal.{negation}
 use Rattle.literals.proofs.Laws.{answer}
-use Rattle.pass_counter.specs.Pairs.{literal-at}
+use Rattle.pairs.specs.Pairs.{literal-at}
 use Rattle.pass_counter.proofs.Links.{grow-as, grown-as, link-3-made}
 use Rattle.pass_counter.proofs.put_link_3.Statement.{statement}
 use Rattle.pass_counter.proofs.put_link_3.Tie as tie
@@ -39,9 +39,9 @@ put-two-requires c κs =
     let start = back .before .before .before .before in
     let a = start .args in
     let g = start .pre in
-    grow-as (g .room)
+    grow-as (g .1)
     (sym
-    (link-3-made (g .small) (a .i) (g .second) (g .within) (sfits-of (signed .ok)) (sfits-of (c .negated .ok))
+    (link-3-made (g .0 .0) (a .i) (g .0 .1) (g .0 .2) (sfits-of (signed .ok)) (sfits-of (c .negated .ok))
     (signed .ensures)
     (answer negation (literal-at (now (a .choice)) (a .i - 1)) (sfits-of (c .before .negated-arg .given))
     (c .negated .ensures)))) refl
@@ -62,7 +62,7 @@ returns c =
     let a = start .args in
     let g = start .pre in
     grown-as (put-two .ensures)
-    (link-3-made (g .small) (a .i) (g .second) (g .within) (sfits-of (signed .ok)) (sfits-of (negated .ok))
+    (link-3-made (g .0 .0) (a .i) (g .0 .1) (g .0 .2) (sfits-of (signed .ok)) (sfits-of (negated .ok))
     (signed .ensures)
     (answer negation (literal-at (now (a .choice)) (a .i - 1)) (sfits-of (negated-arg .given)) (negated .ensures)))
 

@@ -5,7 +5,7 @@ use denote.Ref.{now}
 use borrow.Author.Needs.{sfits-of, needs}
 use Rattle.literals.specs.Literal.{negation}
 use Rattle.literals.proofs.Laws.{answer}
-use Rattle.pass_counter.specs.Pairs.{literal-at}
+use Rattle.pairs.specs.Pairs.{literal-at}
 use Rattle.pass_counter.proofs.Links.{two-passed, new-is, new-negated, lit-is, lit-negated, stage-2-parts, stage-2-more, stage-2-last, first-room, second-room, third-room, three-grown}
 use Rattle.pass_counter.proofs.put_stage_2.Statement.{statement}
 use Rattle.pass_counter.proofs.put_stage_2.Tie as tie
@@ -26,8 +26,8 @@ put-two-requires c κs =
     first-room (stage-2-more (now (start .args .choice)) (start .args .below))
     (stage-2-parts (now (start .args .choice)) (start .args .below))
     (two-passed (sfits-of (c .signed .ok)) (sfits-of (l .given))
-    (c .signed .ensures ∙ new-negated (start .pre .small) 1 (start .args .below + 1) refl (omega arith))
-    (lit-is (now (start .args .choice)) (start .args .below) 1)) (start .pre .room)
+    (c .signed .ensures ∙ new-negated (start .pre .0 .0) 1 (start .args .below + 1) refl (omega arith))
+    (lit-is (now (start .args .choice)) (start .args .below) 1)) (start .pre .1)
 
 signed-requires-2 : tie.Need-signed-requires-2
 signed-requires-2 c κs = search needs
@@ -45,12 +45,12 @@ put-two-requires-2 c κs =
     second-room (stage-2-last (now (start .args .choice)) (start .args .below))
     (stage-2-parts (now (start .args .choice)) (start .args .below))
     (two-passed (sfits-of (signed .ok)) (sfits-of (l .given))
-    (signed .ensures ∙ new-negated (start .pre .small) 1 (start .args .below + 1) refl (omega arith))
+    (signed .ensures ∙ new-negated (start .pre .0 .0) 1 (start .args .below + 1) refl (omega arith))
     (lit-is (now (start .args .choice)) (start .args .below) 1))
     (two-passed (sfits-of (signed2 .ok)) (sfits-of (c .negated .ok))
-    (signed2 .ensures ∙ new-is (start .pre .small) 1 (start .args .below + 1) refl (omega arith))
+    (signed2 .ensures ∙ new-is (start .pre .0 .0) 1 (start .args .below + 1) refl (omega arith))
     (answer negation (literal-at (now (start .args .choice)) 0) (sfits-of (l .given)) (c .negated .ensures)
-    ∙ lit-negated (start .pre .small) 1 (omega arith) (omega (arith, start .pre .long)))) (start .pre .room)
+    ∙ lit-negated (start .pre .0 .0) 1 (omega arith) (omega (arith, start .pre .0 .1)))) (start .pre .1)
     (put-two .ensures)
 
 put-links-2-requires : tie.Need-put-links-2-requires
@@ -61,20 +61,18 @@ put-links-2-requires c κs =
     let back = back .before .before .before .before .before .before in let put-two = back .put-two in
     let back = back .before in let signed = back .signed in
     let back = back .before .before .before in let l = back .l in
-    let start = back .before .before in
-    record {
-      small = start .pre .small;
-      long = start .pre .long;
-      room = third-room (stage-2-parts (now (start .args .choice)) (start .args .below))
+    let start = back .before .before in (
+      (start .pre .0 .0, start .pre .0 .1),
+      third-room (stage-2-parts (now (start .args .choice)) (start .args .below))
           (two-passed (sfits-of (signed .ok)) (sfits-of (l .given))
-          (signed .ensures ∙ new-negated (start .pre .small) 1 (start .args .below + 1) refl (omega arith))
+          (signed .ensures ∙ new-negated (start .pre .0 .0) 1 (start .args .below + 1) refl (omega arith))
           (lit-is (now (start .args .choice)) (start .args .below) 1))
           (two-passed (sfits-of (signed2 .ok)) (sfits-of (negated .ok))
-          (signed2 .ensures ∙ new-is (start .pre .small) 1 (start .args .below + 1) refl (omega arith))
+          (signed2 .ensures ∙ new-is (start .pre .0 .0) 1 (start .args .below + 1) refl (omega arith))
           (answer negation (literal-at (now (start .args .choice)) 0) (sfits-of (l .given)) (negated .ensures)
-          ∙ lit-negated (start .pre .small) 1 (omega arith) (omega (arith, start .pre .long)))) refl (start .pre .room)
-          (put-two .ensures) (put-two2 .ensures);
-    }
+          ∙ lit-negated (start .pre .0 .0) 1 (omega arith) (omega (arith, start .pre .0 .1)))) refl (start .pre .1)
+          (put-two .ensures) (put-two2 .ensures),
+    )
 
 same-length : tie.Need-same-length
 same-length c = search needs
@@ -94,12 +92,12 @@ returns c =
     let start = back .before .before in
     three-grown (stage-2-parts (now (start .args .choice)) (start .args .below))
     (two-passed (sfits-of (signed .ok)) (sfits-of (l .given))
-    (signed .ensures ∙ new-negated (start .pre .small) 1 (start .args .below + 1) refl (omega arith))
+    (signed .ensures ∙ new-negated (start .pre .0 .0) 1 (start .args .below + 1) refl (omega arith))
     (lit-is (now (start .args .choice)) (start .args .below) 1))
     (two-passed (sfits-of (signed2 .ok)) (sfits-of (negated .ok))
-    (signed2 .ensures ∙ new-is (start .pre .small) 1 (start .args .below + 1) refl (omega arith))
+    (signed2 .ensures ∙ new-is (start .pre .0 .0) 1 (start .args .below + 1) refl (omega arith))
     (answer negation (literal-at (now (start .args .choice)) 0) (sfits-of (l .given)) (negated .ensures)
-    ∙ lit-negated (start .pre .small) 1 (omega arith) (omega (arith, start .pre .long)))) refl (put-two .ensures)
+    ∙ lit-negated (start .pre .0 .0) 1 (omega arith) (omega (arith, start .pre .0 .1)))) refl (put-two .ensures)
     (put-two2 .ensures) (put-links-2 .ensures)
 
 pub put-stage-2-spec : {M : Type 1} → statement M

@@ -19,13 +19,11 @@ add-s c = search needs
 
 put-links-3-requires : tie.Need-put-links-3-requires
 put-links-3-requires c κs =
-    let start = c .before .before .before in
-    record {
-      small = start .pre .small;
-      long = start .pre .long;
-      room = first-room (stage-3-last (now (start .args .choice)) (start .args .below))
-          (stage-3-parts (now (start .args .choice)) (start .args .below)) refl (start .pre .room);
-    }
+    let start = c .before .before .before in (
+      (start .pre .0 .0, start .pre .0 .1),
+      first-room (stage-3-last (now (start .args .choice)) (start .args .below))
+          (stage-3-parts (now (start .args .choice)) (start .args .below)) refl (start .pre .1),
+    )
 
 signed-requires : tie.Need-signed-requires
 signed-requires c κs = search needs
@@ -44,10 +42,10 @@ put-two-requires c κs =
     rest-room (stage-3-parts (now (start .args .choice)) (start .args .below)) refl
     (two-passed (sfits-of (signed .ok)) (sfits-of (c .put-two-arg3 .given))
     (signed .ensures
-    ∙ new-is (start .pre .small) (length (now (start .args .choice)) - 1)
+    ∙ new-is (start .pre .0 .0) (length (now (start .args .choice)) - 1)
     (start .args .below + (length (now (start .args .choice)) - 1)) refl
-    (omega (arith, start .pre .small .most-literals)))
-    (lit-is (now (start .args .choice)) (start .args .below) (length (now (start .args .choice))))) (start .pre .room)
+    (omega (arith, start .pre .0 .0 .few)))
+    (lit-is (now (start .args .choice)) (start .args .below) (length (now (start .args .choice))))) (start .pre .1)
     (put-links-3 .ensures)
 
 same-length : tie.Need-same-length
@@ -66,9 +64,9 @@ returns c =
     two-grown (stage-3-parts (now (start .args .choice)) (start .args .below)) refl
     (two-passed (sfits-of (signed .ok)) (sfits-of (put-two-arg3 .given))
     (signed .ensures
-    ∙ new-is (start .pre .small) (length (now (start .args .choice)) - 1)
+    ∙ new-is (start .pre .0 .0) (length (now (start .args .choice)) - 1)
     (start .args .below + (length (now (start .args .choice)) - 1)) refl
-    (omega (arith, start .pre .small .most-literals)))
+    (omega (arith, start .pre .0 .0 .few)))
     (lit-is (now (start .args .choice)) (start .args .below) (length (now (start .args .choice)))))
     (put-links-3 .ensures) (put-two .ensures)
 

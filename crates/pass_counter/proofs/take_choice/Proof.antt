@@ -1,9 +1,9 @@
-use borrow.Author.Needs.{needs}
 use mathlib.Core.Path.{refl, sym, _∙_}
 use denote.Ref.{now}
 use lib.Seq.{length-take-le, length-front}
-use Rattle.pass_counter.proofs.Growing.{grown-length}
-use Rattle.pass_counter.proofs.Taking.{choice-placeable, choice-countable, first-ready, counter-ready, line-ready, last-ready, choice-taken}
+use Rattle.progress.proofs.Growing.{grown-length}
+use Rattle.pass_counter.proofs.Taking.{places-there, store-short, first-room, counter-room, line-room, last-room, choice-taken}
+use borrow.Author.Needs.{needs}
 use Rattle.pass_counter.proofs.take_choice.Statement.{statement}
 use Rattle.pass_counter.proofs.take_choice.Tie as tie
 
@@ -11,7 +11,7 @@ slice-aggregate-set-places : tie.Need-slice-aggregate-set-places
 slice-aggregate-set-places c = search needs
 
 set-places-requires : tie.Need-set-places-requires
-set-places-requires c κs = choice-placeable (c .before .before .pre)
+set-places-requires c κs = search needs
 
 slice-relend-prefix-clear-store : tie.Need-slice-relend-prefix-clear-store
 slice-relend-prefix-clear-store c = search needs
@@ -19,7 +19,7 @@ slice-relend-prefix-clear-store c = search needs
 slice-aggregate-clear-store : tie.Need-slice-aggregate-clear-store
 slice-aggregate-clear-store c =
     let start = c .before .before .before .before .before in
-    sym (length-take-le (start .args .p .end) (now (start .args .work)) (start .pre .inside))
+    sym (length-take-le (start .args .p .end) (now (start .args .work)) (start .pre .good .inside))
 
 slice-aggregate-clear-store-2 : tie.Need-slice-aggregate-clear-store-2
 slice-aggregate-clear-store-2 c = search needs
@@ -30,7 +30,7 @@ slice-aggregate-clear-store-3 c = search needs
 clear-store-requires : tie.Need-clear-store-requires
 clear-store-requires c κs =
     let start = c .before .before .before .before .before .before .before in
-    choice-countable (start .pre)
+    ((start .pre .good .formed, store-short (start .pre)), refl)
 
 slice-aggregate-record-pairs : tie.Need-slice-aggregate-record-pairs
 slice-aggregate-record-pairs c = search needs
@@ -39,18 +39,22 @@ record-pairs-requires : tie.Need-record-pairs-requires
 record-pairs-requires c κs =
     let back = c .before .before .before .before in let clear-store = back .clear-store in
     let back = back .before .before .before .before .before in let set-places = back .set-places in
-    let start = back .before .before .before in
-    first-ready (start .pre) (set-places .ensures) (clear-store .ensures)
+    let start = back .before .before .before in (
+      start .pre .small .few,
+      first-room (start .pre) (places-there (start .pre) (set-places .ensures)) (clear-store .ensures),
+    )
 
 put-counter-requires : tie.Need-put-counter-requires
 put-counter-requires c κs =
     let back = c .before .before .before .before in let record-pairs = back .record-pairs in
     let back = back .before .before .before .before .before in let clear-store = back .clear-store in
     let back = back .before .before .before .before .before in let set-places = back .set-places in
-    let start = back .before .before .before in
-    counter-ready (start .pre) (set-places .ensures) (clear-store .ensures) (record-pairs .ensures .0)
-    (record-pairs .ensures .1)
-    (length-front (now (start .args .work)) (clear-store .last .0) (start .args .p .end) (clear-store .kept .0))
+    let start = back .before .before .before in (
+      (start .pre .small, start .pre .ready .long),
+      counter-room (start .pre) (places-there (start .pre) (set-places .ensures)) (clear-store .ensures)
+          (record-pairs .ensures .0) (record-pairs .ensures .1)
+          (length-front (now (start .args .work)) (clear-store .last .0) (start .args .p .end) (clear-store .kept .0)),
+    )
 
 record-line-requires : tie.Need-record-line-requires
 record-line-requires c κs =
@@ -59,8 +63,8 @@ record-line-requires c κs =
     let back = back .before .before .before .before .before in let clear-store = back .clear-store in
     let back = back .before .before .before .before .before in let set-places = back .set-places in
     let start = back .before .before .before in
-    line-ready (start .pre) (set-places .ensures) (clear-store .ensures) (record-pairs .ensures .0)
-    (record-pairs .ensures .1) (put-counter .ensures)
+    line-room (start .pre) (places-there (start .pre) (set-places .ensures)) (clear-store .ensures)
+    (record-pairs .ensures .0) (record-pairs .ensures .1) (put-counter .ensures)
 
 slice-aggregate-record-pairs-2 : tie.Need-slice-aggregate-record-pairs-2
 slice-aggregate-record-pairs-2 c = search needs
@@ -72,9 +76,12 @@ record-pairs-requires-2 c κs =
     let back = back .before .before .before .before .before in let record-pairs = back .record-pairs in
     let back = back .before .before .before .before .before in let clear-store = back .clear-store in
     let back = back .before .before .before .before .before in let set-places = back .set-places in
-    let start = back .before .before .before in
-    last-ready (start .pre) (set-places .ensures) (clear-store .ensures) (record-pairs .ensures .0)
-    (record-pairs .ensures .1) (put-counter .ensures) (record-line .ensures .0) (record-line .ensures .1)
+    let start = back .before .before .before in (
+      start .pre .small .few,
+      last-room (start .pre) (places-there (start .pre) (set-places .ensures)) (clear-store .ensures)
+          (record-pairs .ensures .0) (record-pairs .ensures .1) (put-counter .ensures) (record-line .ensures .0)
+          (record-line .ensures .1),
+    )
 
 same-length : tie.Need-same-length
 same-length c =
@@ -96,9 +103,9 @@ returns c =
     let back = back .before .before .before .before .before in let clear-store = back .clear-store in
     let back = back .before .before .before .before .before in let set-places = back .set-places in
     let start = back .before .before .before in
-    choice-taken (start .pre) (set-places .ensures) (clear-store .ensures) (record-pairs .ensures .0)
-    (record-pairs .ensures .1) (put-counter .ensures) (record-line .ensures .0) (record-line .ensures .1)
-    (record-pairs2 .ensures .0) (record-pairs2 .ensures .1) refl (clear-store .kept .0)
+    choice-taken (start .pre) (places-there (start .pre) (set-places .ensures)) (clear-store .ensures)
+    (record-pairs .ensures .0) (record-pairs .ensures .1) (put-counter .ensures) (record-line .ensures .0)
+    (record-line .ensures .1) (record-pairs2 .ensures .0) (record-pairs2 .ensures .1) refl (clear-store .kept .0)
 
 pub take-choice-spec : {M : Type 1} → statement M
 take-choice-spec =

@@ -1,7 +1,6 @@
 use mathlib.Core.Path.{refl}
-use native.Mathlib.Omega.{arith}
 use denote.Ref.{now}
-use Rattle.pass_order.proofs.Steps.{opposed-there, result-opposed, entry-room, line-room, result-added}
+use Rattle.pass_order.proofs.Steps.{opposed-there, none-added, entry-room, added-room, result-added}
 use borrow.Author.Needs.{needs}
 use Rattle.pass_order.proofs.add_result.Statement.{statement}
 use Rattle.pass_order.proofs.add_result.Tie as tie
@@ -30,60 +29,29 @@ same-length c = search needs
 returns : tie.Need-returns
 returns c =
     let start = c .before .before .before .before .before .before in
-    result-opposed (now (start .args .places)) (start .args .size) (start .args .below) (now (start .args .work))
-    (start .args .from) (start .args .n) (now (start .args .log)) (start .args .p)
-    (opposed-there (now (start .args .places)) (start .args .size) (start .args .below) (now (start .args .work))
-    (start .args .from) (start .args .n) (c .before .is-opposed .ensures) (c .if1 .taken))
+    none-added (start .pre .0 .0) (now (start .args .work)) (start .args .from) (start .args .n) (start .pre .1)
+    (now (start .args .log))
+    (opposed-there (start .pre .0 .0) (now (start .args .work)) (start .args .from) (start .args .n) (start .pre .1)
+    (c .before .is-opposed .ensures) (c .if1 .taken))
 
 append-replaced-requires : tie.Need-append-replaced-requires
 append-replaced-requires c κs =
-    let start = c .before .before .before .before .before .before .before in
-    let e = opposed-there (now (start .args .places)) (start .args .size) (start .args .below) (now (start .args .work))
-    (start .args .from) (start .args .n) (c .before .before .is-opposed .ensures) (c .before .if1 .left) in (
-      (start .pre .0 .0, start .pre .0 .2),
-      entry-room (now (start .args .places)) (start .args .size) (start .args .below) (now (start .args .work))
-          (start .args .from) (start .args .n) e (start .pre .1),
+    let start = c .before .before .before .before .before .before .before in (
+      (start .pre .0 .1, start .pre .0 .0 .places, start .pre .0 .0 .small),
+      entry-room (start .pre .0 .0) (now (start .args .work)) (start .args .from) (start .args .n) (start .pre .1)
+          (opposed-there (start .pre .0 .0) (now (start .args .work)) (start .args .from) (start .args .n)
+          (start .pre .1) (c .before .before .is-opposed .ensures) (c .before .if1 .left)),
     )
 
-add-first : tie.Need-add-first
-add-first c = search needs
-
-mul-record-line : tie.Need-mul-record-line
-mul-record-line c = search needs
-
-sub-record-line : tie.Need-sub-record-line
-sub-record-line c = search needs
-
-part-record-line-start : tie.Need-part-record-line-start
-part-record-line-start c = search needs
-
-part-record-line-end : tie.Need-part-record-line-end
-part-record-line-end c =
+record-added-requires : tie.Need-record-added-requires
+record-added-requires c κs =
     let back = c .before .before .before in let append-replaced = back .append-replaced in
     let back = back .before .before in let if1 = back .if1 in
     let back = back .before in let is-opposed = back .is-opposed in
     let start = back .before .before .before .before .before in
-    let e = opposed-there (now (start .args .places)) (start .args .size) (start .args .below) (now (start .args .work))
-    (start .args .from) (start .args .n) (is-opposed .ensures) (if1 .left) in
-    omega (
-      arith,
-      entry-room (now (start .args .places)) (start .args .size) (start .args .below) (now (start .args .work))
-          (start .args .from) (start .args .n) e (start .pre .1),
-      append-replaced .ensures .0,
-      append-replaced .kept .0,
-    )
-
-record-line-requires : tie.Need-record-line-requires
-record-line-requires c κs =
-    let back = c .before .before .before .before in let append-replaced = back .append-replaced in
-    let back = back .before .before in let if1 = back .if1 in
-    let back = back .before in let is-opposed = back .is-opposed in
-    let start = back .before .before .before .before .before in
-    let e = opposed-there (now (start .args .places)) (start .args .size) (start .args .below) (now (start .args .work))
-    (start .args .from) (start .args .n) (is-opposed .ensures) (if1 .left) in
-    line-room (now (start .args .places)) (start .args .size) (start .args .below) (now (start .args .work))
-    (start .args .from) (start .args .n) e (start .pre .1) refl (append-replaced .ensures .0)
-    (append-replaced .ensures .1)
+    added-room (start .pre .0 .0) (now (start .args .work)) (start .args .from) (start .args .n) (start .pre .1)
+    (opposed-there (start .pre .0 .0) (now (start .args .work)) (start .args .from) (start .args .n) (start .pre .1)
+    (is-opposed .ensures) (if1 .left)) refl (append-replaced .ensures .0) (append-replaced .ensures .1)
 
 same-length-2 : tie.Need-same-length-2
 same-length-2 c = search needs
@@ -93,15 +61,15 @@ same-length-3 c = search needs
 
 returns-2 : tie.Need-returns-2
 returns-2 c =
-    let back = c .before .before .before .before .before .before .before in let append-replaced = back .append-replaced in
+    let back = c .before .before in let record-added = back .record-added in
+    let back = back .before .before .before .before in let append-replaced = back .append-replaced in
     let back = back .before .before in let if1 = back .if1 in
     let back = back .before in let is-opposed = back .is-opposed in
     let start = back .before .before .before .before .before in
-    let e = opposed-there (now (start .args .places)) (start .args .size) (start .args .below) (now (start .args .work))
-    (start .args .from) (start .args .n) (is-opposed .ensures) (if1 .left) in
-    result-added (now (start .args .places)) (start .args .size) (start .args .below) (now (start .args .work))
-    (start .args .from) (start .args .n) e (start .pre .1) refl (append-replaced .ensures .0)
-    (append-replaced .ensures .1) (c .before .before .record-line .ensures .0) refl refl refl
+    result-added (start .pre .0 .0) (now (start .args .work)) (start .args .from) (start .args .n) (start .pre .1)
+    (opposed-there (start .pre .0 .0) (now (start .args .work)) (start .args .from) (start .args .n) (start .pre .1)
+    (is-opposed .ensures) (if1 .left)) refl (append-replaced .ensures .0) (append-replaced .ensures .1)
+    (record-added .ensures .0) (record-added .ensures .1)
 
 pub add-result-spec : {M : Type 1} → statement M
 add-result-spec =
@@ -116,12 +84,7 @@ add-result-spec =
     same-length
     returns
     append-replaced-requires
-    add-first
-    mul-record-line
-    sub-record-line
-    part-record-line-start
-    part-record-line-end
-    record-line-requires
+    record-added-requires
     same-length-2
     same-length-3
     returns-2)

@@ -24,9 +24,9 @@ shared-slice-copy-out-l c = search needs
 delete-positive-requires : tie.Need-delete-positive-requires
 delete-positive-requires c κs =
     let start = c .before .before .before .before in (
-      (start .pre .0 .0, start .pre .0 .1, start .pre .0 .2 .most-literals, start .pre .0 .2 .new-few),
+      (start .pre .0 .0, start .pre .0 .1, start .pre .0 .2 .few, start .pre .0 .2 .new),
       first-deletable (now (start .args .choice)) (start .args .below) (start .args .i) (start .pre .0 .0)
-          (start .pre .0 .1) (start .pre .0 .2 .most-literals) (start .pre .0 .2 .new-few) (start .pre .0 .2 .reach)
+          (start .pre .0 .1) (start .pre .0 .2)
           (sfits-of (c .before .before .l .given)) (start .pre .1),
     )
 
@@ -48,7 +48,7 @@ delete-pair-if-requires c κs =
     let start = back .before .before in
     let x = getD (now (start .args .choice)) (start .args .i - 1) (pos 0) in
     second-deletable (now (start .args .choice)) (start .args .below) (start .args .i) (start .pre .0 .0)
-    (start .pre .0 .1) (start .pre .0 .2 .most-literals) (start .pre .0 .2 .new-few) (start .pre .0 .2 .reach)
+    (start .pre .0 .1) (start .pre .0 .2)
     (sfits-of (l .given)) (start .pre .1) (delete-positive .ensures) (negated .result) (signed .result)
     (sfits-of (negated .ok)) (sfits-of (signed .ok)) (answer negation x (sfits-of (l .given)) (negated .ensures))
     (signed .ensures)
@@ -73,7 +73,7 @@ delete-pair-if-requires-2 c κs =
     let start = back .before .before in
     let x = getD (now (start .args .choice)) (start .args .i - 1) (pos 0) in
     third-deletable (now (start .args .choice)) (start .args .below) (start .args .i) (start .pre .0 .0)
-    (start .pre .0 .1) (start .pre .0 .2 .most-literals) (start .pre .0 .2 .new-few) (start .pre .0 .2 .reach)
+    (start .pre .0 .1) (start .pre .0 .2)
     (sfits-of (l .given)) (start .pre .1) (delete-positive .ensures) (negated .result) (signed .result)
     (sfits-of (negated .ok)) (sfits-of (signed .ok)) (answer negation x (sfits-of (l .given)) (negated .ensures))
     (signed .ensures) (delete-pair-if .ensures) (signed2 .result) (sfits-of (signed2 .ok)) (signed2 .ensures)
@@ -96,7 +96,7 @@ returns c =
     let start = back .before .before in
     let x = getD (now (start .args .choice)) (start .args .i - 1) (pos 0) in
     literal-deletes (now (start .args .choice)) (start .args .below) (start .args .i) (start .pre .0 .0)
-    (start .pre .0 .1) (start .pre .0 .2 .most-literals) (start .pre .0 .2 .new-few) (start .pre .0 .2 .reach)
+    (start .pre .0 .1) (start .pre .0 .2)
     (sfits-of (l .given)) (start .pre .1) (delete-positive .ensures) (negated .result) (signed .result)
     (sfits-of (negated .ok)) (sfits-of (signed .ok)) (answer negation x (sfits-of (l .given)) (negated .ensures))
     (signed .ensures) (delete-pair-if .ensures) (signed2 .result) (sfits-of (signed2 .ok)) (signed2 .ensures)

@@ -4,13 +4,13 @@ use Prim.Native.Nat.{_-_, _+_}
 use lib.ListN.{length}
 use denote.Ref.{now}
 use Rattle.definition.specs.Order.{deletions-of}
-use Rattle.theory_counter.specs.Ready.{of-literals}
+use Rattle.definition.specs.Events.{choice-of}
 use Rattle.pass_order.proofs.Deleting.{Deleting, deleting-start, deleting-room, deleting-step, deleting-end}
 use Rattle.pass_order.proofs.delete_literals.Statement.{statement}
 use Rattle.pass_order.proofs.delete_literals.Tie as tie
 
 abbrev Inv-loop : tie.InvT-loop
-Inv-loop store₀ log₀ choice below size q₀ i₀ store log q i = Deleting (deletions-of (of-literals choice below)) (length choice) store₀ log₀ q₀ i store log q
+Inv-loop store₀ log₀ choice below size q₀ i₀ store log q i = Deleting (deletions-of (choice-of choice below)) (length choice) store₀ log₀ q₀ i store log q
 
 abbrev μ-loop : tie.MeasureT-loop
 μ-loop store₀ log₀ choice below size q₀ i₀ store log q i = length choice + 1 - i
@@ -21,7 +21,7 @@ cast-size c = search needs
 loop-holds : tie.Need-loop-holds Inv-loop μ-loop
 loop-holds c =
     let start = c .before in
-    deleting-start (deletions-of (of-literals (now (start .args .choice)) (start .args .below)))
+    deleting-start (deletions-of (choice-of (now (start .args .choice)) (start .args .below)))
     (length (now (start .args .choice))) (now (start .args .store)) (now (start .args .log)) (start .args .p)
     (start .pre .1 .formed)
 

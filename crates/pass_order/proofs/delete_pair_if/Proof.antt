@@ -4,8 +4,8 @@ use mathlib.Core.List.{List, [], _∷_}
 use denote.Ref.{now}
 use Rattle.definition.specs.Literals.{Clause}
 use Rattle.pass_order.specs.Order.{Deletable, Deletes}
-use Rattle.pass_order.proofs.Writing.{unwanted}
-use Rattle.pass_order.proofs.Deleting.{pair-is, deletes-none}
+use Rattle.replacement.proofs.Writing.{unwanted}
+use Rattle.pass_order.proofs.Deleting.{pair-wanted, deletes-none}
 use borrow.Author.Needs.{needs}
 use Rattle.pass_order.proofs.delete_pair_if.Statement.{statement}
 use Rattle.pass_order.proofs.delete_pair_if.Tie as tie
@@ -19,7 +19,7 @@ delete-clause-requires c κs =
     let start = back .before .before in (
       omega arith,
       subst (λ (D : List Clause). Deletable D (now (start .args .store)) (start .args .p))
-          (pair-is (start .args .wanted) (start .args .a) (start .args .b) (if1 .taken) (start .fits .a)
+          (pair-wanted (start .args .wanted) (start .args .a) (start .args .b) (if1 .taken) (start .fits .a)
           (start .fits .b)) (start .pre),
     )
 
@@ -38,7 +38,7 @@ returns c =
     (λ (D : List Clause). Deletes D (now (start .args .store)) (now (start .args .log)) (start .args .p)
     (delete-clause .last .0) (delete-clause .last .1 .0) (delete-clause .result))
     (sym
-    (pair-is (start .args .wanted) (start .args .a) (start .args .b) (if1 .taken) (start .fits .a) (start .fits .b)))
+    (pair-wanted (start .args .wanted) (start .args .a) (start .args .b) (if1 .taken) (start .fits .a) (start .fits .b)))
     (delete-clause .ensures)
 
 returns-2 : tie.Need-returns-2

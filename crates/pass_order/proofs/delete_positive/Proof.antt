@@ -9,7 +9,7 @@ use borrow.Author.Needs.{sfits-of, needs}
 use lib.Seq.{length-take-le}
 use Rattle.definition.specs.Literals.{Clause}
 use Rattle.pass_order.specs.Order.{Deletable, Deletes}
-use Rattle.pass_order.proofs.Deleting.{positive-is, one-room, two-room, long-room}
+use Rattle.pass_order.proofs.Deleting.{positive-is, first-fits, second-fits, clause-fits}
 use Rattle.pass_order.proofs.delete_positive.Statement.{statement}
 use Rattle.pass_order.proofs.delete_positive.Tie as tie
 
@@ -25,7 +25,7 @@ slice-aggregate-put-if c = search needs
 put-if-requires : tie.Need-put-if-requires
 put-if-requires c κs =
     let start = c .before .before .before in
-    one-room (ltb (start .args .i) (start .args .size)) (toZ w32 (ofZ w32 (c .before .signed .result)))
+    first-fits (ltb (start .args .i) (start .args .size)) (toZ w32 (ofZ w32 (c .before .signed .result)))
 
 sub-signed : tie.Need-sub-signed
 sub-signed c = search needs
@@ -44,7 +44,7 @@ put-if-requires-2 c κs =
     let back = c .before .before .before in let put-if = back .put-if in
     let back = back .before .before in let signed = back .signed in
     let start = back .before .before in
-    two-room (ltb (start .args .i) (start .args .size)) (ltb 1 (start .args .i)) (toZ w32 (ofZ w32 (signed .result)))
+    second-fits (ltb (start .args .i) (start .args .size)) (ltb 1 (start .args .i)) (toZ w32 (ofZ w32 (signed .result)))
     (toZ w32 (ofZ w32 (c .before .signed2 .result))) (put-if .ensures .0) (put-if .kept .0)
 
 array-share-prefix-clause : tie.Need-array-share-prefix-clause
@@ -54,7 +54,7 @@ array-share-prefix-clause c =
     let back = back .before .before in let put-if = back .put-if in
     let back = back .before .before in let signed = back .signed in
     let start = back .before .before in
-    long-room (ltb (start .args .i) (start .args .size)) (ltb 1 (start .args .i)) (toZ w32 (ofZ w32 (signed .result)))
+    clause-fits (ltb (start .args .i) (start .args .size)) (ltb 1 (start .args .i)) (toZ w32 (ofZ w32 (signed .result)))
     (toZ w32 (ofZ w32 (signed2 .result))) (put-if .ensures .0) (put-if .kept .0) (put-if2 .ensures .0)
     (put-if2 .kept .0) .0
 
@@ -67,7 +67,7 @@ slice-aggregate-delete-clause c =
     let start = back .before .before in
     sym
     (length-take-le (put-if2 .result) (put-if2 .last .0)
-    (long-room (ltb (start .args .i) (start .args .size)) (ltb 1 (start .args .i)) (toZ w32 (ofZ w32 (signed .result)))
+    (clause-fits (ltb (start .args .i) (start .args .size)) (ltb 1 (start .args .i)) (toZ w32 (ofZ w32 (signed .result)))
     (toZ w32 (ofZ w32 (signed2 .result))) (put-if .ensures .0) (put-if .kept .0) (put-if2 .ensures .0)
     (put-if2 .kept .0) .0))
 
@@ -78,7 +78,7 @@ delete-clause-requires c κs =
     let back = back .before .before in let put-if = back .put-if in
     let back = back .before .before in let signed = back .signed in
     let start = back .before .before in
-    let r = long-room (ltb (start .args .i) (start .args .size)) (ltb 1 (start .args .i))
+    let r = clause-fits (ltb (start .args .i) (start .args .size)) (ltb 1 (start .args .i))
     (toZ w32 (ofZ w32 (signed .result))) (toZ w32 (ofZ w32 (signed2 .result))) (put-if .ensures .0) (put-if .kept .0)
     (put-if2 .ensures .0) (put-if2 .kept .0) in
     let e = positive-is (start .args .l) (start .args .i) (start .args .size) (start .args .below) (start .fits .l)

@@ -1,12 +1,10 @@
-use Rattle.definition.specs.Counter.{size}
-use mathlib.Core.Path.{refl, sym, subst}
-use mathlib.Core.List.{List}
-use Prim.Native.Nat.{ℕ}
+use mathlib.Core.Path.{refl}
 use native.Mathlib.Omega.{arith}
 use denote.Ref.{now}
-use Rattle.pass_order.specs.Table.{Places}
-use Rattle.pass_order.proofs.Filling.{places-of}
-use Rattle.pass_order.proofs.Ordered.{part-within, part-deletable, order-ran}
+use Rattle.definition.specs.Counter.{size}
+use Rattle.tables.specs.Sizes.{input-reach}
+use Rattle.tables.proofs.Places.{places-of}
+use Rattle.pass_order.proofs.Ordered.{part-within, part-deletable, order-runs}
 use borrow.Author.Needs.{needs}
 use Rattle.pass_order.proofs.order_choice.Statement.{statement}
 use Rattle.pass_order.proofs.order_choice.Tie as tie
@@ -25,19 +23,29 @@ replace-all-requires c κs =
     let back = c .before .before .before .before in let set-places = back .set-places in
     let start = back .before .before .before in (
       start .pre,
-      subst (λ (t : List ℕ). Places t (now (start .args .literals))) (sym (set-places .ensures))
-          (places-of 8000 (omega arith) (now (start .args .literals)) (start .pre .before .well-formed .proper)
-          (start .pre .reach)),
+      rw (set-places .ensures)
+          (places-of input-reach (omega arith) (now (start .args .literals)) (start .pre .before .well-formed .proper)
+          (start .pre .small .old)),
     )
 
 mul-delete-literals : tie.Need-mul-delete-literals
-mul-delete-literals c = search needs
+mul-delete-literals c =
+    let back = c .before .before .before in let replace-all = back .replace-all in
+    let start = back .before .before .before .before .before .before .before .before in
+    omega
+    (arith, part-within (start .pre) (replace-all .ensures) .0, part-within (start .pre) (replace-all .ensures) .1)
 
 sub-delete-literals : tie.Need-sub-delete-literals
-sub-delete-literals c = search needs
+sub-delete-literals c =
+    let back = c .before .before .before in let replace-all = back .replace-all in
+    let start = back .before .before .before .before .before .before .before .before in
+    omega (arith, part-within (start .pre) (replace-all .ensures) .0)
 
 part-delete-literals-start : tie.Need-part-delete-literals-start
-part-delete-literals-start c = search needs
+part-delete-literals-start c =
+    let back = c .before .before .before in let replace-all = back .replace-all in
+    let start = back .before .before .before .before .before .before .before .before in
+    omega (arith, part-within (start .pre) (replace-all .ensures) .0)
 
 part-delete-literals-end : tie.Need-part-delete-literals-end
 part-delete-literals-end c =
@@ -49,10 +57,8 @@ delete-literals-requires : tie.Need-delete-literals-requires
 unfolding size
 delete-literals-requires c κs =
     let back = c .before .before .before .before .before in let replace-all = back .replace-all in
-    let start = back .before .before .before .before .before .before .before .before in (
-      record { most-literals = start .pre .most-literals; reach = start .pre .reach; new-few = start .pre .new-few },
-      part-deletable (start .pre) (replace-all .ensures),
-    )
+    let start = back .before .before .before .before .before .before .before .before in
+    (start .pre .small, part-deletable (start .pre) (replace-all .ensures))
 
 same-length : tie.Need-same-length
 same-length c = search needs
@@ -66,7 +72,7 @@ returns c =
     let back = c .before .before .before in let delete-literals = back .delete-literals in
     let back = back .before .before .before .before .before .before in let replace-all = back .replace-all in
     let start = back .before .before .before .before .before .before .before .before in
-    order-ran (start .pre) (replace-all .ensures) (replace-all .kept .0) (delete-literals .kept .0) refl
+    order-runs (start .pre) (replace-all .ensures) (replace-all .kept .0) (delete-literals .kept .0) refl
     (delete-literals .ensures)
 
 pub order-choice-spec : {M : Type 1} → statement M

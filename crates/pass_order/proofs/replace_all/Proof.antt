@@ -3,37 +3,39 @@ use native.Mathlib.Omega.{arith}
 use Prim.Native.Nat.{_-_}
 use lib.ListN.{length, take, drop}
 use denote.Ref.{now}
+use Rattle.definition.specs.Events.{choice-of}
 use Rattle.progress.proofs.Laws.{written-length}
-use Rattle.theory_counter.specs.Ready.{of-literals}
 use Rattle.pass_order.specs.Order.{front}
-use Rattle.pass_order.proofs.Passing.{Passing, passing-start, passing-before, passing-within, passing-addable, passing-step, passing-end}
-use Rattle.pass_order.proofs.Ordered.{middle-size, pass-room, places-small}
+use Rattle.pass_order.proofs.Passing.{Passing, passing-start, passing-before, passing-within, passing-replaceable, passing-step, passing-end}
+use Rattle.pass_order.proofs.Ordered.{starts, front-formed, front-proper, middle-size, table, pass-room}
 use Rattle.pass_order.proofs.replace_all.Statement.{statement}
 use Rattle.pass_order.proofs.replace_all.Tie as tie
 
 abbrev Inv-loop : tie.InvT-loop
-Inv-loop work₀ log₀ start places choice below size q₀ at₀ work log q at = (length work ≡ length work₀) × Passing (of-literals choice below) (front work₀ start) (drop start (take (q₀ .end) work₀)) start log₀ q₀ at work log q
+Inv-loop work₀ log₀ start places choice below q₀ at₀ work log q at = (length work ≡ length work₀) × Passing (choice-of choice below) (front work₀ start) (drop start (take (q₀ .end) work₀)) start log₀ q₀ at work log q
 
 abbrev μ-loop : tie.MeasureT-loop
-μ-loop work₀ log₀ start places choice below size q₀ at₀ work log q at = start - at
-
-cast-size : tie.Need-cast-size Inv-loop μ-loop
-cast-size c = omega (arith, c .before .before .pre .0 .most-literals)
+μ-loop work₀ log₀ start places choice below q₀ at₀ work log q at = start - at
 
 loop-holds : tie.Need-loop-holds Inv-loop μ-loop
 loop-holds c =
     let start = c .before .before in (
       refl,
-      passing-start (of-literals (now (start .args .choice)) (start .args .below)) (now (start .args .work))
-          (start .args .start) (now (start .args .log)) (start .args .p) (start .pre .0 .starts) (start .pre .0 .inside)
-          (start .pre .0 .front-formed),
+      passing-start (choice-of (now (start .args .choice)) (start .args .below)) (now (start .args .work))
+          (start .args .start) (now (start .args .log)) (start .args .p) (starts (start .pre .0))
+          (start .pre .0 .good .inside) (front-formed (start .pre .0)),
     )
 
 next-at-requires : tie.Need-next-at-requires Inv-loop μ-loop
 next-at-requires c κs =
     let start = c .before .before .before .before .before in
-    omega
-    (arith, c .before .loop-test .taken, c .before .before .loop .inv .0, start .pre .0 .starts, start .pre .0 .inside)
+    omega (
+      arith,
+      c .before .loop-test .taken,
+      c .before .before .loop .inv .0,
+      starts (start .pre .0),
+      start .pre .0 .good .inside,
+    )
 
 replace-at-requires : tie.Need-replace-at-requires Inv-loop μ-loop
 replace-at-requires c κs =
@@ -41,13 +43,12 @@ replace-at-requires c κs =
     let back = back .before in let loop = back .loop in
     let start = back .before .before .before in
     record {
+      table = table (start .pre .0) (start .pre .1);
       before = passing-before (loop .inv .1) (loop-test .taken) (middle-size (start .pre .0));
       within = passing-within (loop .inv .1) (loop-test .taken) (middle-size (start .pre .0));
-      table = places-small (start .pre .0) (start .pre .1);
-      addable = passing-addable (now (start .args .places)) (now (start .args .choice)) (start .args .below)
-          (start .pre .1) (start .pre .0 .before) (start .pre .0 .proper) (start .pre .0 .most-literals)
-          (start .pre .0 .new-few) (loop .inv .1) (loop-test .taken) (middle-size (start .pre .0))
-          (omega (arith, start .pre .0 .space, loop .inv .0)) (pass-room (start .pre .0));
+      replaceable = passing-replaceable (start .pre .0 .before) (front-proper (start .pre .0)) (loop .inv .1)
+          (loop-test .taken) (middle-size (start .pre .0)) (omega (arith, start .pre .0 .space, loop .inv .0)) (omega (arith, start .pre .0 .good .small, loop .inv .0))
+          (pass-room (start .pre .0));
     }
 
 loop-less : tie.Need-loop-less Inv-loop μ-loop
@@ -65,10 +66,8 @@ loop-again c =
     let start = back .before .before .before in
     rw (next-at .ensures) (
       replace-at .kept .0 ∙ loop .inv .0,
-      passing-step (now (start .args .places)) (now (start .args .choice)) (start .args .below) (start .pre .1)
-          (start .pre .0 .before) (start .pre .0 .proper) (start .pre .0 .most-literals) (start .pre .0 .new-few)
-          (loop .inv .1) (loop-test .taken) (middle-size (start .pre .0))
-          (omega (arith, start .pre .0 .space, loop .inv .0)) (replace-at .ensures),
+      passing-step (start .pre .0 .before) (front-proper (start .pre .0)) (loop .inv .1) (loop-test .taken)
+          (middle-size (start .pre .0)) (omega (arith, start .pre .0 .space, loop .inv .0)) (omega (arith, start .pre .0 .good .small, loop .inv .0)) (replace-at .ensures),
     )
 
 same-length : tie.Need-same-length Inv-loop μ-loop
@@ -86,7 +85,6 @@ replace-all-spec =
     (tie.spec
     Inv-loop
     μ-loop
-    cast-size
     loop-holds
     next-at-requires
     replace-at-requires

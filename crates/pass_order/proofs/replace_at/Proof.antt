@@ -1,10 +1,11 @@
 use native.Mathlib.Omega.{arith}
 use denote.Ref.{now}
-use borrow.Author.Needs.{sfits-of, needs}
-use Rattle.literals.specs.Literal.{negative, header-literals}
-use Rattle.literals.proofs.Laws.{answer, answered}
+use borrow.Author.Needs.{sfits-of}
+use Rattle.literals.specs.Literal.{negative}
+use Rattle.literals.proofs.Laws.{answered}
 use Rattle.store.specs.Store.{header-at}
-use Rattle.pass_order.proofs.Steps.{step-deleted, step-other, step-addable, deletion-room, step-replaced}
+use Rattle.pass_order.proofs.Steps.{step-deleted, clause-inside, step-other, step-replaceable, deletion-room, step-replaced}
+use borrow.Author.Needs.{needs}
 use Rattle.pass_order.proofs.replace_at.Statement.{statement}
 use Rattle.pass_order.proofs.replace_at.Tie as tie
 
@@ -20,31 +21,15 @@ is-negative-requires c κs = search needs
 returns : tie.Need-returns
 returns c =
     let start = c .before .before .before .before .before in
-    let s = now (start .args .work) in
-    step-deleted (now (start .args .places)) (start .args .size) (start .args .below) s (start .args .at)
-    (now (start .args .log)) (start .args .p)
-    (answered negative (header-at s (start .args .at)) (sfits-of (c .before .before .is-negative-arg .given))
-    (c .before .is-negative .ensures) (c .if1 .taken))
+    step-deleted (now (start .args .work)) (start .args .at) (start .pre) (now (start .args .log))
+    (answered negative (header-at (now (start .args .work)) (start .args .at))
+    (sfits-of (c .before .before .is-negative-arg .given)) (c .before .is-negative .ensures) (c .if1 .taken))
 
-mul-header-length : tie.Need-mul-header-length
-mul-header-length c = search needs
-
-slice-copy-out-header-length : tie.Need-slice-copy-out-header-length
-slice-copy-out-header-length c = search needs
-
-header-length-requires : tie.Need-header-length-requires
-header-length-requires c κs = search needs
+next-at-requires : tie.Need-next-at-requires
+next-at-requires c κs = search needs
 
 add-first : tie.Need-add-first
 add-first c = search needs
-
-add-next : tie.Need-add-next
-add-next c =
-    let start = c .before .before .before .before .before .before .before in
-    let s = now (start .args .work) in
-    let k = answer header-literals (header-at s (start .args .at)) (sfits-of (c .before .header-length-arg .given))
-    (c .header-length .ensures) in
-    omega (arith, k, start .pre .before, start .pre .within)
 
 mul-any-negated : tie.Need-mul-any-negated
 mul-any-negated c = search needs
@@ -56,33 +41,28 @@ part-any-negated-start : tie.Need-part-any-negated-start
 part-any-negated-start c = search needs
 
 part-any-negated-end : tie.Need-part-any-negated-end
-part-any-negated-end c =
-    let start = c .before .before .before .before .before .before .before .before in
-    let s = now (start .args .work) in
-    let k = answer header-literals (header-at s (start .args .at))
-    (sfits-of (c .before .before .header-length-arg .given)) (c .before .header-length .ensures) in
-    omega (arith, k, start .pre .before, start .pre .within)
+part-any-negated-end c = search needs
 
 any-negated-requires : tie.Need-any-negated-requires
 any-negated-requires c κs = search needs
 
+sub-n : tie.Need-sub-n
+sub-n c = search needs
+
 add-result-requires : tie.Need-add-result-requires
 add-result-requires c κs =
     let back = c .before .before .before in let any-negated = back .any-negated in
-    let back = back .before .before .before in let header-length = back .header-length in
-    let back = back .before in let header-length-arg = back .header-length-arg in
-    let back = back .before in let if1 = back .if1 in
+    let back = back .before .before .before in let next-at = back .next-at in
+    let back = back .before .before in let if1 = back .if1 in
     let back = back .before in let is-negative = back .is-negative in
     let back = back .before in let is-negative-arg = back .is-negative-arg in
     let start = back .before .before .before in
     let s = now (start .args .work) in
-    let k = answer header-literals (header-at s (start .args .at)) (sfits-of (header-length-arg .given))
-    (header-length .ensures) in
     let d = answered negative (header-at s (start .args .at)) (sfits-of (is-negative-arg .given)) (is-negative .ensures)
     (if1 .left) in (
-      (omega (arith, k, start .pre .before), start .pre .within, start .pre .table),
-      step-addable (now (start .args .places)) (start .args .size) (start .args .below) s (start .args .at)
-          (header-length .result) k d (start .pre) (any-negated .ensures) (c .before .before .if2 .taken),
+      (start .pre .table, clause-inside s (start .args .at) (start .pre) (next-at .ensures) d, start .pre .within),
+      step-replaceable s (start .args .at) (start .pre) (next-at .ensures) d (any-negated .ensures)
+          (c .before .before .if2 .taken),
     )
 
 mul-record-line : tie.Need-mul-record-line
@@ -95,38 +75,29 @@ part-record-line-start : tie.Need-part-record-line-start
 part-record-line-start c = search needs
 
 part-record-line-end : tie.Need-part-record-line-end
-part-record-line-end c =
-    let back = c .before .before .before .before .before in let add-result = back .add-result in
-    let back = back .before .before .before .before .before .before .before in let header-length = back .header-length in
-    let back = back .before in let header-length-arg = back .header-length-arg in
-    let start = back .before .before .before .before .before .before in
-    let s = now (start .args .work) in
-    let k = answer header-literals (header-at s (start .args .at)) (sfits-of (header-length-arg .given))
-    (header-length .ensures) in
-    omega (arith, k, start .pre .before, start .pre .within, add-result .kept .0)
+part-record-line-end c = search needs
 
 record-line-requires : tie.Need-record-line-requires
 record-line-requires c κs =
     let back = c .before .before .before .before .before .before in let add-result = back .add-result in
     let back = back .before .before .before in let if2 = back .if2 in
     let back = back .before in let any-negated = back .any-negated in
-    let back = back .before .before .before in let header-length = back .header-length in
-    let back = back .before in let header-length-arg = back .header-length-arg in
-    let back = back .before in let if1 = back .if1 in
+    let back = back .before .before .before in let next-at = back .next-at in
+    let back = back .before .before in let if1 = back .if1 in
     let back = back .before in let is-negative = back .is-negative in
     let back = back .before in let is-negative-arg = back .is-negative-arg in
     let start = back .before .before .before in
     let s = now (start .args .work) in
-    let k = answer header-literals (header-at s (start .args .at)) (sfits-of (header-length-arg .given))
-    (header-length .ensures) in
     let d = answered negative (header-at s (start .args .at)) (sfits-of (is-negative-arg .given)) (is-negative .ensures)
     (if1 .left) in
-    deletion-room (now (start .args .places)) (start .args .size) (start .args .below) s (start .args .at)
-    (header-length .result) k d (start .pre) (any-negated .ensures) (if2 .taken) (add-result .ensures)
-    (sfits-of (header-length-arg .given))
+    deletion-room s (start .args .at) (start .pre) (next-at .ensures) d (any-negated .ensures) (if2 .taken)
+    (add-result .ensures) (sfits-of (is-negative-arg .given))
 
 mark-deleted-requires : tie.Need-mark-deleted-requires
-mark-deleted-requires c κs = search needs
+mark-deleted-requires c κs =
+    let back = c .before .before .before .before .before .before .before .before .before .before in let add-result = back .add-result in
+    let start = back .before .before .before .before .before .before .before .before .before .before .before .before .before .before in
+    omega (arith, start .pre .before, start .pre .within, add-result .kept .0)
 
 same-length : tie.Need-same-length
 same-length c = search needs
@@ -140,40 +111,32 @@ returns-2 c =
     let back = back .before .before .before .before .before .before .before in let add-result = back .add-result in
     let back = back .before .before .before in let if2 = back .if2 in
     let back = back .before in let any-negated = back .any-negated in
-    let back = back .before .before .before in let header-length = back .header-length in
-    let back = back .before in let header-length-arg = back .header-length-arg in
-    let back = back .before in let if1 = back .if1 in
+    let back = back .before .before .before in let next-at = back .next-at in
+    let back = back .before .before in let if1 = back .if1 in
     let back = back .before in let is-negative = back .is-negative in
     let back = back .before in let is-negative-arg = back .is-negative-arg in
     let start = back .before .before .before in
     let s = now (start .args .work) in
-    let k = answer header-literals (header-at s (start .args .at)) (sfits-of (header-length-arg .given))
-    (header-length .ensures) in
     let d = answered negative (header-at s (start .args .at)) (sfits-of (is-negative-arg .given)) (is-negative .ensures)
     (if1 .left) in
-    step-replaced (now (start .args .places)) (start .args .size) (start .args .below) s (start .args .at)
-    (header-length .result) k d (start .pre) (any-negated .ensures) (if2 .taken) (add-result .ensures)
-    (record-line .ensures .0) (record-line .ensures .1) (c .before .mark-deleted .ensures)
+    step-replaced s (start .args .at) (start .pre) (next-at .ensures) d (any-negated .ensures) (if2 .taken)
+    (add-result .ensures) (record-line .ensures .0) (record-line .ensures .1) (c .before .mark-deleted .ensures)
 
 same-length-3 : tie.Need-same-length-3
 same-length-3 c = search needs
 
 returns-3 : tie.Need-returns-3
 returns-3 c =
-    let back = c .before .before .before .before in let header-length = back .header-length in
-    let back = back .before in let header-length-arg = back .header-length-arg in
-    let back = back .before in let if1 = back .if1 in
+    let back = c .before .before .before .before in let next-at = back .next-at in
+    let back = back .before .before in let if1 = back .if1 in
     let back = back .before in let is-negative = back .is-negative in
     let back = back .before in let is-negative-arg = back .is-negative-arg in
     let start = back .before .before .before in
     let s = now (start .args .work) in
-    let k = answer header-literals (header-at s (start .args .at)) (sfits-of (header-length-arg .given))
-    (header-length .ensures) in
     let d = answered negative (header-at s (start .args .at)) (sfits-of (is-negative-arg .given)) (is-negative .ensures)
     (if1 .left) in
-    step-other (now (start .args .places)) (start .args .size) (start .args .below) s (start .args .at)
-    (header-length .result) k d (now (start .args .log)) (start .args .p) (c .before .any-negated .ensures)
-    (c .if2 .left)
+    step-other s (start .args .at) (start .pre) (next-at .ensures) d (now (start .args .log))
+    (c .before .any-negated .ensures) (c .if2 .left)
 
 pub replace-at-spec : {M : Type 1} → statement M
 replace-at-spec =
@@ -183,16 +146,14 @@ replace-at-spec =
     slice-copy-out-is-negative
     is-negative-requires
     returns
-    mul-header-length
-    slice-copy-out-header-length
-    header-length-requires
+    next-at-requires
     add-first
-    add-next
     mul-any-negated
     sub-any-negated
     part-any-negated-start
     part-any-negated-end
     any-negated-requires
+    sub-n
     add-result-requires
     mul-record-line
     sub-record-line

@@ -1,16 +1,18 @@
+-- Invariant: the clauses before `at` are gone through (Pass, Passing).
 use mathlib.Core.Path.{_≡_, refl, _∙_}
 use native.Mathlib.Omega.{arith}
 use Prim.Native.Nat.{_-_}
 use lib.ListN.{length}
+use lib.Seq.{take-all}
 use denote.Ref.{now}
-use Rattle.store.specs.Store.{stored}
+use Rattle.progress.specs.Progress.{standing}
 use Rattle.progress.proofs.Laws.{written-length}
-use Rattle.pass_pure.proofs.Pass.{Passing, passing-start, passing-step, passing-end, passing-room}
+use Rattle.pass_pure.proofs.Pass.{Passing, passing-start, passing-step, passing-end, passing-room, standing-all}
 use Rattle.pass_pure.proofs.delete_all.Statement.{statement}
 use Rattle.pass_pure.proofs.delete_all.Tie as tie
 
 abbrev Inv-loop : tie.InvT-loop
-Inv-loop work₀ counts log₀ q₀ at₀ work log q at = (length work ≡ length work₀) × Passing (stored work₀) log₀ q₀ work at log q
+Inv-loop work₀ counts log₀ q₀ at₀ work log q at = (length work ≡ length work₀) × Passing (standing work₀ q₀) log₀ q₀ work at log q
 
 abbrev μ-loop : tie.MeasureT-loop
 μ-loop work₀ counts log₀ q₀ at₀ work log q at = length work - at
@@ -19,7 +21,9 @@ loop-holds : tie.Need-loop-holds Inv-loop μ-loop
 loop-holds c =
     let start = c .before .before in (
       refl,
-      passing-start (now (start .args .work)) (now (start .args .log)) (start .args .p) (start .pre .formed)
+      passing-start (now (start .args .work)) (now (start .args .log)) (start .args .p)
+          (standing-all (now (start .args .work)) (start .args .p) (start .pre .whole))
+          (rw (take-all (start .args .p .end) (now (start .args .work)) (omega (arith, start .pre .whole))) at (start .pre .good .formed))
           (start .pre .free),
     )
 
@@ -31,7 +35,7 @@ delete-at-requires c κs =
     let back = c .before .before .before .before in let loop-test = back .loop-test in
     let back = back .before in let loop = back .loop in
     let start = back .before .before .before in
-    let r = passing-room (start .pre .room) (loop .inv .1) in
+    let r = passing-room (start .pre .good .room) (loop .inv .1) in
     ((loop-test .taken, loop .inv .1 .place .rest), (omega (arith, r .0), omega (arith, r .1)))
 
 loop-less : tie.Need-loop-less Inv-loop μ-loop
@@ -50,7 +54,7 @@ loop-again c =
     let start = back .before .before .before in
     rw (next-at .ensures) (
       delete-at .kept .0 ∙ loop .inv .0,
-      passing-step (loop .inv .1) (loop-test .taken) (now (start .args .counts)) (start .pre .fits) (start .pre .table)
+      passing-step (loop .inv .1) (loop-test .taken) (now (start .args .counts)) (start .pre .good .fits) (start .pre .table)
           _ _ _ (delete-at .ensures),
     )
 
@@ -61,7 +65,10 @@ same-length-2 : tie.Need-same-length-2 Inv-loop μ-loop
 same-length-2 c = written-length (c .before .loop .inv .1 .written)
 
 returns : tie.Need-returns Inv-loop μ-loop
-returns c = passing-end (c .before .loop .inv .1) (c .loop-test .left)
+returns c =
+    let loop = c .before .loop in
+    let start = c .before .before .before .before in
+    passing-end (now (start .args .work)) (loop .inv .1) (start .pre .whole) (loop .inv .0) (c .loop-test .left)
 
 pub delete-all-spec : {M : Type 1} → statement M
 delete-all-spec =

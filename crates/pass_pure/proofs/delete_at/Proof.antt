@@ -4,13 +4,14 @@ use lib.IntN.{ℤ}
 use mir.Syntax.{w32}
 use mir.Val.{ofZ, toZ}
 use denote.Ref.{now}
-use borrow.Author.Needs.{sfits-of, needs}
+use borrow.Author.Needs.{sfits-of}
 use Rattle.literals.specs.Literal.{negative}
 use Rattle.literals.proofs.Laws.{answered, at-arg}
 use Rattle.store.specs.Store.{header-at}
 use Rattle.store.proofs.Laws.{formed-next}
 use Rattle.pass_pure.proofs.Pass.{at-deleted, at-nothing, at-literal}
 use Rattle.pass_pure.specs.declared.Pure.{Pure}
+use borrow.Author.Needs.{needs}
 use Rattle.pass_pure.proofs.delete_at.Statement.{statement}
 use Rattle.pass_pure.proofs.delete_at.Tie as tie
 
@@ -26,10 +27,10 @@ is-negative-requires c κs = search needs
 returns : tie.Need-returns
 returns c =
     let start = c .before .before .before .before .before in
-    at-deleted (now (start .args .counts)) (now (start .args .work)) (start .args .at) (now (start .args .log))
-    (start .args .p)
-    (answered negative (header-at (now (start .args .work)) (start .args .at))
-    (sfits-of (c .before .before .is-negative-arg .given)) (c .before .is-negative .ensures) (c .if1 .taken))
+    let s = now (start .args .work) in
+    at-deleted (now (start .args .counts)) s (start .args .at) (now (start .args .log)) (start .args .p)
+    (answered negative (header-at s (start .args .at)) (sfits-of (c .before .before .is-negative-arg .given))
+    (c .before .is-negative .ensures) (c .if1 .taken))
 
 next-at-requires : tie.Need-next-at-requires
 next-at-requires c κs = search needs
@@ -61,30 +62,8 @@ pure-literal-requires c κs = search needs
 enum-known-l : tie.Need-enum-known-l
 enum-known-l c = search needs
 
-mul-record-first : tie.Need-mul-record-first
-mul-record-first c = search needs
-
-sub-record-first : tie.Need-sub-record-first
-sub-record-first c = search needs
-
-part-record-first-start : tie.Need-part-record-first-start
-part-record-first-start c = search needs
-
-part-record-first-end : tie.Need-part-record-first-end
-part-record-first-end c =
-    let back = c .before .before .before .before .before .before .before .before in let next-at = back .next-at in
-    let start = back .before .before .before .before .before .before .before in
-    omega (
-      arith,
-      next-at .ensures,
-      formed-next (now (start .args .work)) (start .args .at) (start .pre .0 .0) (start .pre .0 .1) .0,
-    )
-
-record-first-requires : tie.Need-record-first-requires
-record-first-requires c κs = search needs
-
-mark-deleted-requires : tie.Need-mark-deleted-requires
-mark-deleted-requires c κs = search needs
+delete-first-requires : tie.Need-delete-first-requires
+delete-first-requires c κs = search needs
 
 enum-told : tie.Need-enum-told
 enum-told c = search needs
@@ -97,8 +76,8 @@ same-length-2 c = search needs
 
 returns-2 : tie.Need-returns-2
 returns-2 c =
-    let back = c .before .before .before .before .before in let record-first = back .record-first in
-    let back = back .before .before .before .before in let known-told = back .known-told in
+    let back = c .before .before .before in let delete-first = back .delete-first in
+    let back = back .before .before .before in let known-told = back .known-told in
     let back = back .before in let l = back .l in
     let back = back .before .before in let pure-literal = back .pure-literal in
     let back = back .before .before .before in let next-at = back .next-at in
@@ -106,13 +85,13 @@ returns-2 c =
     let back = back .before in let is-negative = back .is-negative in
     let back = back .before in let is-negative-arg = back .is-negative-arg in
     let start = back .before .before .before in
+    let s = now (start .args .work) in
     let x = l .given .0 .0 in
-    at-literal (now (start .args .counts)) (now (start .args .work)) (start .args .at) (next-at .result)
-    (next-at .ensures)
-    (answered negative (header-at (now (start .args .work)) (start .args .at)) (sfits-of (is-negative-arg .given))
-    (is-negative .ensures) (if1 .left)) (toZ w32 (ofZ w32 x)) (pure-literal .ensures)
-    (l .given .1 ∙ sym (at-arg (λ (z : ℤ). Pure.Literal z) x (search (needs, known-told)))) (c .before .mark-deleted .ensures)
-    (record-first .ensures .0) (record-first .ensures .1)
+    at-literal (now (start .args .counts)) s (start .args .at) (next-at .result) (next-at .ensures)
+    (answered negative (header-at s (start .args .at)) (sfits-of (is-negative-arg .given)) (is-negative .ensures)
+    (if1 .left)) (toZ w32 (ofZ w32 x)) (pure-literal .ensures)
+    (l .given .1 ∙ sym (at-arg (λ (z : ℤ). Pure.Literal z) x (search (needs, known-told))))
+    (delete-first .ensures .1 .1) (delete-first .ensures .0) (delete-first .ensures .1 .0)
 
 same-length-3 : tie.Need-same-length-3
 same-length-3 c = search needs
@@ -124,11 +103,11 @@ returns-3 c =
     let back = back .before in let is-negative = back .is-negative in
     let back = back .before in let is-negative-arg = back .is-negative-arg in
     let start = back .before .before .before in
-    at-nothing (now (start .args .counts)) (now (start .args .work)) (start .args .at) (next-at .result)
-    (next-at .ensures)
-    (answered negative (header-at (now (start .args .work)) (start .args .at)) (sfits-of (is-negative-arg .given))
-    (is-negative .ensures) (if1 .left)) (now (start .args .log)) (start .args .p)
-    (c .before .before .pure-literal .ensures) (c .enum-told .given .1)
+    let s = now (start .args .work) in
+    at-nothing (now (start .args .counts)) s (start .args .at) (next-at .result) (next-at .ensures)
+    (answered negative (header-at s (start .args .at)) (sfits-of (is-negative-arg .given)) (is-negative .ensures)
+    (if1 .left)) (now (start .args .log)) (start .args .p) (c .before .before .pure-literal .ensures)
+    (c .enum-told .given .1)
 
 pub delete-at-spec : {M : Type 1} → statement M
 delete-at-spec =
@@ -146,12 +125,7 @@ delete-at-spec =
     part-pure-literal-end
     pure-literal-requires
     enum-known-l
-    mul-record-first
-    sub-record-first
-    part-record-first-start
-    part-record-first-end
-    record-first-requires
-    mark-deleted-requires
+    delete-first-requires
     enum-told
     same-length
     same-length-2

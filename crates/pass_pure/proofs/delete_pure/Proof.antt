@@ -1,7 +1,9 @@
+-- A pass over the store's own part of the workspace is one over the workspace (progress, runs-part).
 use mathlib.Core.Path.{sym}
 use lib.Seq.{length-take-le}
 use denote.Ref.{now}
-use Rattle.pass_pure.proofs.Pass.{ready-of, pass-ran}
+use Rattle.progress.proofs.Laws.{standing-part, runs-part}
+use Rattle.pass_pure.proofs.Pass.{passable}
 use borrow.Author.Needs.{needs}
 use Rattle.pass_pure.proofs.delete_pure.Statement.{statement}
 use Rattle.pass_pure.proofs.delete_pure.Tie as tie
@@ -15,7 +17,7 @@ slice-reshare-prefix-count-all c = search needs
 slice-aggregate-count-all-2 : tie.Need-slice-aggregate-count-all-2
 slice-aggregate-count-all-2 c =
     let start = c .before .before .before in
-    sym (length-take-le (start .args .p .end) (now (start .args .work)) (start .pre .inside))
+    sym (length-take-le (start .args .p .end) (now (start .args .work)) (start .pre .0 .inside))
 
 count-all-requires : tie.Need-count-all-requires
 count-all-requires c κs = search needs
@@ -26,7 +28,7 @@ slice-relend-prefix-delete-all c = search needs
 slice-aggregate-delete-all : tie.Need-slice-aggregate-delete-all
 slice-aggregate-delete-all c =
     let start = c .before .before .before .before .before .before in
-    sym (length-take-le (start .args .p .end) (now (start .args .work)) (start .pre .inside))
+    sym (length-take-le (start .args .p .end) (now (start .args .work)) (start .pre .0 .inside))
 
 slice-aggregate-delete-all-2 : tie.Need-slice-aggregate-delete-all-2
 slice-aggregate-delete-all-2 c = search needs
@@ -35,7 +37,7 @@ delete-all-requires : tie.Need-delete-all-requires
 delete-all-requires c κs =
     let back = c .before .before .before .before in let count-all = back .count-all in
     let start = back .before .before .before .before in
-    ready-of (start .pre) (count-all .ensures)
+    passable (start .pre .0) (start .pre .1) (count-all .ensures)
 
 same-length : tie.Need-same-length
 same-length c = search needs
@@ -47,7 +49,8 @@ returns : tie.Need-returns
 returns c =
     let back = c .before .before .before in let delete-all = back .delete-all in
     let start = back .before .before .before .before .before .before .before .before .before in
-    pass-ran (start .pre) (delete-all .kept .0) (delete-all .ensures)
+    rw (standing-part (now (start .args .work)) (start .args .p)) at
+    (runs-part (now (start .args .work)) (delete-all .last .0) (start .pre .0 .inside) (delete-all .ensures))
 
 pub delete-pure-spec : {M : Type 1} → statement M
 delete-pure-spec =

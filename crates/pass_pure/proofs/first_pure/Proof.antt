@@ -7,7 +7,8 @@ use denote.Ref.{now}
 use Rattle.literals.proofs.Laws.{answered, at-arg}
 use Rattle.definition.specs.Lists.{first}
 use Rattle.pass_pure.proofs.Tests.{first-hit, first-miss, first-end}
-use Rattle.pass_pure.specs.Table.{pure-in, as-pure}
+use Rattle.tables.specs.Counts.{pure-in}
+use Rattle.pass_pure.specs.Pass.{as-pure}
 use Rattle.pass_pure.specs.declared.Pure.{Pure}
 use Rattle.pass_pure.proofs.first_pure.Statement.{statement}
 use Rattle.pass_pure.proofs.first_pure.Tie as tie

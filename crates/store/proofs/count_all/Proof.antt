@@ -6,9 +6,9 @@ use native.Mathlib.Omega.{arith}
 use lib.ListN.{length, drop}
 use denote.Ref.{now}
 use Rattle.store.specs.Store.{Formed, stored, past}
-use Rattle.store.specs.Tally.{tallied-all}
+use Rattle.tables.specs.Entries.{tallied-all}
 use Rattle.store.proofs.Laws.{formed-next}
-use Rattle.store.proofs.Tables.{all-step, all-end}
+use Rattle.store.proofs.Counting.{all-step, all-end}
 use Rattle.store.proofs.count_all.Statement.{statement}
 use Rattle.store.proofs.count_all.Tie as tie
 

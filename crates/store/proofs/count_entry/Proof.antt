@@ -7,7 +7,7 @@ use denote.Ref.{now}
 use Rattle.literals.specs.Literal.{negative}
 use Rattle.literals.proofs.Laws.{answered}
 use Rattle.store.specs.Store.{header-at, size-at}
-use Rattle.store.specs.Tally.{tallied}
+use Rattle.tables.specs.Entries.{tallied}
 use Rattle.store.proofs.Laws.{formed-next}
 use Rattle.store.proofs.count_entry.Statement.{statement}
 use Rattle.store.proofs.count_entry.Tie as tie

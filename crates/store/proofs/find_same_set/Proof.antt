@@ -1,4 +1,5 @@
 use denote.Ref.{now}
+use Rattle.tables.specs.Sizes.{log-size}
 use Rattle.store.proofs.Marking.{marks-of}
 use borrow.Author.Needs.{needs}
 use Rattle.store.proofs.find_same_set.Statement.{statement}
@@ -10,11 +11,11 @@ find-plain-requires c κs = search needs
 returns : tie.Need-returns
 returns c = search needs
 
-slice-aggregate-mark-literals : tie.Need-slice-aggregate-mark-literals
-slice-aggregate-mark-literals c = search needs
+slice-aggregate-set-entries : tie.Need-slice-aggregate-set-entries
+slice-aggregate-set-entries c = search needs
 
-mark-literals-requires : tie.Need-mark-literals-requires
-mark-literals-requires c κs = search needs
+set-entries-requires : tie.Need-set-entries-requires
+set-entries-requires c κs = search needs
 
 slice-aggregate-find-marked : tie.Need-slice-aggregate-find-marked
 slice-aggregate-find-marked c = search needs
@@ -22,7 +23,7 @@ slice-aggregate-find-marked c = search needs
 find-marked-requires : tie.Need-find-marked-requires
 find-marked-requires c κs =
     let start = c .before .before .before .before .before in
-    (start .pre, rw (c .before .before .mark-literals .ensures) (marks-of 140002 (now (start .args .clause))))
+    (start .pre, rw (c .before .before .set-entries .ensures) (marks-of log-size (now (start .args .clause))))
 
 returns-2 : tie.Need-returns-2
 returns-2 c = search needs
@@ -33,8 +34,8 @@ find-same-set-spec =
     (tie.spec
     find-plain-requires
     returns
-    slice-aggregate-mark-literals
-    mark-literals-requires
+    slice-aggregate-set-entries
+    set-entries-requires
     slice-aggregate-find-marked
     find-marked-requires
     returns-2)

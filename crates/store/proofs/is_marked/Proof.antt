@@ -16,6 +16,9 @@ use Rattle.store.proofs.is_marked.Tie as tie
 literal-index-requires : tie.Need-literal-index-requires
 literal-index-requires c κs = search needs
 
+mul-result : tie.Need-mul-result
+mul-result c = search needs
+
 shared-slice-read-result : tie.Need-shared-slice-read-result
 shared-slice-read-result c = search needs
 
@@ -37,4 +40,4 @@ returns-2 c =
 pub is-marked-spec : {M : Type 1} → statement M
 is-marked-spec =
     tie.close
-    (tie.spec literal-index-requires shared-slice-read-result holds-requires returns returns-2)
+    (tie.spec literal-index-requires mul-result shared-slice-read-result holds-requires returns returns-2)

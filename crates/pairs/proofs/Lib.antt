@@ -1,0 +1,9 @@
+-- Laws for the caller: Laws.
+pub mod Slots
+pub mod Walking
+pub mod Lines
+pub mod Rows
+pub mod Fronts
+pub mod Copies
+pub mod Missing
+pub mod Laws

@@ -1,0 +1,71 @@
+-- The pairs of a choice: their slots in a table of counts, the pairs taken out of a store and counted, and their lines by the counts.
+use mathlib.Core.Path.{_≡_}
+use mathlib.Core.Bool.{Bool, true, false, _&&_, cond}
+use mathlib.Core.List.{List, [], _∷_}
+use Prim.Native.Nat.{ℕ, suc, _+_, _-_, _*_, _<_, max}
+use lib.Dec.{eqb, ltb, leb}
+use lib.IntN.{ℤ, pos}
+use lib.ListN.{length, getD, replicate}
+use Rattle.definition.specs.Lists.{count, those, for-from}
+use Rattle.definition.specs.Literals.{Clause, Formula}
+use Rattle.definition.specs.Standing.{Line}
+use Rattle.literals.specs.Literal.{negation}
+use Rattle.tables.specs.Entries.{counted-at}
+use Rattle.tables.specs.Places.{place-in}
+use Rattle.store.specs.Store.{Formed, stored, deleted-at, clause-at, marked}
+use Rattle.drat.specs.Lines.{line-of}
+
+-- the literal at a place, from 0 on
+abbrev pub literal-at : Clause → ℕ → ℤ
+literal-at l i = getD l i (pos 0)
+
+-- ---- slots
+
+-- how many there are, one for each two places; also the slot of a clause that is no pair
+abbrev pub slots : ℕ
+slots = 4096
+
+abbrev pub ordered-slot : ℕ → ℕ → ℕ
+ordered-slot a b = cond (ltb 0 a && (ltb a b && leb b 64)) ((a - 1) * 64 + (b - 1)) slots
+
+abbrev pub slot : ℕ → ℕ → ℕ
+slot a b = cond (ltb a b) (ordered-slot a b) (ordered-slot b a)
+
+-- by the table of the choice's places
+abbrev pub slot-of : List ℕ → Clause → ℕ
+slot-of t d = cond (eqb (length d) 2) (slot (place-in t (getD d 0 (pos 0))) (place-in t (getD d 1 (pos 0)))) slots
+
+abbrev pub slot-at : List ℕ → List ℤ → ℕ → ℕ
+slot-at t s at = cond (deleted-at s at) slots (slot-of t (clause-at s at))
+
+-- ---- the pairs taken out of a store, and counted
+
+-- the clause at a place is deleted and counted if it is a pair
+pub record Pair-step (t : List ℕ) (s : List ℤ) (at : ℕ) (counts : List ℕ) (new : List ℤ) (new-counts : List ℕ) : Type 0 where
+  pub store : new ≡ cond (ltb (slot-at t s at) slots) (marked s at) s
+  pub counted : new-counts ≡ cond (ltb (slot-at t s at) slots) (counted-at counts (slot-at t s at)) counts
+
+-- of F the clauses that are no pairs are left, and the others are counted
+pub record Pairs-taken (t : List ℕ) (F : Formula) (s : List ℤ) (counts : List ℕ) : Type 0 where
+  pub formed : Formed s
+  pub stands : stored s ≡ those (λ d. leb slots (slot-of t d)) F
+  pub counted : (n : ℕ) → n < slots → getD counts n 0 ≡ count (λ d. eqb (slot-of t d) n) F
+
+-- ---- the lines of pairs, by the table of counts
+
+-- how often a pair's line is written: the addition where it is missing, the deletion of each copy with the added one
+abbrev pub times-of : Bool → ℕ → ℕ
+times-of true n = max 1 n
+times-of false n = cond (eqb n 0) 1 0
+
+abbrev pub pair-clause : Clause → ℕ → ℕ → Clause
+pair-clause l i j = negation (literal-at l i) ∷ negation (literal-at l j) ∷ []
+
+abbrev pub cell-lines : Bool → List ℕ → Clause → ℕ → ℕ → List Line
+cell-lines d t l i j = replicate (times-of d (getD t (i * 64 + j) 0)) (line-of d (pair-clause l i j))
+
+abbrev pub row-lines : Bool → List ℕ → Clause → ℕ → List Line
+row-lines d t l i = for-from (suc i) (length l - suc i) (cell-lines d t l i)
+
+abbrev pub pair-lines : Bool → List ℕ → Clause → List Line
+pair-lines d t l = for-from 0 (length l) (row-lines d t l)

@@ -1,0 +1,5 @@
+pub mod Clearing
+pub mod Choosing
+pub mod Taking
+pub mod Turns
+pub mod Phases

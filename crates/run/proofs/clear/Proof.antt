@@ -1,0 +1,33 @@
+use Rattle.run.proofs.Clearing.{clash-ready, pure-ready, cleared-runs}
+use borrow.Author.Needs.{needs}
+use Rattle.run.proofs.clear.Statement.{statement}
+use Rattle.run.proofs.clear.Tie as tie
+
+clear-clashes-requires : tie.Need-clear-clashes-requires
+clear-clashes-requires c κs =
+    let start = c .before .before .before in
+    clash-ready (start .pre)
+
+delete-pure-requires : tie.Need-delete-pure-requires
+delete-pure-requires c κs =
+    let back = c .before .before .before .before .before in let clear-clashes = back .clear-clashes in
+    let start = back .before .before .before .before in
+    pure-ready (start .pre) (clear-clashes .ensures)
+
+same-length : tie.Need-same-length
+same-length c = search needs
+
+same-length-2 : tie.Need-same-length-2
+same-length-2 c = search needs
+
+returns : tie.Need-returns
+returns c =
+    let back = c .before .before .before in let delete-pure = back .delete-pure in
+    let back = back .before .before .before .before .before .before in let clear-clashes = back .clear-clashes in
+    let start = back .before .before .before .before in
+    cleared-runs (start .pre) (clear-clashes .ensures) (delete-pure .ensures)
+
+pub clear-spec : {M : Type 1} → statement M
+clear-spec =
+    tie.close
+    (tie.spec clear-clashes-requires delete-pure-requires same-length same-length-2 returns)

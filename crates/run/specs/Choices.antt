@@ -1,0 +1,85 @@
+-- The choices of a store: collected, arranged, and taken one after another.
+use mathlib.Core.Path.{_≡_}
+use mathlib.Core.Bool.{false, cond}
+use mathlib.Core.List.{List, [], map}
+use Prim.Native.Nat.{ℕ, _+_, _≤_, _<_, _^_}
+use lib.IntN.{ℤ}
+use lib.ListN.{length, take, drop}
+use Rattle.definition.specs.Literals.{Clause, Formula}
+use Rattle.definition.specs.Text.{Bytes}
+use Rattle.definition.specs.Events.{Event, choice-of}
+use Rattle.definition.specs.Counter.{choices, below-new, last-new}
+use Rattle.definition.specs.Alignment.{Arrangement, arranged}
+use Rattle.definition.specs.Reencoding.{Form, choice-events}
+use Rattle.definition.specs.Calls.{numbers-of}
+use Rattle.theory_base.specs.Clauses.{Parted}
+use Rattle.theory_room.specs.Choices.{used-after}
+use Rattle.theory_run.specs.Choices.{Takeable, All-takeable, taken-events}
+use Rattle.store.specs.Store.{Formed, stored, deleted-at, clause-at}
+use Rattle.progress.specs.declared.Progress.{Progress}
+use Rattle.progress.specs.Progress.{standing, Good, Runs}
+use Rattle.tables.specs.Sizes.{input-reach}
+use Rattle.run.specs.declared.Reached.{Reached}
+
+-- ---- chosen
+
+-- a good store, of whose choices no two have a variable in common, and room for them
+pub record Choosable (work : List ℤ) (p : Progress) (chosen : List ℤ) : Type 0 where
+  pub good : Good input-reach [] work p
+  pub parted : Parted (choices (standing work p))
+  pub space : numbers-of (choices (standing work p)) ≤ length chosen
+  pub few : length chosen < 2 ^ 31
+
+-- the choices of F fill the first r elements
+pub record Chosen (a : Arrangement) (F : Formula) (size r : ℕ) (chosen : List ℤ) : Type 0 where
+  pub inside : r ≤ size
+  pub same-size : length chosen ≡ size
+  pub formed : Formed (take r chosen)
+  pub stands : stored (take r chosen) ≡ map (arranged a F (choices F)) (choices F)
+
+-- ---- one choice taken
+
+pub record One-ready (form : Form) (work : List ℤ) (p : Progress) (l : Clause) (below : ℕ) : Type 0 where
+  pub good : Good below (choice-events form (standing work p) l (choice-of l below)) work p
+  pub clause : Clause
+  pub takeable : Takeable form (length work) (standing work p) clause (choice-of l below)
+
+-- ---- the choice at a place of the store of choices, where n is the highest variable used
+
+-- its events, if it stands
+abbrev pub events-at : Form → Formula → List ℤ → ℕ → ℕ → List Event
+events-at form F s at n = cond (deleted-at s at) [] (choice-events form F (clause-at s at) (choice-of (clause-at s at) (below-new n)))
+
+-- the highest variable used after it
+abbrev pub used-at : List ℤ → ℕ → ℕ → ℕ
+used-at s at n = cond (deleted-at s at) n (last-new (choice-of (clause-at s at) (below-new n)))
+
+-- how many choices it is
+abbrev pub count-at : List ℤ → ℕ → ℕ
+count-at s at = cond (deleted-at s at) 0 1
+
+pub record At-ready (form : Form) (work : List ℤ) (r : Reached) (chosen : List ℤ) (at : ℕ) : Type 0 where
+  pub inside : r .progress .end ≤ length work
+  pub formed : Formed (take (r .progress .end) work)
+  pub at-inside : at < length chosen
+  pub rest : Formed (drop at chosen)
+  pub few : r .choices < 2 ^ 31
+  pub one : deleted-at chosen at ≡ false → One-ready form work (r .progress) (clause-at chosen at) (below-new (r .highest))
+
+pub record Taken-at (form : Form) (work : List ℤ) (log : Bytes) (r : Reached) (chosen : List ℤ) (at : ℕ) (new-work : List ℤ) (new-log : Bytes) (q : Reached) : Type 0 where
+  pub runs : Runs (events-at form (standing work (r .progress)) chosen at (r .highest)) work log (r .progress) new-work new-log (q .progress)
+  pub choices : q .choices ≡ r .choices + count-at chosen at
+  pub highest : q .highest ≡ used-at chosen at (r .highest)
+
+-- ---- all choices taken, literals in the order in which they are taken
+
+pub record All-ready (form : Form) (work : List ℤ) (p : Progress) (chosen : List ℤ) (n : ℕ) : Type 0 where
+  pub good : Good n (taken-events form n (standing work p) (stored chosen)) work p
+  pub few : length chosen < 2 ^ 31
+  pub chosen-formed : Formed chosen
+  pub takeable : All-takeable form (length work) n (standing work p) (stored chosen)
+
+pub record Taken-all (form : Form) (work : List ℤ) (log : Bytes) (p : Progress) (ls : List Clause) (n : ℕ) (new-work : List ℤ) (new-log : Bytes) (r : Reached) : Type 0 where
+  pub runs : Runs (taken-events form n (standing work p) ls) work log p new-work new-log (r .progress)
+  pub choices : r .choices ≡ length ls
+  pub highest : r .highest ≡ used-after (λ l. l) n ls

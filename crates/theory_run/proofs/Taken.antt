@@ -1,0 +1,78 @@
+-- The choices as a store of them has them: literals in the order in which they are taken, and no clause. Which clause a choice was does not show in the lines.
+use mathlib.Core.Path.{_≡_, refl, sym, ap, _∙_}
+use mathlib.Core.List.{List, [], _∷_, _++_, map, append-assoc}
+use Prim.Native.Nat.{ℕ, _≤_}
+use native.Mathlib.Omega.{arith}
+use Rattle.definition.specs.Lists.{for-each}
+use Rattle.definition.specs.Literals.{Clause, Formula}
+use Rattle.definition.specs.Reading.{Input, input-limits}
+use Rattle.definition.specs.Standing.{Line, after}
+use Rattle.definition.specs.Events.{Choice}
+use Rattle.definition.specs.Counter.{last-new, take-choice}
+use Rattle.definition.specs.Order.{order-events}
+use Rattle.definition.specs.Reencoding.{lines-of, lines, Form, counter-form, order-form, Settings, choice-events, choices-events, cleared, chosen}
+use Rattle.definition.specs.Calls.{workspace-need}
+use Rattle.theory_base.proofs.Replay.{lines-++}
+use Rattle.theory_text.specs.Accepted.{Accepted}
+use Rattle.theory_room.specs.Choices.{as-choice, used-after, order-of, standing-after-first, next-choice}
+use Rattle.theory_run.specs.Choices.{Takeable, All-takeable, finished, at-choice, taken-events}
+use Rattle.theory_run.proofs.Choices.{choices-taken}
+
+-- ---- lines and variables
+
+taken-same : (F : Formula) (c d : Clause) (k : Choice) → lines-of (take-choice F c k) ≡ lines-of (take-choice F d k)
+unfolding take-choice lines-of
+taken-same F c d k = refl
+
+pub choice-lines-same : (form : Form) (F : Formula) (c d : Clause) (k : Choice) → lines (choice-events form F c k) ≡ lines (choice-events form F d k)
+unfolding choice-events lines for-each
+choice-lines-same counter-form F c d k = ap (λ (xs : List Line). xs ++ []) (taken-same F c d k)
+choice-lines-same order-form F c d k = ap (λ (xs : List Line). xs ++ lines (order-events k (after F xs))) (taken-same F c d k)
+
+pub taken-lines : (form : Form) (order : Clause → Clause) (n : ℕ) (F : Formula) (cs : List Clause) → lines (taken-events form n F (map order cs)) ≡ lines (choices-events form order n F cs)
+unfolding choices-events
+taken-lines form order n F [] = refl
+taken-lines form order n F (c ∷ cs) =
+    let k = as-choice n order c in
+    let es = choice-events form F c k in
+    let fs = choice-events form F (order c) k in
+    let e : lines fs ≡ lines es = choice-lines-same form F (order c) c k in
+    lines-++ fs (taken-events form (last-new k) (after F (lines fs)) (map order cs))
+    ∙ rw e (ap (λ (ls : List Line). lines es ++ ls) (taken-lines form order (last-new k) (after F (lines es)) cs))
+    ∙ sym (lines-++ es (choices-events form order (last-new k) (after F (lines es)) cs))
+
+pub taken-used : (order : Clause → Clause) (n : ℕ) (cs : List Clause) → used-after (λ l. l) n (map order cs) ≡ used-after order n cs
+unfolding used-after
+taken-used order n [] = refl
+taken-used order n (c ∷ cs) = taken-used order (last-new (as-choice n order c)) cs
+
+-- ---- each at its turn
+
+takeable-more : {form : Form} {size more : ℕ} {F : Formula} {c : Clause} {k : Choice} → size ≤ more → Takeable form size F c k → Takeable form more F c k
+takeable-more w t = record {
+  proper = t .proper;
+  fits = t .fits;
+  ready = t .ready;
+  least = t .least;
+  most = t .most;
+  reach = t .reach;
+  new-few = t .new-few;
+  space = omega (arith, t .space);
+  order-space = λ e. omega (arith, t .order-space e);
+  before = t .before;
+  front-proper = t .front-proper;
+}
+
+module _ (s : Settings) (i : Input) (a : Accepted input-limits i) (size : ℕ) (w : workspace-need i ≤ size) where
+  all-from : (cs ds : List Clause) → chosen s i ≡ cs ++ ds → All-takeable (s .form) size (used-after (order-of s i) (i .highest) cs) (standing-after-first s i cs) (map (order-of s i) ds)
+  all-from cs [] e = finished
+  all-from cs (c ∷ ds) e =
+      let k = next-choice s i cs c in
+      let F = standing-after-first s i cs in
+      let t = choices-taken i a s .at cs ds c e in
+      at-choice {ls = map (order-of s i) ds} c (takeable-more w (t .takeable))
+      (rw (t .next-below, choice-lines-same (s .form) F (order-of s i c) c k, ← t .next-stands)
+      (all-from (cs ++ (c ∷ [])) ds (e ∙ sym (append-assoc cs (c ∷ []) ds))))
+
+  pub all-takeable : All-takeable (s .form) size (i .highest) (cleared (i .formula)) (map (order-of s i) (chosen s i))
+  all-takeable = rw (choices-taken i a s .start-below, choices-taken i a s .start-stands) at (all-from [] (chosen s i) refl)

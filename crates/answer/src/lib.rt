@@ -12,7 +12,7 @@ ghost use Rattle.answer.specs.Table.{entry-of, marked, naming};
 ghost use Rattle.answer.specs.Output.{value-text, values-text};
 ghost use Rattle.answer.specs.Reading.{open-at, read-literal, Steps, Steps-open, Read-as, Ends};
 
-// ---- lines
+// ---- what a line is
 
 // Whether a line begins with `c`.
 fn is_comment(line: &[u8]) -> bool

@@ -1,4 +1,4 @@
--- Laws of the words of a line and of the rest of a line. Assumes nothing.
+-- The word at a place of a line: the bytes that end it, and what the reader answers.
 use mathlib.Core.Path.{_≡_, ap}
 use mathlib.Core.Bool.{Bool, true, false, not}
 use Prim.Native.Nat.{ℕ, _+_, _-_, _≤_, _<_}

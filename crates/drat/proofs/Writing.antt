@@ -1,4 +1,4 @@
--- Laws of the writers of proof lines. Assumes nothing.
+-- A proof line written: its clause with or without `d`, and into what is left of a buffer.
 use mathlib.Core.Path.{_≡_, sym, _∙_}
 use mathlib.Core.Bool.{Bool, true, false}
 use mathlib.Core.List.{[], _∷_, _++_}

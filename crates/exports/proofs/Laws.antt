@@ -3,25 +3,28 @@ use mathlib.Core.Path.{_≡_, refl, sym, ap, _∙_}
 use mathlib.Core.List.{List, [], _∷_}
 use Prim.Native.Nat.{ℕ}
 use native.Mathlib.Omega.{arith}
+use lib.IntN.{ℤ}
 use lib.ListN.{length, set, replicate}
 use Rattle.definition.specs.Checked.{Checked, fault, value}
 use Rattle.definition.specs.Literals.{literals-of}
 use Rattle.definition.specs.Text.{Bytes}
 use Rattle.definition.specs.Reading.{Input}
-use Rattle.definition.specs.Alignment.{Wish}
+use Rattle.definition.specs.Alignment.{Arrangement}
 use Rattle.definition.specs.Reencoding.{Form, Settings}
 use Rattle.definition.specs.Calls.{Reencoded, Tally, reencode, buffer-after}
-use Rattle.dimacs.specs.declared.ReadBack.the-variants as ReadBack
-use Rattle.dimacs.specs.Outcome.{read-back-of}
+use Rattle.call_read_back.specs.declared.ReadBack.the-variants as ReadBack
+use Rattle.call_read_back.specs.Outcome.{read-back-of}
 use Rattle.call_walk_back.specs.declared.WalkedBack.the-variants as WalkedBack
 use Rattle.call_walk_back.specs.Outcome.{walked-back-of}
-use Rattle.call_reencode.specs.declared.Form as Code-form
-use Rattle.call_reencode.specs.declared.Wish as Code-wish
+use Rattle.run.specs.declared.Form as Code-form
+use Rattle.run.specs.declared.Arrangement as Code-arrangement
+use Rattle.run.specs.declared.Settings as Code-settings
+use Rattle.run.specs.Settings.{named-form, named-arrangement, settings-of}
 use Rattle.call_reencode.specs.declared.Tally as Code
 use Rattle.call_reencode.specs.declared.Reencoding as Code-outcome
 use Rattle.call_reencode.specs.declared.Reencoding.the-variants as Reencoding
-use Rattle.call_reencode.specs.Outcome.{named-form, named-wish, settings-of, outcome-of}
-use Rattle.exports.specs.Numbers.{form-number, wish-number, settings-number, number-of}
+use Rattle.call_reencode.specs.Outcome.{outcome, outcome-of}
+use Rattle.exports.specs.Numbers.{form-number, arrangement-number, settings-number, number-of, reencoding}
 use Rattle.exports.specs.Counts.{overwritten, tally-after, walk-back-counts, read-back-counts, reencoding-counts, done-counts}
 
 -- one count, three counts, six counts
@@ -100,32 +103,31 @@ reencoding-refused (fault m) n before after e w = (cc, w)
 reencoding-refused (value r) n before after e w = let z : _≡_ {A = ℕ} 0 1 = cc in absurd (omega arith)
 
 -- the settings that two numbers name
-pub settings-named : (f : Code-form.Form) (w : Code-wish.Wish) (m n : ℕ) → named-form f ≡ form-number m → named-wish w ≡ wish-number n → settings-of f w ≡ settings-number m n
-settings-named f w m n e d =
-    ap (λ (x : Form). record { form = x; wish = named-wish w }) e ∙ ap (λ (y : Wish). record { form = form-number m; wish = y }) d
+pub settings-named : (f : Code-form.Form) (a : Code-arrangement.Arrangement) (m n : ℕ) → named-form f ≡ form-number m → named-arrangement a ≡ arrangement-number n → settings-of (record { form = f; arrangement = a }) ≡ settings-number m n
+settings-named f a m n e d = rw (e, d) refl
 
--- what the exported call ensures, from what reencoding ensures for the form and the wish that the numbers name
-module _ (f : Code-form.Form) (w : Code-wish.Wish) (m n room : ℕ) (text log log' formula formula' : Bytes) (before after : List ℕ) (r : Code-outcome.Reencoding)
-    (ef : named-form f ≡ form-number m) (ew : named-wish w ≡ wish-number n)
-    (er : r ≡ outcome-of (reencode (settings-of f w) room (length log) (length formula) text))
-    (el : log' ≡ buffer-after 0 (reencode (settings-of f w) room (length log) (length formula) text) (λ o. o .log) log)
-    (eo : formula' ≡ buffer-after 0 (reencode (settings-of f w) room (length log) (length formula) text) (λ o. o .formula) formula)
+-- what the exported call ensures, from what reencoding ensures for the settings that the numbers name
+module _ (s : Code-settings.Settings) (m n : ℕ) (text : Bytes) (work : List ℤ) (log formula : Bytes) {log' formula' : Bytes} (before : List ℕ) {after : List ℕ} {r : Code-outcome.Reencoding}
+    (es : settings-of s ≡ settings-number m n)
+    (er : r ≡ outcome-of (outcome s text work log formula))
+    (el : log' ≡ buffer-after 0 (outcome s text work log formula) (λ o. o .log) log)
+    (eo : formula' ≡ buffer-after 0 (outcome s text work log formula) (λ o. o .formula) formula)
   where
-    same-settings : reencode (settings-of f w) room (length log) (length formula) text ≡ reencode (settings-number m n) room (length log) (length formula) text
-    same-settings = ap (λ (s : Settings). reencode s room (length log) (length formula) text) (settings-named f w m n ef ew)
+    same-outcome : outcome s text work log formula ≡ reencoding m n text work log formula
+    same-outcome = ap (λ (z : Settings). reencode z (length work) (length log) (length formula) text) es
 
-    buffers-named : (log' ≡ buffer-after 0 (reencode (settings-number m n) room (length log) (length formula) text) (λ o. o .log) log) × (formula' ≡ buffer-after 0 (reencode (settings-number m n) room (length log) (length formula) text) (λ o. o .formula) formula)
-    buffers-named = (
-      el ∙ ap (λ (o : Checked Reencoded). buffer-after 0 o (λ x. x .log) log) same-settings,
-      eo ∙ ap (λ (o : Checked Reencoded). buffer-after 0 o (λ x. x .formula) formula) same-settings,
-    )
+    abbrev Exported : ℕ → List ℕ → Type 0
+    Exported k tally =
+        (k ≡ number-of (reencoding m n text work log formula))
+        × ((log' ≡ buffer-after 0 (reencoding m n text work log formula) (λ o. o .log) log)
+        × ((formula' ≡ buffer-after 0 (reencoding m n text work log formula) (λ o. o .formula) formula)
+        × (tally ≡ tally-after (reencoding m n text work log formula) reencoding-counts before)))
 
-    pub exported-done : (t : Code.Tally) → r ≡ Reencoding.Done t → after ≡ overwritten (done-counts t) before → (0 ≡ number-of (reencode (settings-number m n) room (length log) (length formula) text)) × ((log' ≡ buffer-after 0 (reencode (settings-number m n) room (length log) (length formula) text) (λ o. o .log) log) × ((formula' ≡ buffer-after 0 (reencode (settings-number m n) room (length log) (length formula) text) (λ o. o .formula) formula) × (after ≡ tally-after (reencode (settings-number m n) room (length log) (length formula) text) reencoding-counts before)))
-    exported-done t e c =
-        let k = reencoding-counted (reencode (settings-number m n) room (length log) (length formula) text) t before after (ap (λ (o : Checked Reencoded). outcome-of o) (sym same-settings) ∙ sym er ∙ e) c in
-        (k .0, (buffers-named .0, (buffers-named .1, k .1)))
+    with-buffers : {k : ℕ} → (k ≡ number-of (reencoding m n text work log formula)) × (after ≡ tally-after (reencoding m n text work log formula) reencoding-counts before) → Exported k after
+    with-buffers d = (d .0, (rw same-outcome at el, (rw same-outcome at eo, d .1)))
 
-    pub exported-refused : (k : ℕ) → r ≡ Reencoding.Refused k → after ≡ replicate (length before) 0 → (k ≡ number-of (reencode (settings-number m n) room (length log) (length formula) text)) × ((log' ≡ buffer-after 0 (reencode (settings-number m n) room (length log) (length formula) text) (λ o. o .log) log) × ((formula' ≡ buffer-after 0 (reencode (settings-number m n) room (length log) (length formula) text) (λ o. o .formula) formula) × (after ≡ tally-after (reencode (settings-number m n) room (length log) (length formula) text) reencoding-counts before)))
-    exported-refused k e c =
-        let d = reencoding-refused (reencode (settings-number m n) room (length log) (length formula) text) k before after (ap (λ (o : Checked Reencoded). outcome-of o) (sym same-settings) ∙ sym er ∙ e) c in
-        (d .0, (buffers-named .0, (buffers-named .1, d .1)))
+    pub exported-done : (t : Code.Tally) → r ≡ Reencoding.Done t → after ≡ overwritten (done-counts t) before → Exported 0 after
+    exported-done t e c = with-buffers (reencoding-counted (reencoding m n text work log formula) t before after (sym (rw same-outcome at er) ∙ e) c)
+
+    pub exported-refused : (k : ℕ) → r ≡ Reencoding.Refused k → after ≡ replicate (length before) 0 → Exported k after
+    exported-refused k e c = with-buffers (reencoding-refused (reencoding m n text work log formula) k before after (sym (rw same-outcome at er) ∙ e) c)

@@ -1,21 +1,30 @@
--- Forms, wishes and outcomes as numbers.
+-- Forms, arrangements and outcomes as numbers.
 use mathlib.Core.Bool.{cond}
+use mathlib.Core.List.{List}
 use Prim.Native.Nat.{ℕ}
 use lib.Dec.{eqb}
+use lib.IntN.{ℤ}
+use lib.ListN.{length}
 use Rattle.definition.specs.Checked.{Checked, fault, value}
-use Rattle.definition.specs.Alignment.{Wish, no-wish, alignment}
+use Rattle.definition.specs.Alignment.{Arrangement, as-listed, alignment}
+use Rattle.definition.specs.Text.{Bytes}
 use Rattle.definition.specs.Reencoding.{Form, counter-form, order-form, Settings}
+use Rattle.definition.specs.Calls.{Reencoded, reencode}
 
 -- 0 is the counter form, any other number the order form
 abbrev pub form-number : ℕ → Form
 form-number n = cond (eqb n 0) counter-form order-form
 
--- 0 is no wish, any other number alignment
-abbrev pub wish-number : ℕ → Wish
-wish-number n = cond (eqb n 0) no-wish alignment
+-- 0 is as they stand, any other number alignment
+abbrev pub arrangement-number : ℕ → Arrangement
+arrangement-number n = cond (eqb n 0) as-listed alignment
 
 abbrev pub settings-number : ℕ → ℕ → Settings
-settings-number f w = record { form = form-number f; wish = wish-number w }
+settings-number f a = record { form = form-number f; arrangement = arrangement-number a }
+
+-- the outcome of reencoding: form, arrangement, text, workspace and both buffers
+abbrev pub reencoding : ℕ → ℕ → Bytes → List ℤ → Bytes → Bytes → Checked Reencoded
+reencoding f a text work log formula = reencode (settings-number f a) (length work) (length log) (length formula) text
 
 -- 0 for a value, else the fault's number
 unfoldable pub number-of : {A : Type 0} → Checked A → ℕ

@@ -4,15 +4,18 @@ ghost use mathlib.Core.Path.{_≡_};
 ghost use mathlib.Core.List.{[], _∷_};
 ghost use lib.IntN.{pos};
 ghost use lib.ListN.{length, set, replicate};
-ghost use Rattle.definition.specs.Calls.{reencode, walk-back, read-back, buffer-after};
-ghost use Rattle.dimacs.specs.Loading.{entries-of};
-ghost use Rattle.call_reencode.specs.Outcome.{named-form, named-wish};
-ghost use Rattle.exports.specs.Numbers.{form-number, wish-number, settings-number, number-of};
+ghost use Rattle.definition.specs.Calls.{buffer-after};
+ghost use Rattle.dimacs.specs.Entries.{entries-of};
+ghost use Rattle.run.specs.Settings.{named-form, named-arrangement, settings-of};
+ghost use Rattle.call_walk_back.specs.Outcome.{outcome as walk-back-outcome};
+ghost use Rattle.call_read_back.specs.Outcome.{outcome as read-back-outcome};
+ghost use Rattle.exports.specs.Numbers.{form-number, arrangement-number, settings-number, number-of, reencoding};
 ghost use Rattle.exports.specs.Counts.{overwritten, tally-after, reencoding-counts, done-counts, walk-back-counts, read-back-counts};
-use call_reencode::Form;
 use call_reencode::Reencoding;
 use call_reencode::Tally;
-use call_reencode::Wish;
+use run::Arrangement;
+use run::Form;
+use run::Settings;
 
 // ---- the tally
 
@@ -69,34 +72,47 @@ fn form_named(form: u32) -> Form
     Form::Order
 }
 
-// The wish that a number names: 0 none, any other alignment.
-fn wish_named(wish: u32) -> Wish
-    ensures { λ r. ⌜ named-wish r ≡ wish-number wish ⌝ }
+// The arrangement that a number names: 0 as they stand, any other alignment.
+fn arrangement_named(arrangement: u32) -> Arrangement
+    ensures { λ r. ⌜ named-arrangement r ≡ arrangement-number arrangement ⌝ }
 {
-    if wish == 0 {
-        return Wish::NoWish;
+    if arrangement == 0 {
+        return Arrangement::AsListed;
     }
-    Wish::Alignment
+    Arrangement::Alignment
 }
 
-// Reencodes a formula into two buffers. form is 0 for the counter form, any other number for the order form; wish is 0 for none,
-// any other number for alignment. The tally gets choices, H, M, log lines, the log's bytes and the formula's.
+// The settings that two numbers name.
+fn settings_named(form: u32, arrangement: u32) -> Settings
+    ensures { λ r. ⌜ settings-of r ≡ settings-number form arrangement ⌝ }
+{
+    let f = form_named(form);
+    let a = arrangement_named(arrangement);
+    Settings {
+        form: f,
+        arrangement: a,
+    }
+}
+
+// Reencodes a formula into two buffers. form is 0 for the counter form, any other number for the order form; arrangement is 0 for
+// literals as they stand, any other number for alignment. The tally gets choices, H, M, log lines, the log's bytes and the formula's.
 #[no_mangle]
 pub extern "C" fn sirgholyn_reencode(
     text: &[u8],
     form: u32,
-    wish: u32,
+    arrangement: u32,
     work: &mut [i32],
     log: &mut [u8],
     formula: &mut [u8],
     tally: &mut [u64],
 ) -> u32
-    ensures number { λ r. ⌜ r ≡ number-of (reencode (settings-number form wish) (length (now (work .entry))) (length (now (log .entry))) (length (now (formula .entry))) (now (text .entry))) ⌝ }
-    ensures log_after { λ _. ⌜ now (log .exit) ≡ buffer-after 0 (reencode (settings-number form wish) (length (now (work .entry))) (length (now (log .entry))) (length (now (formula .entry))) (now (text .entry))) (λ o. o .log) (now (log .entry)) ⌝ }
-    ensures formula_after { λ _. ⌜ now (formula .exit) ≡ buffer-after 0 (reencode (settings-number form wish) (length (now (work .entry))) (length (now (log .entry))) (length (now (formula .entry))) (now (text .entry))) (λ o. o .formula) (now (formula .entry)) ⌝ }
-    ensures counts { λ _. ⌜ now (tally .exit) ≡ tally-after (reencode (settings-number form wish) (length (now (work .entry))) (length (now (log .entry))) (length (now (formula .entry))) (now (text .entry))) reencoding-counts (now (tally .entry)) ⌝ }
+    ensures number { λ r. ⌜ r ≡ number-of (reencoding form arrangement (now (text .entry)) (now (work .entry)) (now (log .entry)) (now (formula .entry))) ⌝ }
+    ensures log_after { λ _. ⌜ now (log .exit) ≡ buffer-after 0 (reencoding form arrangement (now (text .entry)) (now (work .entry)) (now (log .entry)) (now (formula .entry))) (λ o. o .log) (now (log .entry)) ⌝ }
+    ensures formula_after { λ _. ⌜ now (formula .exit) ≡ buffer-after 0 (reencoding form arrangement (now (text .entry)) (now (work .entry)) (now (log .entry)) (now (formula .entry))) (λ o. o .formula) (now (formula .entry)) ⌝ }
+    ensures counts { λ _. ⌜ now (tally .exit) ≡ tally-after (reencoding form arrangement (now (text .entry)) (now (work .entry)) (now (log .entry)) (now (formula .entry))) reencoding-counts (now (tally .entry)) ⌝ }
 {
-    match call_reencode::reencode(text, form_named(form), wish_named(wish), work, log, formula) {
+    let settings = settings_named(form, arrangement);
+    match call_reencode::reencode(text, settings, work, log, formula) {
         Reencoding::Done(t) => {
             put_done(tally, t);
             0
@@ -121,9 +137,9 @@ pub extern "C" fn sirgholyn_walk_back(
     out: &mut [u8],
     tally: &mut [u64],
 ) -> u32
-    ensures number { λ r. ⌜ r ≡ number-of (walk-back (length (now (work .entry))) (length (now (out .entry))) kept (now (formula .entry)) (now (log .entry)) (now (answer .entry))) ⌝ }
-    ensures buffer { λ _. ⌜ now (out .exit) ≡ buffer-after 0 (walk-back (length (now (work .entry))) (length (now (out .entry))) kept (now (formula .entry)) (now (log .entry)) (now (answer .entry))) (λ t. t) (now (out .entry)) ⌝ }
-    ensures counts { λ _. ⌜ now (tally .exit) ≡ tally-after (walk-back (length (now (work .entry))) (length (now (out .entry))) kept (now (formula .entry)) (now (log .entry)) (now (answer .entry))) walk-back-counts (now (tally .entry)) ⌝ }
+    ensures number { λ r. ⌜ r ≡ number-of (walk-back-outcome (now (work .entry)) (now (out .entry)) kept (now (formula .entry)) (now (log .entry)) (now (answer .entry))) ⌝ }
+    ensures buffer { λ _. ⌜ now (out .exit) ≡ buffer-after 0 (walk-back-outcome (now (work .entry)) (now (out .entry)) kept (now (formula .entry)) (now (log .entry)) (now (answer .entry))) (λ t. t) (now (out .entry)) ⌝ }
+    ensures counts { λ _. ⌜ now (tally .exit) ≡ tally-after (walk-back-outcome (now (work .entry)) (now (out .entry)) kept (now (formula .entry)) (now (log .entry)) (now (answer .entry))) walk-back-counts (now (tally .entry)) ⌝ }
 {
     match call_walk_back::walk_back(formula, log, kept, answer, work, out) {
         call_walk_back::WalkedBack::Line(n) => {
@@ -142,16 +158,16 @@ pub extern "C" fn sirgholyn_walk_back(
 // Reads the new formula back into a store of clauses. The tally gets V, the clauses and the literals.
 #[no_mangle]
 pub extern "C" fn sirgholyn_read_back(text: &[u8], store: &mut [i32], tally: &mut [u64]) -> u32
-    ensures number { λ r. ⌜ r ≡ number-of (read-back (length (now (store .entry))) (now (text .entry))) ⌝ }
-    ensures buffer { λ _. ⌜ now (store .exit) ≡ buffer-after (pos 0) (read-back (length (now (store .entry))) (now (text .entry))) entries-of (now (store .entry)) ⌝ }
-    ensures counts { λ _. ⌜ now (tally .exit) ≡ tally-after (read-back (length (now (store .entry))) (now (text .entry))) read-back-counts (now (tally .entry)) ⌝ }
+    ensures number { λ r. ⌜ r ≡ number-of (read-back-outcome (now (store .entry)) (now (text .entry))) ⌝ }
+    ensures buffer { λ _. ⌜ now (store .exit) ≡ buffer-after (pos 0) (read-back-outcome (now (store .entry)) (now (text .entry))) entries-of (now (store .entry)) ⌝ }
+    ensures counts { λ _. ⌜ now (tally .exit) ≡ tally-after (read-back-outcome (now (store .entry)) (now (text .entry))) read-back-counts (now (tally .entry)) ⌝ }
 {
-    match dimacs::read_back(text, store) {
-        dimacs::ReadBack::Read(v, c, l) => {
+    match call_read_back::read_back(text, store) {
+        call_read_back::ReadBack::Read(v, c, l) => {
             put_read(tally, v, c, l);
             0
         }
-        dimacs::ReadBack::Refused(n) => {
+        call_read_back::ReadBack::Refused(n) => {
             zero_counts(tally);
             n as u32
         }

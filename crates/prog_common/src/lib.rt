@@ -1,30 +1,39 @@
 // What the programs share: arguments, files, and the line of a refusal.
 ghost use Rattle.io.specs.Counts.{Counts};
-use call_reencode::Form;
-use call_reencode::Wish;
+use call_reencode::Reencoding;
 use libc::STDOUT_FILENO;
+use run::Arrangement;
+use run::Form;
+use run::Settings;
 
 // Whether an argument is a word.
-pub fn is_arg(i: usize, word: &[u8]) -> bool {
+fn is_arg(i: usize, word: &[u8]) -> bool {
     let mut buf = [0u8; 16];
     let n = os::arg(i, &mut buf);
     check::same(&buf[..n], word)
 }
 
 // The form that the first argument names: the order form for `order`, else the counter form.
-pub fn named_form() -> Form {
+fn named_form() -> Form {
     if is_arg(1, b"order") {
         return Form::Order;
     }
     Form::Counter
 }
 
-// The wish that the second argument names: alignment for `align`, else none.
-pub fn named_wish() -> Wish {
+// The arrangement that the second argument names: alignment for `align`, else as the literals stand.
+fn named_arrangement() -> Arrangement {
     if is_arg(2, b"align") {
-        return Wish::Alignment;
+        return Arrangement::Alignment;
     }
-    Wish::NoWish
+    Arrangement::AsListed
+}
+
+// The settings that the arguments name.
+fn named_settings() -> Settings {
+    let form = named_form();
+    let arrangement = named_arrangement();
+    Settings { form, arrangement }
 }
 
 // A number given as an argument; 0 if it is none up to 1,000,000.
@@ -70,4 +79,41 @@ pub fn print_start(buf: &[u8], n: usize) {
     if n <= buf.len() {
         io::write_all(STDOUT_FILENO, &buf[..n]);
     }
+}
+
+// ---- reencoding
+
+// Reads a formula, reencodes it as the arguments say and prints the log or the new formula, or the number of the refusal.
+fn print_reencoded(
+    is_log: bool,
+    text: &mut [u8],
+    work: &mut [i32],
+    log: &mut [u8],
+    formula: &mut [u8],
+) {
+    let n = io::read_full(0, text);
+    if text.len() <= n {
+        print_too_long();
+        return;
+    }
+    let settings = named_settings();
+    match call_reencode::reencode(&text[..n], settings, work, log, formula) {
+        Reencoding::Refused(k) => print_refusal(k),
+        Reencoding::Done(t) => {
+            if is_log {
+                print_start(log, t.log_bytes);
+            } else {
+                print_start(formula, t.formula_bytes);
+            }
+        }
+    }
+}
+
+// Reencodes the formula on standard input, with the workspace of a formula at document 01's limits.
+pub fn reencode_input(is_log: bool) {
+    let mut text = [0u8; 524288];
+    let mut work = [0i32; 1296192];
+    let mut log = [0u8; 1048576];
+    let mut formula = [0u8; 524288];
+    print_reencoded(is_log, &mut text, &mut work, &mut log, &mut formula);
 }

@@ -1,11 +1,12 @@
 // Runs the listed sessions that are not shown by proof, a line for each.
 mod texts;
 
-use call_reencode::Form;
 use call_reencode::Reencoding;
 use call_reencode::Tally;
-use call_reencode::Wish;
 use libc::STDOUT_FILENO;
+use run::Arrangement;
+use run::Form;
+use run::Settings;
 
 // Prints a number after a blank.
 pub fn print_number(n: usize) {
@@ -18,20 +19,20 @@ pub fn print_end() {
     io::write_all(STDOUT_FILENO, b"\n");
 }
 
+// Counter form.
+fn counter(arrangement: Arrangement) -> Settings {
+    let form = Form::Counter;
+    Settings { form, arrangement }
+}
+
 // Prints the number of the outcome: 0, or that of the refusal.
 fn print_outcome(text: &[u8]) {
     let mut work = [0i32; 16384];
     let mut log = [0u8; 1024];
     let mut formula = [0u8; 1024];
     io::write_all(STDOUT_FILENO, b"refusal");
-    match call_reencode::reencode(
-        text,
-        Form::Counter,
-        Wish::NoWish,
-        &mut work,
-        &mut log,
-        &mut formula,
-    ) {
+    let s = counter(Arrangement::AsListed);
+    match call_reencode::reencode(text, s, &mut work, &mut log, &mut formula) {
         Reencoding::Done(_) => print_number(0),
         Reencoding::Refused(n) => print_number(n as usize),
     }
@@ -68,9 +69,8 @@ fn print_size(size: u8) {
     io::write_all(STDOUT_FILENO, b"size");
     print_number(size as usize);
     if n <= text.len() {
-        let f = Form::Counter;
-        let w = Wish::NoWish;
-        match call_reencode::reencode(&text[..n], f, w, &mut work, &mut log, &mut formula) {
+        let s = counter(Arrangement::AsListed);
+        match call_reencode::reencode(&text[..n], s, &mut work, &mut log, &mut formula) {
             Reencoding::Done(t) => print_tally(t),
             Reencoding::Refused(k) => prog_common::print_refusal(k),
         }
@@ -79,13 +79,14 @@ fn print_size(size: u8) {
 }
 
 // 1..5 and 6..10, linked 1-8 and 2-6; each negated literal stands twice. Prints the log's line that deletes the second choice.
-fn print_alignment(wish: Wish) {
+fn print_alignment(arrangement: Arrangement) {
     let text =
         b"p cnf 10 24\n1 2 3 4 5 0\n6 7 8 9 10 0\n-1 0\n-1 0\n-2 0\n-2 0\n-3 0\n-3 0\n-4 0\n-4 0\n-5 0\n-5 0\n-6 0\n-6 0\n-7 0\n-7 0\n-8 0\n-8 0\n-9 0\n-9 0\n-10 0\n-10 0\n-1 -8 0\n-2 -6 0\n";
     let mut work = [0i32; 16384];
     let mut log = [0u8; 1024];
     let mut formula = [0u8; 1024];
-    match call_reencode::reencode(text, Form::Counter, wish, &mut work, &mut log, &mut formula) {
+    let s = counter(arrangement);
+    match call_reencode::reencode(text, s, &mut work, &mut log, &mut formula) {
         Reencoding::Done(_) => {
             let a = texts::past_lines(&log, 63);
             let b = texts::past_lines(&log, 64);
@@ -101,6 +102,6 @@ fn main() {
     print_size(5);
     print_size(64);
     print_size(65);
-    print_alignment(Wish::NoWish);
-    print_alignment(Wish::Alignment);
+    print_alignment(Arrangement::AsListed);
+    print_alignment(Arrangement::Alignment);
 }

@@ -1,9 +1,10 @@
 // Buffers and workspaces of just the length that is asked for, and one short: the refusal, and its buffers all zero.
-use call_reencode::Form;
 use call_reencode::Reencoding;
-use call_reencode::Wish;
 use call_walk_back::WalkedBack;
 use libc::STDOUT_FILENO;
+use run::Arrangement;
+use run::Form;
+use run::Settings;
 
 // Fills a buffer with a pattern.
 fn fill(buf: &mut [u8]) {
@@ -42,12 +43,18 @@ fn print_zero(is_all: bool) {
     }
 }
 
-// Reencodes session F in order form, over filled buffers.
-fn print_reencoding(work: &mut [i32], log: &mut [u8], formula: &mut [u8]) {
-    let text = b"p cnf 6 7\n1 2 3 4 5 0\n-1 -2 0\n-1 6 0\n-2 6 0\n-3 6 0\n-4 -6 0\n-5 -6 0\n";
+// Order form, literals as they stand.
+fn order() -> Settings {
+    let form = Form::Order;
+    let arrangement = Arrangement::AsListed;
+    Settings { form, arrangement }
+}
+
+// Reencodes a formula in order form, over filled buffers.
+fn print_reencoding(text: &[u8], work: &mut [i32], log: &mut [u8], formula: &mut [u8]) {
     fill(log);
     fill(formula);
-    match call_reencode::reencode(text, Form::Order, Wish::NoWish, work, log, formula) {
+    match call_reencode::reencode(text, order(), work, log, formula) {
         Reencoding::Done(_) => print_outcome(b"reencode", 0),
         Reencoding::Refused(n) => print_outcome(b"reencode", n),
     }
@@ -56,9 +63,8 @@ fn print_reencoding(work: &mut [i32], log: &mut [u8], formula: &mut [u8]) {
     io::write_all(STDOUT_FILENO, b"\n");
 }
 
-// Walks session H back over its log and a filled buffer.
-fn print_walk_back(log: &[u8], work: &mut [i32], out: &mut [u8]) {
-    let formula = b"p cnf 6 7\n1 2 3 4 5 0\n-1 -2 0\n-1 6 0\n-2 6 0\n-3 6 0\n-4 -6 0\n-5 -6 0\n";
+// Walks session H's answer back over a log and a filled buffer.
+fn print_walk_back(formula: &[u8], log: &[u8], work: &mut [i32], out: &mut [u8]) {
     let answer = b"s SATISFIABLE\nv 1 2 3 4 5 -6 -7 -8 -9 10 0\n";
     fill(out);
     match call_walk_back::walk_back(formula, log, 59, answer, work, out) {
@@ -71,21 +77,22 @@ fn print_walk_back(log: &[u8], work: &mut [i32], out: &mut [u8]) {
 
 // Session F: 8,582 entries, 533 bytes and 77 bytes; session H: 956 entries and 21 bytes.
 fn main() {
+    let text = b"p cnf 6 7\n1 2 3 4 5 0\n-1 -2 0\n-1 6 0\n-2 6 0\n-3 6 0\n-4 -6 0\n-5 -6 0\n";
     let mut work = [0i32; 8582];
     let mut log = [0u8; 533];
     let mut formula = [0u8; 77];
     let mut short_work = [0i32; 8581];
     let mut short_log = [0u8; 532];
     let mut short_formula = [0u8; 76];
-    print_reencoding(&mut short_work, &mut log, &mut formula);
-    print_reencoding(&mut work, &mut short_log, &mut formula);
-    print_reencoding(&mut work, &mut log, &mut short_formula);
-    print_reencoding(&mut work, &mut log, &mut formula);
+    print_reencoding(text, &mut short_work, &mut log, &mut formula);
+    print_reencoding(text, &mut work, &mut short_log, &mut formula);
+    print_reencoding(text, &mut work, &mut log, &mut short_formula);
+    print_reencoding(text, &mut work, &mut log, &mut formula);
     let mut table = [0i32; 956];
     let mut short_table = [0i32; 955];
     let mut line = [0u8; 21];
     let mut short_line = [0u8; 20];
-    print_walk_back(&log, &mut short_table, &mut line);
-    print_walk_back(&log, &mut table, &mut short_line);
-    print_walk_back(&log, &mut table, &mut line);
+    print_walk_back(text, &log, &mut short_table, &mut line);
+    print_walk_back(text, &log, &mut table, &mut short_line);
+    print_walk_back(text, &log, &mut table, &mut line);
 }

@@ -7,7 +7,7 @@ use crate::order::put_in_order;
 use crate::reading::Formula;
 use crate::standing::Standing;
 use crate::texts::Line;
-use crate::{Form, Wish};
+use crate::{Arrangement, Form};
 
 /// How often the remarkable cases occurred.
 #[derive(Debug, Clone, Default, PartialEq, Eq)]
@@ -45,7 +45,7 @@ pub struct Encoding {
 }
 
 impl Encoding {
-    pub fn run(formula: &Formula, form: Form, wish: Wish) -> Encoding {
+    pub fn run(formula: &Formula, form: Form, arrangement: Arrangement) -> Encoding {
         let mut encoding = Encoding {
             standing: Standing::new(&formula.clauses),
             log: Vec::new(),
@@ -60,7 +60,7 @@ impl Encoding {
 
         let places = choice_places(&encoding.standing);
         let mut choices: Vec<Vec<i32>> = places.iter().map(|&p| encoding.clause(p)).collect();
-        if wish == Wish::Align {
+        if arrangement == Arrangement::Alignment {
             match align(&mut choices, &encoding.standing.clauses()) {
                 Outcome::Aligned { chained } => {
                     encoding.tally.aligned += 1;

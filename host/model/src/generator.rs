@@ -3,6 +3,7 @@
 
 use crate::reading::Formula;
 use crate::texts::{formula_text, Line};
+use crate::walk_back::{highest_allowed, is_true, replay};
 
 /// An xorshift generator.
 pub struct Random(u64);
@@ -370,4 +371,34 @@ pub fn answer_for(random: &mut Random, values: &[bool]) -> Vec<u8> {
         text += if random.chance(20) { "c after" } else { "" };
     }
     text.into_bytes()
+}
+
+/// Values for 1..highest that satisfy the clauses, if a short search finds some.
+fn values_for(random: &mut Random, clauses: &[Vec<i32>], highest: usize) -> Vec<bool> {
+    let mut values: Vec<bool> = (0..=highest).map(|_| random.chance(50)).collect();
+    for _ in 0..(3 * highest).min(200) {
+        let failing: Vec<&Vec<i32>> = clauses
+            .iter()
+            .filter(|clause| !clause.iter().any(|&literal| is_true(literal, &values)))
+            .take(3)
+            .collect();
+        if failing.is_empty() {
+            break;
+        }
+        let clause = *random.one_of(&failing);
+        if clause.is_empty() {
+            break;
+        }
+        let literal = *random.one_of(clause);
+        values[literal.unsigned_abs() as usize] = literal > 0;
+    }
+    values
+}
+
+/// An answer that mostly satisfies what stands after the lines.
+pub fn answer_after(random: &mut Random, formula: &Formula, kept: &[Line]) -> Vec<u8> {
+    let standing = replay(&formula.clauses, kept).unwrap_or_default();
+    let highest = highest_allowed(formula, kept);
+    let values = values_for(random, &standing, highest as usize);
+    answer_for(random, &values)
 }

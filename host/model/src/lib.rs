@@ -14,6 +14,7 @@ pub mod generator;
 pub mod log_reading;
 pub mod order;
 pub mod reading;
+pub mod sessions;
 pub mod standing;
 pub mod texts;
 pub mod valleys;
@@ -31,11 +32,11 @@ pub enum Form {
     Order,
 }
 
-/// Whether the caller wishes the choices aligned.
+/// Whether the caller arrangements the choices aligned.
 #[derive(Debug, Clone, Copy, PartialEq, Eq)]
-pub enum Wish {
-    None,
-    Align,
+pub enum Arrangement {
+    AsListed,
+    Alignment,
 }
 
 #[derive(Debug, Clone, PartialEq, Eq)]
@@ -54,7 +55,7 @@ pub struct Reencoded {
 pub fn reencode(
     text: &[u8],
     form: Form,
-    wish: Wish,
+    arrangement: Arrangement,
     workspace: u64,
     log_room: usize,
     formula_room: usize,
@@ -63,7 +64,7 @@ pub fn reencode(
     if workspace < formula.workspace_needed() {
         return Err(11);
     }
-    let encoding = Encoding::run(&formula, form, wish);
+    let encoding = Encoding::run(&formula, form, arrangement);
     let standing = encoding.standing.clauses();
     let log = log_text(&encoding.log);
     if log.len() > log_room {

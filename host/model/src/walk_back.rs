@@ -2,7 +2,7 @@
 
 use crate::answer::read_answer;
 use crate::log_reading::read_kept_lines;
-use crate::reading::{read_formula, INPUT_LIMITS};
+use crate::reading::{read_formula, Formula, INPUT_LIMITS};
 use crate::standing::Standing;
 use crate::texts::{answer_text, Line};
 
@@ -48,6 +48,21 @@ pub fn carry_back(lines: &[Line], values: &mut Assignment) {
     }
 }
 
+/// X, the greater of V and the highest variable in the kept lines.
+pub fn highest_allowed(formula: &Formula, kept: &[Line]) -> i32 {
+    kept.iter()
+        .flat_map(|line| &line.literals)
+        .map(|literal| literal.abs())
+        .fold(formula.variables, i32::max)
+}
+
+/// The 32-bit entries that walking back asks for.
+pub fn workspace_needed(formula: &Formula, kept: &[Line]) -> u64 {
+    let formula_numbers = formula.literal_count() + formula.clauses.len() as u64;
+    let line_numbers: u64 = kept.iter().map(|line| line.literals.len() as u64 + 1).sum();
+    4 * (formula_numbers + line_numbers) + 4 * highest_allowed(formula, kept) as u64 + 64
+}
+
 pub fn walk_back(
     formula: &[u8],
     log: &[u8],
@@ -58,19 +73,8 @@ pub fn walk_back(
 ) -> Result<Vec<u8>, u8> {
     let formula = read_formula(formula, &INPUT_LIMITS)?;
     let lines = read_kept_lines(log, keep)?;
-    let highest = lines
-        .iter()
-        .flat_map(|line| &line.literals)
-        .map(|literal| literal.abs())
-        .fold(formula.variables, i32::max);
-    let mut values = read_answer(answer, highest)?;
-
-    let formula_numbers = formula.literal_count() + formula.clauses.len() as u64;
-    let line_numbers: u64 = lines
-        .iter()
-        .map(|line| line.literals.len() as u64 + 1)
-        .sum();
-    if workspace < 4 * (formula_numbers + line_numbers) + 4 * highest as u64 + 64 {
+    let mut values = read_answer(answer, highest_allowed(&formula, &lines))?;
+    if workspace < workspace_needed(&formula, &lines) {
         return Err(11);
     }
 

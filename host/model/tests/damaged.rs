@@ -6,12 +6,15 @@ use model::generator::{answer_for, damage, damage_log, noise, planned, text_of, 
 use model::reading::{read_formula, INPUT_LIMITS};
 use model::texts::log_text;
 use model::walk_back::satisfies;
-use model::{read_back, reencode, walk_back, Form, Wish};
+use model::{read_back, reencode, walk_back, Arrangement, Form};
 use std::collections::BTreeMap;
 
-fn one_way(random: &mut Random) -> (Form, Wish) {
+fn one_way(random: &mut Random) -> (Form, Arrangement) {
     let form = *random.one_of(&[Form::Counter, Form::Order]);
-    (form, *random.one_of(&[Wish::None, Wish::Align]))
+    (
+        form,
+        *random.one_of(&[Arrangement::AsListed, Arrangement::Alignment]),
+    )
 }
 
 #[test]
@@ -29,10 +32,10 @@ fn damaged_formulas() {
         for _ in 0..random.below(3) {
             text = damage(&mut random, &text);
         }
-        let (form, wish) = one_way(&mut random);
+        let (form, arrangement) = one_way(&mut random);
         let workspace = 8_192 + random.below(2_000) as u64;
         let (log_room, formula_room) = (random.below(1_000), random.below(400));
-        match reencode(&text, form, wish, workspace, log_room, formula_room) {
+        match reencode(&text, form, arrangement, workspace, log_room, formula_room) {
             Ok(result) => {
                 *numbers.entry(0).or_default() += 1;
                 let (highest, clauses) = read_back(&result.formula, 1 << 40).unwrap();
@@ -54,8 +57,8 @@ fn damaged_logs_and_answers() {
         let mut random = Random::new(seed);
         let size = random.between(2, 7);
         let formula = planned(&mut random, size, 8);
-        let (form, wish) = one_way(&mut random);
-        let encoding = Encoding::run(&formula, form, wish);
+        let (form, arrangement) = one_way(&mut random);
+        let encoding = Encoding::run(&formula, form, arrangement);
         let mut text = text_of(&formula);
         let mut lines = encoding.log.clone();
         if random.chance(30) {

@@ -6,7 +6,7 @@ use model::generator::{noise, planned, Random};
 use model::reading::Formula;
 use model::texts::{answer_text, formula_text, log_text, Line};
 use model::walk_back::{carry_back, is_true, satisfies};
-use model::{read_back, walk_back, Form, Wish};
+use model::{read_back, walk_back, Arrangement, Form};
 
 /// One bit for each assignment; assignment a gives variable v the bit v - 1 of a.
 #[derive(Clone, PartialEq)]
@@ -170,9 +170,9 @@ fn apply(standing: &mut Vec<Vec<i32>>, line: &Line) {
 }
 
 /// All of demand 3 for one formula; the answer is whether it can be satisfied.
-fn check(formula: &Formula, form: Form, wish: Wish, random: &mut Random) -> bool {
-    let encoding = Encoding::run(formula, form, wish);
-    let seen = format!("{formula:?} {form:?} {wish:?}");
+fn check(formula: &Formula, form: Form, arrangement: Arrangement, random: &mut Random) -> bool {
+    let encoding = Encoding::run(formula, form, arrangement);
+    let seen = format!("{formula:?} {form:?} {arrangement:?}");
     let tables = Tables::new(encoding.highest as usize);
     let input = tables.list(&formula.clauses);
     let in_choices: Vec<usize> = encoding.input_clauses_in_choices();
@@ -294,11 +294,11 @@ impl Occurred {
     }
 }
 
-const WAYS: [(Form, Wish); 4] = [
-    (Form::Counter, Wish::None),
-    (Form::Counter, Wish::Align),
-    (Form::Order, Wish::None),
-    (Form::Order, Wish::Align),
+const WAYS: [(Form, Arrangement); 4] = [
+    (Form::Counter, Arrangement::AsListed),
+    (Form::Counter, Arrangement::Alignment),
+    (Form::Order, Arrangement::AsListed),
+    (Form::Order, Arrangement::Alignment),
 ];
 
 /// Runs the formulas of the seeds that need at most the given variables in total.
@@ -313,13 +313,13 @@ fn run(seeds: std::ops::Range<u64>, variables: (usize, usize), highest: i32) -> 
         } else {
             planned(&mut random, variable_count, clause_limit)
         };
-        let (form, wish) = *random.one_of(&WAYS);
-        let encoding = Encoding::run(&formula, form, wish);
+        let (form, arrangement) = *random.one_of(&WAYS);
+        let encoding = Encoding::run(&formula, form, arrangement);
         if encoding.highest > highest {
             continue;
         }
         occurred.count(&encoding);
-        let satisfiable = check(&formula, form, wish, &mut random);
+        let satisfiable = check(&formula, form, arrangement, &mut random);
         occurred.satisfiable += usize::from(satisfiable);
     }
     occurred

@@ -1,7 +1,7 @@
 //! Formulas at the reader's limits.
 
 use model::generator::largest_with;
-use model::{read_back, reencode, walk_back, Form, Wish};
+use model::{read_back, reencode, walk_back, Arrangement, Form};
 
 #[test]
 fn twenty_thousand_clauses() {
@@ -9,7 +9,8 @@ fn twenty_thousand_clauses() {
         let text = largest_with(size);
         for form in [Form::Counter, Form::Order] {
             let room = 1 << 30;
-            let result = reencode(&text, form, Wish::Align, 1 << 40, room, room).unwrap();
+            let result =
+                reencode(&text, form, Arrangement::Alignment, 1 << 40, room, room).unwrap();
             assert!(result.choices > 100);
             let (highest, clauses) = read_back(&result.formula, 1 << 40).unwrap();
             assert_eq!((highest, clauses.len()), (result.highest, result.clauses));

@@ -1,21 +1,29 @@
 //! The sessions listed in document 01, and the example vectors of its readings.
 
-use model::{read_back, reencode, walk_back, Form, Reencoded, Wish};
+use model::sessions::F;
+use model::{read_back, reencode, walk_back, Arrangement, Form, Reencoded};
 
 const PLENTY: usize = 1 << 30;
-const F: &str = "p cnf 6 7\n1 2 3 4 5 0\n-1 -2 0\n-1 6 0\n-2 6 0\n-3 6 0\n-4 -6 0\n-5 -6 0\n";
 const G_OUT: &str = "p cnf 10 8\n8 -7 0\n9 -8 0\n10 -9 0\n-7 6 0\n7 -8 6 0\n8 -9 6 0\n\
                      9 -10 -6 0\n10 -6 0\n";
 
 fn encode(text: &str, form: Form) -> Reencoded {
-    reencode(text.as_bytes(), form, Wish::None, 1 << 40, PLENTY, PLENTY).unwrap()
+    reencode(
+        text.as_bytes(),
+        form,
+        Arrangement::AsListed,
+        1 << 40,
+        PLENTY,
+        PLENTY,
+    )
+    .unwrap()
 }
 
 fn refusal(text: &str) -> u8 {
     reencode(
         text.as_bytes(),
         Form::Counter,
-        Wish::None,
+        Arrangement::AsListed,
         1 << 40,
         PLENTY,
         PLENTY,
@@ -147,8 +155,8 @@ fn two_choices(links: &[&str]) -> String {
     text
 }
 
-fn log_with(wish: Wish, form: Form, text: &str) -> String {
-    let result = reencode(text.as_bytes(), form, wish, 1 << 40, PLENTY, PLENTY).unwrap();
+fn log_with(arrangement: Arrangement, form: Form, text: &str) -> String {
+    let result = reencode(text.as_bytes(), form, arrangement, 1 << 40, PLENTY, PLENTY).unwrap();
     assert_eq!(result.choices, 2);
     String::from_utf8(result.log).unwrap()
 }
@@ -157,10 +165,10 @@ fn log_with(wish: Wish, form: Form, text: &str) -> String {
 fn alignment_example() {
     let text = two_choices(&["-1 -8", "-2 -6"]);
     for form in [Form::Counter, Form::Order] {
-        let plain = log_with(Wish::None, form, &text);
+        let plain = log_with(Arrangement::AsListed, form, &text);
         assert!(plain.contains("\nd 1 2 3 4 5 0\n"));
         assert!(plain.contains("\nd 6 7 8 9 10 0\n"));
-        let aligned = log_with(Wish::Align, form, &text);
+        let aligned = log_with(Arrangement::Alignment, form, &text);
         assert!(aligned.contains("\nd 1 2 3 4 5 0\n"));
         assert!(aligned.contains("\nd 8 6 7 9 10 0\n"));
     }
@@ -171,8 +179,8 @@ fn unalignable_choices_keep_their_orders() {
     let text = two_choices(&["-1 -8", "-8 -2", "-6 -5"]);
     for form in [Form::Counter, Form::Order] {
         assert_eq!(
-            log_with(Wish::None, form, &text),
-            log_with(Wish::Align, form, &text)
+            log_with(Arrangement::AsListed, form, &text),
+            log_with(Arrangement::Alignment, form, &text)
         );
     }
 }
@@ -197,7 +205,7 @@ fn short_workspace_and_buffers_of_reencoding() {
             reencode(
                 F.as_bytes(),
                 form,
-                Wish::None,
+                Arrangement::AsListed,
                 workspace,
                 log_room,
                 formula_room,

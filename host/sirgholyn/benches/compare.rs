@@ -10,7 +10,7 @@ mod formulas;
 
 use model::generator::{largest_with, text_of, Random};
 use model::valleys::Valley;
-use sirgholyn::{calls, Form, Wish};
+use sirgholyn::{calls, Arrangement, Form};
 use std::path::Path;
 use std::process::{Command, Stdio};
 use std::{env, fs};
@@ -50,7 +50,7 @@ fn reencode_once(who: &str, file: &str, form: &str, log: &str, formula: &str) {
         calls::reencode(
             &text,
             form,
-            Wish::Alignment,
+            Arrangement::Alignment,
             &mut work,
             &mut log,
             &mut formula,
@@ -62,7 +62,15 @@ fn reencode_once(who: &str, file: &str, form: &str, log: &str, formula: &str) {
         } else {
             model::Form::Counter
         };
-        model::reencode(&text, form, model::Wish::Align, work as u64, log, formula).unwrap();
+        model::reencode(
+            &text,
+            form,
+            model::Arrangement::Alignment,
+            work as u64,
+            log,
+            formula,
+        )
+        .unwrap();
     }
 }
 
@@ -216,7 +224,7 @@ fn measure_row(
     } else {
         Form::Counter
     };
-    let new = sirgholyn::reencode(text, named, Wish::Alignment, Default::default()).unwrap();
+    let new = sirgholyn::reencode(text, named, Arrangement::Alignment, Default::default()).unwrap();
     let own = env::current_exe().unwrap().to_string_lossy().into_owned();
     let by = |who: &str| {
         let (log, formula) = (new.log.len().to_string(), new.formula.len().to_string());

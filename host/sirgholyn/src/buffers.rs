@@ -1,6 +1,6 @@
 //! The calls with buffers of their own: made by the size of the texts, and larger until they fit.
 
-use crate::calls::{self, Counts, Form, Tally, Wish};
+use crate::calls::{self, Arrangement, Counts, Form, Tally};
 use crate::refusals::Refusal;
 use std::alloc::{alloc_zeroed, Layout};
 use std::fmt;
@@ -75,16 +75,16 @@ impl ReadBack {
 /// Refuses with 1 to 9; with 11, 12 and 13 only where the room for it is set.
 ///
 /// ```
-/// use sirgholyn::{reencode, Form, ReencodeRoom, Wish};
+/// use sirgholyn::{reencode, Form, ReencodeRoom, Arrangement};
 /// let text = b"p cnf 3 2\n1 2 0\n-1 3 0\n";
-/// let new = reencode(text, Form::Counter, Wish::None, ReencodeRoom::default()).unwrap();
+/// let new = reencode(text, Form::Counter, Arrangement::AsListed, ReencodeRoom::default()).unwrap();
 /// assert_eq!(new.log, b"2 3 0\nd 1 2 0\nd -1 3 0\nd 2 3 0\n");
 /// assert_eq!(new.formula, b"p cnf 3 0\n");
 /// ```
 pub fn reencode(
     text: &[u8],
     form: Form,
-    wish: Wish,
+    arrangement: Arrangement,
     room: ReencodeRoom,
 ) -> Result<Reencoded, Error> {
     let mut work = Buffer::new(
@@ -98,7 +98,7 @@ pub fn reencode(
         let outcome = calls::reencode(
             text,
             form,
-            wish,
+            arrangement,
             &mut work.entries,
             &mut log.entries,
             &mut formula.entries,

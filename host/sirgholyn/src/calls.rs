@@ -8,10 +8,10 @@ pub enum Form {
     Order,
 }
 
-/// What the caller wishes for the order of the choices' literals.
+/// What the caller arrangements for the order of the choices' literals.
 #[derive(Debug, Clone, Copy, PartialEq, Eq)]
-pub enum Wish {
-    None,
+pub enum Arrangement {
+    AsListed,
     Alignment,
 }
 
@@ -44,7 +44,7 @@ pub mod library {
             text: *const u8,
             text_len: usize,
             form: u32,
-            wish: u32,
+            arrangement: u32,
             work: *mut i32,
             work_len: usize,
             log: *mut u8,
@@ -110,7 +110,7 @@ fn outcome<R>(number: u32, result: R) -> Result<R, u32> {
 pub fn reencode(
     text: &[u8],
     form: Form,
-    wish: Wish,
+    arrangement: Arrangement,
     work: &mut [i32],
     log: &mut [u8],
     formula: &mut [u8],
@@ -119,9 +119,9 @@ pub fn reencode(
         Form::Counter => 0,
         Form::Order => 1,
     };
-    let wish = match wish {
-        Wish::None => 0,
-        Wish::Alignment => 1,
+    let arrangement = match arrangement {
+        Arrangement::AsListed => 0,
+        Arrangement::Alignment => 1,
     };
     let mut tally = [0u64; 6];
     let lent = &mut tally;
@@ -131,7 +131,7 @@ pub fn reencode(
             text.as_ptr(),
             text.len(),
             form,
-            wish,
+            arrangement,
             work.as_mut_ptr(),
             work.len(),
             log.as_mut_ptr(),

@@ -11,5 +11,5 @@ pub mod refusals;
 pub use buffers::{
     read_back, reencode, walk_back, Error, ReadBack, ReencodeRoom, Reencoded, WalkBackRoom,
 };
-pub use calls::{Counts, Form, Tally, Wish};
+pub use calls::{Arrangement, Counts, Form, Tally};
 pub use refusals::Refusal;

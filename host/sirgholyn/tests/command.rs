@@ -5,6 +5,7 @@ mod common;
 use common::drat;
 use common::solvers::Folder;
 use model::generator::{text_of, Random};
+use model::sessions::F;
 use model::valleys::Valley;
 use sirgholyn::plan;
 use std::fs;
@@ -13,7 +14,6 @@ use std::os::unix::fs::PermissionsExt;
 use std::path::Path;
 use std::process::{Command, Stdio};
 
-const F: &str = "p cnf 6 7\n1 2 3 4 5 0\n-1 -2 0\n-1 6 0\n-2 6 0\n-3 6 0\n-4 -6 0\n-5 -6 0\n";
 const ANSWER: &str = "s SATISFIABLE\nv 1 2 3 4 5 -6 -7 -8 -9 10 0\n";
 
 struct Ran {

@@ -2,16 +2,15 @@
 
 mod common;
 
-use common::formulas::{any_kind, values_for};
+use common::formulas::any_kind;
 use common::{
     compare_read_back, compare_reencode, compare_walk_back, new_formula, over_seeds, run_model,
     sum, walk_back_work, work_for, Room, WAYS,
 };
 use model::encoding::Encoding;
-use model::generator::{answer_for, damage, damage_log, text_of, Random};
+use model::generator::{answer_after, damage, damage_log, text_of, Random};
 use model::reading::Formula;
-use model::texts::{log_text, Line};
-use model::walk_back::replay;
+use model::texts::log_text;
 use std::collections::BTreeMap;
 
 const FORMULAS: u64 = 22_000;
@@ -68,8 +67,8 @@ fn in_order(seed: u64, occurred: &mut Occurred) {
     let formula = any_kind(&mut random);
     let text = text_of(&formula);
     for form in [0, 2] {
-        let (form, wish) = WAYS[form + random.below(2)];
-        let encoding = run_model(&formula, form, wish);
+        let (form, arrangement) = WAYS[form + random.below(2)];
+        let encoding = run_model(&formula, form, arrangement);
         note_run(occurred, &encoding);
         let log = log_text(&encoding.log);
         let new = new_formula(&encoding);
@@ -82,7 +81,7 @@ fn in_order(seed: u64, occurred: &mut Occurred) {
         outcome(
             occurred,
             "reencode",
-            compare_reencode(&text, form, wish, room),
+            compare_reencode(&text, form, arrangement, room),
         );
 
         let store = around(&mut random, work_for(&new));
@@ -94,7 +93,7 @@ fn in_order(seed: u64, occurred: &mut Occurred) {
         } else {
             random.below(lines + 1)
         };
-        let answer = some_answer(&mut random, &formula, &encoding.log[..kept]);
+        let answer = answer_after(&mut random, &formula, &encoding.log[..kept]);
         let work = around(&mut random, walk_back_work(&formula, &log, kept));
         let longest = 4 + 5 * formula.variables as usize;
         let room = if random.chance(50) {
@@ -107,26 +106,12 @@ fn in_order(seed: u64, occurred: &mut Occurred) {
     }
 }
 
-/// An answer that mostly satisfies what stands after the lines.
-fn some_answer(random: &mut Random, formula: &Formula, kept: &[Line]) -> Vec<u8> {
-    let standing = replay(&formula.clauses, kept).unwrap_or_default();
-    let literals = standing
-        .iter()
-        .chain(kept.iter().map(|line| &line.literals))
-        .flatten();
-    let highest = literals
-        .map(|literal| literal.abs())
-        .fold(formula.variables, i32::max);
-    let values = values_for(random, &standing, highest as usize);
-    answer_for(random, &values)
-}
-
 /// Texts, logs and answers with a few changes.
 fn changed(seed: u64, occurred: &mut Occurred) {
     let mut random = Random::new(seed + (1 << 32));
     let formula = any_kind(&mut random);
-    let (form, wish) = *random.one_of(&WAYS);
-    let encoding = run_model(&formula, form, wish);
+    let (form, arrangement) = *random.one_of(&WAYS);
+    let encoding = run_model(&formula, form, arrangement);
     let mut text = text_of(&formula);
     for _ in 0..random.below(3) {
         text = damage(&mut random, &text);
@@ -139,7 +124,7 @@ fn changed(seed: u64, occurred: &mut Occurred) {
     outcome(
         occurred,
         "reencode",
-        compare_reencode(&text, form, wish, room),
+        compare_reencode(&text, form, arrangement, room),
     );
     outcome(occurred, "read-back", compare_read_back(&text, room.work));
 
@@ -153,7 +138,7 @@ fn changed(seed: u64, occurred: &mut Occurred) {
     } else {
         random.below(lines.len() + 2)
     };
-    let mut answer = some_answer(&mut random, &formula, &lines[..kept.min(lines.len())]);
+    let mut answer = answer_after(&mut random, &formula, &lines[..kept.min(lines.len())]);
     let mut log = log_text(&lines);
     if random.chance(20) {
         log = damage(&mut random, &log);

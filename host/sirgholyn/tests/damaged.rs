@@ -9,10 +9,10 @@ use common::{
 };
 use model::generator::Random;
 use model::reading::{read_formula, INPUT_LIMITS};
+use model::sessions;
 use model::texts::log_text;
-use sirgholyn::{Form, Wish};
+use sirgholyn::{Arrangement, Form};
 
-const F: &[u8] = b"p cnf 6 7\n1 2 3 4 5 0\n-1 -2 0\n-1 6 0\n-2 6 0\n-3 6 0\n-4 -6 0\n-5 -6 0\n";
 const TEXTS: [&[u8]; 6] = [
     F,
     b"p cnf 0 0",
@@ -46,12 +46,14 @@ fn each_damage(text: &[u8]) -> Vec<Vec<u8>> {
     all
 }
 
+const F: &[u8] = sessions::F.as_bytes();
+
 #[test]
 fn formulas() {
     let counted = over_seeds(0..TEXTS.len() as u64, |index, numbers: &mut Numbers| {
         for (turn, text) in each_damage(TEXTS[index as usize]).iter().enumerate() {
-            let (form, wish) = WAYS[turn % WAYS.len()];
-            count(numbers, compare_reencode(text, form, wish, ROOM));
+            let (form, arrangement) = WAYS[turn % WAYS.len()];
+            count(numbers, compare_reencode(text, form, arrangement, ROOM));
             count(numbers, compare_read_back(text, ROOM.work));
             let answer = b"s SATISFIABLE\nv 0\n";
             count(
@@ -74,7 +76,7 @@ fn formulas() {
 #[test]
 fn logs_and_answers() {
     let read = read_formula(F, &INPUT_LIMITS).unwrap();
-    let encoding = run_model(&read, Form::Order, Wish::None);
+    let encoding = run_model(&read, Form::Order, Arrangement::AsListed);
     let log = log_text(&encoding.log);
     let kept = encoding.log.len();
     let answer: &[u8] =
@@ -128,8 +130,8 @@ fn random_bytes() {
         let text = bytes(b"p cnf 9 3\n");
         let log = bytes(b"d 1 2 0\n");
         let answer = bytes(b"s SATISFIABLE\nv ");
-        let (form, wish) = WAYS[seed as usize % WAYS.len()];
-        count(numbers, compare_reencode(&text, form, wish, ROOM));
+        let (form, arrangement) = WAYS[seed as usize % WAYS.len()];
+        count(numbers, compare_reencode(&text, form, arrangement, ROOM));
         count(numbers, compare_read_back(&text, ROOM.work));
         let kept = (seed % 3) as usize;
         count(

@@ -9,9 +9,10 @@ use common::{
 };
 use model::generator::{largest_with, text_of};
 use model::reading::{read_formula, INPUT_LIMITS};
+use model::sessions;
 use model::texts::log_text;
 use sirgholyn::calls::{library, on_large_stack};
-use sirgholyn::{Form, Wish};
+use sirgholyn::{Arrangement, Form};
 
 const LARGE: Room = Room {
     work: PLENTY,
@@ -20,7 +21,7 @@ const LARGE: Room = Room {
 };
 
 fn reencode(text: &str) -> u32 {
-    compare_reencode(text.as_bytes(), Form::Counter, Wish::None, LARGE)
+    compare_reencode(text.as_bytes(), Form::Counter, Arrangement::AsListed, LARGE)
 }
 
 fn read_back(text: &str) -> u32 {
@@ -40,6 +41,8 @@ fn with_literals(variables: usize, literals: usize) -> String {
         (clause + "0\n").repeat(whole)
     )
 }
+
+const F: &[u8] = sessions::F.as_bytes();
 
 #[test]
 fn variables() {
@@ -108,13 +111,11 @@ fn kept_numbers() {
     }
 }
 
-const F: &[u8] = b"p cnf 6 7\n1 2 3 4 5 0\n-1 -2 0\n-1 6 0\n-2 6 0\n-3 6 0\n-4 -6 0\n-5 -6 0\n";
-
 #[test]
 fn short_by_one() {
     let read = read_formula(F, &INPUT_LIMITS).unwrap();
-    for (form, wish) in WAYS {
-        let encoding = run_model(&read, form, wish);
+    for (form, arrangement) in WAYS {
+        let encoding = run_model(&read, form, arrangement);
         let log = log_text(&encoding.log);
         let new = new_formula(&encoding);
         let new_text = text_of(&new);
@@ -129,7 +130,7 @@ fn short_by_one() {
                 log: enough.log - log,
                 formula: enough.formula - formula,
             };
-            compare_reencode(F, form, wish, room)
+            compare_reencode(F, form, arrangement, room)
         };
         assert_eq!(reencode(0, 0, 0), 0);
         assert_eq!(reencode(1, 0, 0), 11);
@@ -170,7 +171,7 @@ fn short_by_one() {
 /// Formulas at the limits with much work to do, byte for byte, on the least workspace that is accepted.
 #[test]
 fn largest() {
-    for (text, (form, wish)) in [
+    for (text, (form, arrangement)) in [
         (largest_with(5), WAYS[1]),
         (largest_with(64), WAYS[2]),
         (clash_chain(1_500), WAYS[3]),
@@ -181,7 +182,7 @@ fn largest() {
             log: 1 << 27,
             formula: 1 << 23,
         };
-        assert_eq!(compare_reencode(&text, form, wish, room), 0);
+        assert_eq!(compare_reencode(&text, form, arrangement, room), 0);
     }
 }
 

@@ -19,13 +19,13 @@ struct Walked {
 
 /// Walks back from every cut of one formula's log.
 fn walk_all(formula: &Formula, seed: u64, walked: &mut Walked) {
-    let (form, wish) = WAYS[seed as usize % WAYS.len()];
+    let (form, arrangement) = WAYS[seed as usize % WAYS.len()];
     let text = text_of(formula);
     let mut work = vec![0; 100_000];
     let (mut log, mut new) = (vec![0; 10_000], vec![0; 10_000]);
-    let tally = calls::reencode(&text, form, wish, &mut work, &mut log, &mut new).unwrap();
+    let tally = calls::reencode(&text, form, arrangement, &mut work, &mut log, &mut new).unwrap();
     log.truncate(tally.log_bytes);
-    let encoding = run_model(formula, form, wish);
+    let encoding = run_model(formula, form, arrangement);
     assert_eq!(log, log_text(&encoding.log));
     walked.formulas += 1;
     walked.with_choice += usize::from(tally.choices > 0);
@@ -53,11 +53,17 @@ fn walk_all(formula: &Formula, seed: u64, walked: &mut Walked) {
             can_be_satisfied = true;
             let mut line = vec![0; 200];
             let answer = answer(&values, &free);
-            let bytes =
-                calls::walk_back(&text, &log, kept, answer.as_bytes(), &mut work, &mut line)
-                    .unwrap_or_else(|number| {
-                        panic!("{number}: {kept} lines of {plain_text} {form:?} {wish:?} {answer}")
-                    });
+            let bytes = calls::walk_back(
+                &text,
+                &log,
+                kept,
+                answer.as_bytes(),
+                &mut work,
+                &mut line,
+            )
+            .unwrap_or_else(|number| {
+                panic!("{number}: {kept} lines of {plain_text} {form:?} {arrangement:?} {answer}")
+            });
             let line = String::from_utf8_lossy(&line[..bytes]);
             assert!(
                 plan::satisfies(&plain_text, &line),

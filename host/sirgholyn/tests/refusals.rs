@@ -31,22 +31,22 @@ fn each_number_has_a_meaning_and_a_mender() {
 #[test]
 fn buffers_grow() {
     let text = clash_chain(700);
-    let (form, wish) = WAYS[0];
+    let (form, arrangement) = WAYS[0];
     let open = ReencodeRoom::default();
-    let new = reencode(&text, form, wish, open).unwrap();
+    let new = reencode(&text, form, arrangement, open).unwrap();
     assert!(new.log.len() > 100 * text.len());
     let exact = ReencodeRoom {
         work: None,
         log: Some(new.log.len()),
         formula: Some(new.formula.len()),
     };
-    assert_eq!(reencode(&text, form, wish, exact).as_ref(), Ok(&new));
+    assert_eq!(reencode(&text, form, arrangement, exact).as_ref(), Ok(&new));
     let short = ReencodeRoom {
         log: Some(new.log.len() - 1),
         ..open
     };
     let refused = Err(Error::Refused(Refusal(12)));
-    assert_eq!(reencode(&text, form, wish, short), refused);
+    assert_eq!(reencode(&text, form, arrangement, short), refused);
 
     let none = b"s SATISFIABLE\nv 0\n";
     let lines = new.tally.lines as usize;

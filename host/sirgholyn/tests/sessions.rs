@@ -1,21 +1,21 @@
 //! The sessions listed in document 01, word for word.
 
+use model::sessions::F;
 use sirgholyn::{
-    read_back, reencode, walk_back, Error, Form, ReencodeRoom, Reencoded, Refusal, WalkBackRoom,
-    Wish,
+    read_back, reencode, walk_back, Arrangement, Error, Form, ReencodeRoom, Reencoded, Refusal,
+    WalkBackRoom,
 };
 
-const F: &str = "p cnf 6 7\n1 2 3 4 5 0\n-1 -2 0\n-1 6 0\n-2 6 0\n-3 6 0\n-4 -6 0\n-5 -6 0\n";
 const G: &str =
     "p cnf 10 8\n8 -7 0\n9 -8 0\n10 -9 0\n-7 6 0\n7 -8 6 0\n8 -9 6 0\n9 -10 -6 0\n10 -6 0\n";
 
-fn encode(text: &str, form: Form, wish: Wish) -> Reencoded {
-    reencode(text.as_bytes(), form, wish, ReencodeRoom::default()).unwrap()
+fn encode(text: &str, form: Form, arrangement: Arrangement) -> Reencoded {
+    reencode(text.as_bytes(), form, arrangement, ReencodeRoom::default()).unwrap()
 }
 
 fn expect(text: &str, log: &str, formula: &str) {
     for form in [Form::Counter, Form::Order] {
-        let new = encode(text, form, Wish::None);
+        let new = encode(text, form, Arrangement::AsListed);
         assert_eq!(String::from_utf8_lossy(&new.log), log);
         assert_eq!(String::from_utf8_lossy(&new.formula), formula);
         assert_eq!(new.tally.lines, log.lines().count() as u64);
@@ -72,13 +72,13 @@ fn e() {
 
 #[test]
 fn f() {
-    let tally = encode(F, Form::Counter, Wish::None).tally;
+    let tally = encode(F, Form::Counter, Arrangement::AsListed).tally;
     assert_eq!((tally.highest, tally.clauses, tally.lines), (10, 21, 36));
 }
 
 #[test]
 fn g_and_h() {
-    let new = encode(F, Form::Order, Wish::None);
+    let new = encode(F, Form::Order, Arrangement::AsListed);
     assert_eq!(new.tally.lines, 59);
     assert_eq!(String::from_utf8_lossy(&new.formula), G);
     let back = read_back(&new.formula, None).unwrap();
@@ -111,7 +111,7 @@ fn refusals_of_one_clause() {
         let refused = reencode(
             text.as_bytes(),
             Form::Counter,
-            Wish::None,
+            Arrangement::AsListed,
             ReencodeRoom::default(),
         );
         assert_eq!(refused, Err(Error::Refused(Refusal(number))), "{body}");
@@ -126,7 +126,7 @@ fn sizes_4_5_64_65() {
             .map(|literal| format!("-{literal} 0\n-{literal} 0\n"))
             .collect();
         let text = format!("p cnf {size} {}\n{literals}0\n{negated}", 2 * size + 1);
-        let new = encode(&text, Form::Counter, Wish::None);
+        let new = encode(&text, Form::Counter, Arrangement::AsListed);
         let taken = [5, 64].contains(&size);
         assert_eq!(new.tally.choices, u64::from(taken));
         assert_eq!(String::from_utf8_lossy(&new.formula) == text, !taken);
@@ -140,8 +140,8 @@ fn alignment() {
         .collect();
     let text = format!("p cnf 10 24\n1 2 3 4 5 0\n6 7 8 9 10 0\n-1 -8 0\n-2 -6 0\n{negated}");
     for form in [Form::Counter, Form::Order] {
-        let log = |wish| String::from_utf8(encode(&text, form, wish).log).unwrap();
-        assert!(log(Wish::None).contains("\nd 6 7 8 9 10 0\n"));
-        assert!(log(Wish::Alignment).contains("\nd 8 6 7 9 10 0\n"));
+        let log = |arrangement| String::from_utf8(encode(&text, form, arrangement).log).unwrap();
+        assert!(log(Arrangement::AsListed).contains("\nd 6 7 8 9 10 0\n"));
+        assert!(log(Arrangement::Alignment).contains("\nd 8 6 7 9 10 0\n"));
     }
 }

@@ -28,8 +28,8 @@ fn either(formula: &[u8], is_satisfiable: bool, solve: fn(&[u8]) -> Answer) -> A
 fn round_trip(formula: &Formula, seed: u64, trips: &mut Trips) {
     let text = text_of(formula);
     let plain_text = String::from_utf8_lossy(&text);
-    let (form, wish) = WAYS[seed as usize % WAYS.len()];
-    let new = reencode(&text, form, wish, ReencodeRoom::default()).unwrap();
+    let (form, arrangement) = WAYS[seed as usize % WAYS.len()];
+    let new = reencode(&text, form, arrangement, ReencodeRoom::default()).unwrap();
     let lines = new.tally.lines as usize;
     let can = matches!(cadical(&text), Answer::Satisfiable(_));
     either(&text, can, minisat);
@@ -100,8 +100,8 @@ fn our_lines_follow() {
     let lines: Vec<usize> = over_seeds(0..600, |seed, lines: &mut usize| {
         let formula = any_kind(&mut Random::new(seed));
         let text = text_of(&formula);
-        let (form, wish) = WAYS[seed as usize % WAYS.len()];
-        let new = reencode(&text, form, wish, ReencodeRoom::default()).unwrap();
+        let (form, arrangement) = WAYS[seed as usize % WAYS.len()];
+        let new = reencode(&text, form, arrangement, ReencodeRoom::default()).unwrap();
         let mut checker = drat::Checker::new(&formula.clauses);
         for line in String::from_utf8_lossy(&new.log).lines() {
             let numbers = |words: &str| -> Vec<i32> {

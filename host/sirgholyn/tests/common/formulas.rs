@@ -184,29 +184,6 @@ fn link(random: &mut Random, choices: &[Vec<i32>], clauses: &mut Vec<Vec<i32>>) 
     }
 }
 
-/// Values for 1..highest that satisfy the clauses, if a short search finds some.
-pub fn values_for(random: &mut Random, clauses: &[Vec<i32>], highest: usize) -> Vec<bool> {
-    let mut values: Vec<bool> = (0..=highest).map(|_| random.chance(50)).collect();
-    for _ in 0..(3 * highest).min(200) {
-        let is_true = |literal: &i32| values[literal.unsigned_abs() as usize] == (*literal > 0);
-        let failing: Vec<&Vec<i32>> = clauses
-            .iter()
-            .filter(|clause| !clause.iter().any(is_true))
-            .take(3)
-            .collect();
-        if failing.is_empty() {
-            break;
-        }
-        let clause = *random.one_of(&failing);
-        if clause.is_empty() {
-            break;
-        }
-        let literal = *random.one_of(clause);
-        values[literal.unsigned_abs() as usize] = literal > 0;
-    }
-    values
-}
-
 /// Clauses that clash one after the other, each with two literals of its own, which stand negated twice.
 pub fn clash_chain(clashes: i32) -> Vec<u8> {
     let own = clashes + 1;

@@ -6,16 +6,16 @@ pub mod formulas;
 pub mod solvers;
 
 use model::reading::Formula;
-use sirgholyn::{calls, Form, Wish};
+use sirgholyn::{calls, Arrangement, Form};
 use std::collections::BTreeMap;
 use std::ops::Range;
 use std::thread;
 
-pub const WAYS: [(Form, Wish); 4] = [
-    (Form::Counter, Wish::None),
-    (Form::Counter, Wish::Alignment),
-    (Form::Order, Wish::None),
-    (Form::Order, Wish::Alignment),
+pub const WAYS: [(Form, Arrangement); 4] = [
+    (Form::Counter, Arrangement::AsListed),
+    (Form::Counter, Arrangement::Alignment),
+    (Form::Order, Arrangement::AsListed),
+    (Form::Order, Arrangement::Alignment),
 ];
 
 /// More than any formula of the tests wants.
@@ -28,21 +28,25 @@ pub fn count(numbers: &mut Numbers, outcome: u32) {
     *numbers.entry(outcome).or_default() += 1;
 }
 
-pub fn in_model(form: Form, wish: Wish) -> (model::Form, model::Wish) {
+pub fn in_model(form: Form, arrangement: Arrangement) -> (model::Form, model::Arrangement) {
     let form = match form {
         Form::Counter => model::Form::Counter,
         Form::Order => model::Form::Order,
     };
-    let wish = match wish {
-        Wish::None => model::Wish::None,
-        Wish::Alignment => model::Wish::Align,
+    let arrangement = match arrangement {
+        Arrangement::AsListed => model::Arrangement::AsListed,
+        Arrangement::Alignment => model::Arrangement::Alignment,
     };
-    (form, wish)
+    (form, arrangement)
 }
 
-pub fn run_model(formula: &Formula, form: Form, wish: Wish) -> model::encoding::Encoding {
-    let (form, wish) = in_model(form, wish);
-    model::encoding::Encoding::run(formula, form, wish)
+pub fn run_model(
+    formula: &Formula,
+    form: Form,
+    arrangement: Arrangement,
+) -> model::encoding::Encoding {
+    let (form, arrangement) = in_model(form, arrangement);
+    model::encoding::Encoding::run(formula, form, arrangement)
 }
 
 /// Sizes of a reencoding's buffers.
@@ -54,8 +58,8 @@ pub struct Room {
 }
 
 /// Reencodes by library and model, and compares number, tally and every byte; the answer is the number.
-pub fn compare_reencode(text: &[u8], form: Form, wish: Wish, room: Room) -> u32 {
-    let (model_form, model_wish) = in_model(form, wish);
+pub fn compare_reencode(text: &[u8], form: Form, arrangement: Arrangement, room: Room) -> u32 {
+    let (model_form, model_wish) = in_model(form, arrangement);
     let expected = model::reencode(
         text,
         model_form,
@@ -67,8 +71,8 @@ pub fn compare_reencode(text: &[u8], form: Form, wish: Wish, room: Room) -> u32 
     let mut work = vec![-7; room.work];
     let mut log = vec![0xA5; room.log];
     let mut formula = vec![0x5A; room.formula];
-    let found = calls::reencode(text, form, wish, &mut work, &mut log, &mut formula);
-    let seen = || format!("{} {form:?} {wish:?} {room:?}", shown(text));
+    let found = calls::reencode(text, form, arrangement, &mut work, &mut log, &mut formula);
+    let seen = || format!("{} {form:?} {arrangement:?} {room:?}", shown(text));
     match (&expected, found) {
         (Ok(expected), Ok(tally)) => {
             let expected_tally = calls::Tally {
@@ -197,13 +201,7 @@ pub fn work_for(formula: &Formula) -> usize {
 /// The workspace that walk-back asks for, for a formula and a log that are in order.
 pub fn walk_back_work(formula: &Formula, log: &[u8], kept: usize) -> usize {
     let lines = model::log_reading::read_kept_lines(log, kept).unwrap_or_default();
-    let numbers: usize = lines.iter().map(|line| line.literals.len() + 1).sum();
-    let highest = lines
-        .iter()
-        .flat_map(|line| &line.literals)
-        .map(|literal| literal.unsigned_abs() as usize)
-        .fold(formula.variables as usize, usize::max);
-    4 * (formula.literal_count() as usize + formula.clauses.len() + numbers) + 4 * highest + 64
+    model::walk_back::workspace_needed(formula, &lines) as usize
 }
 
 /// Does the work for each seed on all processors, and gives what each processor has counted.

@@ -1,7 +1,7 @@
 //! The words after a command: its files and its options.
 
 use crate::failure::Failure;
-use sirgholyn::{Form, Wish};
+use sirgholyn::{Arrangement, Form};
 use std::ffi::{OsStr, OsString};
 
 pub struct Args {
@@ -76,10 +76,10 @@ impl Args {
         }
     }
 
-    pub fn wish(&self) -> Wish {
+    pub fn arrangement(&self) -> Arrangement {
         match self.value("--align") {
-            Some(_) => Wish::Alignment,
-            None => Wish::None,
+            Some(_) => Arrangement::Alignment,
+            None => Arrangement::AsListed,
         }
     }
 }

@@ -34,7 +34,7 @@ pub fn reencode(words: &[OsString]) -> Result<u8, Failure> {
     };
     let (formula, log) = (open("--formula")?, open("--log")?);
 
-    let new = sirgholyn::reencode(&text, form, args.wish(), room)?;
+    let new = sirgholyn::reencode(&text, form, args.arrangement(), room)?;
     let mut outputs = Vec::new();
     for (output, bytes) in [(formula, &new.formula), (log, &new.log)] {
         if let Some(mut output) = output {

@@ -36,7 +36,7 @@ pub fn solve(words: &[OsString]) -> Result<u8, Failure> {
         .map(|file| Output::open(file, args.file(0)))
         .transpose()?;
 
-    let new = sirgholyn::reencode(&text, form, args.wish(), ReencodeRoom::default())?;
+    let new = sirgholyn::reencode(&text, form, args.arrangement(), ReencodeRoom::default())?;
     let scratch = Scratch::new()?;
     let formula_file = scratch.path("formula.cnf");
     let proof_file = scratch.path("proof.drat");

@@ -1,0 +1,169 @@
+//! The rows as theorems for the checker: each says that a call of the definition gives what the model
+//! gives. All that is written in the checker's language stands in this file.
+
+use crate::rows::{Call, Outcome, Row};
+use model::{Arrangement, Form};
+
+/// What the rows' theorems share: settings, and tests of what a call gives. `computing` opens all that a
+/// row computes with.
+pub const GIVEN: &str = "-- Settings, and tests of what the definition's calls give.
+use mathlib.Core.Bool.{Bool, _&&_}
+use Prim.Native.String.{String}
+use lib.Dec.{eqb}
+use Rattle.definition.specs.Lists
+use Rattle.definition.specs.Lists.{for-each}
+use Rattle.definition.specs.Checked
+use Rattle.definition.specs.Literals
+use Rattle.definition.specs.Text
+use Rattle.definition.specs.Text.{Bytes, bytes, same-bytes}
+use Rattle.definition.specs.Reading
+use Rattle.definition.specs.Reading.{Input}
+use Rattle.definition.specs.Standing
+use Rattle.definition.specs.Assignments
+use Rattle.definition.specs.Clearing
+use Rattle.definition.specs.Counter
+use Rattle.definition.specs.Order
+use Rattle.definition.specs.Alignment
+use Rattle.definition.specs.Reencoding
+use Rattle.definition.specs.Reencoding.{Settings, chosen}
+use Rattle.definition.specs.Log
+use Rattle.definition.specs.Log.{clause-text, formula-text}
+use Rattle.definition.specs.LogReading
+use Rattle.definition.specs.Answer
+use Rattle.definition.specs.Calls
+use Rattle.definition.specs.Calls.{Tally, Reencoded}
+use Rattle.definition.specs.Sessions.{counter, order, good, is-fault}
+
+unfoldable pub counter-aligned : Settings
+counter-aligned = record { form = Reencoding.counter-form; arrangement = Alignment.alignment }
+
+unfoldable pub order-aligned : Settings
+order-aligned = record { form = Reencoding.order-form; arrangement = Alignment.alignment }
+
+unfoldable pub same-tally : Tally → Tally → Bool
+same-tally a b =
+    eqb (a .choices) (b .choices) && eqb (a .highest) (b .highest) && eqb (a .clauses) (b .clauses)
+    && eqb (a .lines) (b .lines) && eqb (a .log-bytes) (b .log-bytes) && eqb (a .formula-bytes) (b .formula-bytes)
+
+-- the result, the log and the new formula
+unfoldable pub reencoded : Tally → String → String → Reencoded → Bool
+reencoded tally log out r =
+    same-tally tally (r .tally) && same-bytes (bytes log) (r .log) && same-bytes (bytes out) (r .formula)
+
+-- what is read back, written again
+unfoldable pub read : String → Input → Bool
+read out i = same-bytes (bytes out) (formula-text (i .variables) (i .formula))
+
+-- the line of a walk-back
+unfoldable pub line : String → Bytes → Bool
+line out t = same-bytes (bytes out) t
+
+-- the choices, laid out like added lines
+unfoldable pub choices : String → Input → Bool
+choices out i = same-bytes (bytes out) (for-each (chosen counter i) clause-text)
+
+unfoldable pub computing : Unit {0}
+unfolding counter order counter-aligned order-aligned good is-fault same-tally reencoded read line choices Lists.computing Checked.computing Literals.computing Text.computing Reading.computing Standing.computing Assignments.computing Clearing.computing Counter.computing Order.computing Alignment.computing Reencoding.computing Log.computing LogReading.computing Answer.computing Calls.computing
+computing = tt
+";
+
+/// The files of the rows' crate.
+pub const LIB: &str = "pub mod Given\npub mod Rows\n";
+
+const USES: &str = "use lib.Dec.{T}
+use Rattle.definition.specs.Text.{bytes}
+use Rattle.definition.specs.Reading.{input-limits, read-formula}
+use Rattle.definition.specs.Calls.{reencode, read-back, walk-back}
+use Rattle.definition.specs.Sessions.{counter, order, good, is-fault}
+use Rattle.rows.specs.Given
+use Rattle.rows.specs.Given.{counter-aligned, order-aligned, reencoded, read, line, choices}
+";
+
+/// A theorem for each row, under its name.
+pub fn theorems(rows: &[(String, Row)]) -> String {
+    let mut text = String::from(USES);
+    for (name, row) in rows {
+        let row = row_text(row);
+        text += &format!("\npub {name} : T ({row})\nunfolding Given.computing\n{name} = tt\n");
+    }
+    text
+}
+
+pub fn row_text(row: &Row) -> String {
+    let call = call_text(&row.call);
+    match &row.outcome {
+        Outcome::Refused(number) => format!("is-fault ({call}) {number}"),
+        Outcome::Reencoded {
+            tally,
+            log,
+            formula,
+        } => {
+            let [tally, log, formula] = [tally_text(tally), quoted(log), quoted(formula)];
+            format!("good ({call}) (reencoded {tally} {log} {formula})")
+        }
+        Outcome::Read(text) => format!("good ({call}) (read {})", quoted(text)),
+        Outcome::Line(text) => format!("good ({call}) (line {})", quoted(text)),
+        Outcome::Chosen(text) => format!("good ({call}) (choices {})", quoted(text)),
+    }
+}
+
+fn call_text(call: &Call) -> String {
+    match call {
+        Call::Reencode {
+            form,
+            arrangement,
+            work,
+            log_room,
+            formula_room,
+            text,
+        } => {
+            let settings = settings(*form, *arrangement);
+            let text = quoted(text);
+            format!("reencode {settings} {work} {log_room} {formula_room} (bytes {text})")
+        }
+        Call::ReadBack { work, text } => format!("read-back {work} (bytes {})", quoted(text)),
+        Call::WalkBack {
+            work,
+            room,
+            kept,
+            text,
+            log,
+            answer,
+        } => {
+            let [text, log, answer] = [text, log, answer].map(|text| quoted(text));
+            format!("walk-back {work} {room} {kept} (bytes {text}) (bytes {log}) (bytes {answer})")
+        }
+        Call::Choose { text } => format!("read-formula input-limits (bytes {})", quoted(text)),
+    }
+}
+
+fn settings(form: Form, arrangement: Arrangement) -> &'static str {
+    match (form, arrangement) {
+        (Form::Counter, Arrangement::AsListed) => "counter",
+        (Form::Counter, Arrangement::Alignment) => "counter-aligned",
+        (Form::Order, Arrangement::AsListed) => "order",
+        (Form::Order, Arrangement::Alignment) => "order-aligned",
+    }
+}
+
+fn tally_text([choices, highest, clauses, lines, log_bytes, formula_bytes]: &[usize; 6]) -> String {
+    format!(
+        "(record {{ choices = {choices}; highest = {highest}; clauses = {clauses}; lines = {lines}; \
+         log-bytes = {log_bytes}; formula-bytes = {formula_bytes} }})"
+    )
+}
+
+/// A text in quotes: a byte is the character with its number.
+fn quoted(text: &[u8]) -> String {
+    let mut quoted = String::from("\"");
+    for &byte in text {
+        match byte {
+            b'\n' => quoted += "\\n",
+            b'\r' => quoted += "\\r",
+            b'\t' => quoted += "\\t",
+            b'"' | b'\\' | 0..=0x1F | 0x7F..=0xBF => panic!("byte {byte} has no place in a row"),
+            _ => quoted.push(char::from(byte)),
+        }
+    }
+    quoted + "\""
+}

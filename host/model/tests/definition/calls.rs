@@ -1,0 +1,173 @@
+//! Random calls.
+
+use crate::rows::{Call, Text, PLENTY};
+use model::encoding::Encoding;
+use model::generator::{answer_after, damage, damage_log, noise, planned, text_of, Random};
+use model::reading::Formula;
+use model::texts::log_text;
+use model::walk_back::workspace_needed;
+use model::{reencode, walk_back, Arrangement, Form};
+
+pub const FORMS: [Form; 2] = [Form::Counter, Form::Order];
+pub const ARRANGEMENTS: [Arrangement; 2] = [Arrangement::AsListed, Arrangement::Alignment];
+
+/// A formula that the checker computes in little time.
+pub fn small(random: &mut Random) -> Formula {
+    let (variables, clauses) = (random.below(13), random.between(1, 14));
+    if random.chance(15) {
+        noise(random, variables, clauses)
+    } else {
+        planned(random, variables, clauses)
+    }
+}
+
+/// Literals of the variables 1 up to the size, and their negations in another order.
+fn literals(random: &mut Random, size: usize) -> (Vec<i32>, Vec<i32>) {
+    let mut literals: Vec<i32> = (1..=size as i32).collect();
+    for literal in &mut literals {
+        *literal *= *random.one_of(&[1, 1, -1]);
+    }
+    random.shuffle(&mut literals);
+    let mut negated: Vec<i32> = literals.iter().map(|literal| -literal).collect();
+    random.shuffle(&mut negated);
+    (literals, negated)
+}
+
+/// A choice of 20. Its negated literals stand two to five together, with 21 or -21 by turns, and some in
+/// pairs, of which one stands in both orders.
+pub fn choice_of_20(random: &mut Random) -> Formula {
+    let (choice, mut negated) = literals(random, 20);
+    let mut clauses = vec![choice];
+    for (one, other) in [(0, 1), (1, 0), (1, 2), (5, 9), (17, 3)] {
+        clauses.push(vec![negated[one], negated[other]]);
+    }
+    while !negated.is_empty() {
+        let together = random.between(2, 5).min(negated.len());
+        let mut clause = negated.split_off(negated.len() - together);
+        clause.push(if clauses.len() % 2 == 0 { 21 } else { -21 });
+        random.shuffle(&mut clause);
+        clauses.push(clause);
+    }
+    random.shuffle(&mut clauses);
+    Formula {
+        variables: 21,
+        clauses,
+    }
+}
+
+/// A clause of the size without a clash or a pure literal, in a formula of few clauses: its negated
+/// literals stand in two clauses, and these twice.
+pub fn unique_clause(random: &mut Random, size: usize) -> Formula {
+    let (clause, mut negated) = literals(random, size);
+    let rest = negated.split_off(random.between(1, size - 1));
+    let mut clauses = vec![clause, negated.clone(), rest.clone(), rest, negated];
+    random.shuffle(&mut clauses);
+    Formula {
+        variables: size as i32,
+        clauses,
+    }
+}
+
+/// Three choices of 5 with links, each a part of a chain over all three.
+pub fn linked_choices(random: &mut Random) -> Formula {
+    let (literals, mut negated) = literals(random, 15);
+    let mut clauses: Vec<Vec<i32>> = literals.chunks(5).map(<[i32]>::to_vec).collect();
+    let shifts = [0, random.below(5), random.below(5)];
+    for lure in 0..random.between(1, 3) {
+        let [first, second, third] = [0, 1, 2].map(|c: usize| -clauses[c][(lure + shifts[c]) % 5]);
+        clauses.push(vec![first, second]);
+        clauses.push(vec![third, second]);
+    }
+    let rest = negated.split_off(random.between(5, 10));
+    clauses.extend([negated.clone(), rest.clone(), rest, negated]);
+    random.shuffle(&mut clauses);
+    Formula {
+        variables: 15,
+        clauses,
+    }
+}
+
+/// As much as is needed or more; in so many of a hundred cases one too few.
+fn room(random: &mut Random, needed: usize, short: usize) -> usize {
+    if random.chance(short) {
+        needed.saturating_sub(1)
+    } else if random.chance(50) {
+        needed
+    } else {
+        needed + random.below(300)
+    }
+}
+
+/// The text, in so many of a hundred cases changed; at times a byte comes in that is no character of
+/// ASCII.
+fn perhaps_damaged(random: &mut Random, mut text: Text, damaged: usize) -> Text {
+    if random.chance(damaged) {
+        text = damage(random, &text);
+        if random.chance(25) {
+            let place = random.below(text.len() + 1);
+            text.insert(place, random.between(0xC0, 0xFF) as u8);
+        }
+    }
+    text
+}
+
+/// In so many of a hundred cases, the text is damaged, the workspace short, a buffer short.
+pub fn reencoding(
+    formula: Formula,
+    random: &mut Random,
+    form: Form,
+    arrangement: Arrangement,
+    damaged: usize,
+) -> Call {
+    let text = perhaps_damaged(random, text_of(&formula), damaged);
+    let result = reencode(&text, form, arrangement, PLENTY as u64, PLENTY, PLENTY);
+    let (log, new) = result.map_or((100, 100), |r| (r.log.len(), r.formula.len()));
+    Call::Reencode {
+        form,
+        arrangement,
+        work: room(random, formula.workspace_needed() as usize, damaged),
+        log_room: room(random, log, damaged),
+        formula_room: room(random, new, damaged),
+        text,
+    }
+}
+
+pub fn reading_back(formula: Formula, random: &mut Random, form: Form, damaged: usize) -> Call {
+    let run = Encoding::run(&formula, form, *random.one_of(&ARRANGEMENTS));
+    let new = Formula {
+        variables: run.highest,
+        clauses: run.standing.clauses(),
+    };
+    Call::ReadBack {
+        work: room(random, new.workspace_needed() as usize, damaged),
+        text: perhaps_damaged(random, text_of(&new), damaged),
+    }
+}
+
+/// With the lines of a log damaged too, and other numbers of lines kept than all of them.
+pub fn walking_back(formula: Formula, random: &mut Random, form: Form, damaged: usize) -> Call {
+    let mut lines = Encoding::run(&formula, form, *random.one_of(&ARRANGEMENTS)).log;
+    if random.chance(damaged) {
+        lines = damage_log(random, &lines);
+    }
+    let kept = if random.chance(50) {
+        lines.len()
+    } else {
+        random.below(lines.len() + 1) + usize::from(random.chance(damaged))
+    };
+    let kept_lines = &lines[..kept.min(lines.len())];
+    let answer = answer_after(random, &formula, kept_lines);
+    let text = perhaps_damaged(random, text_of(&formula), damaged / 2);
+    let log = perhaps_damaged(random, log_text(&lines), damaged / 2);
+    let answer = perhaps_damaged(random, answer, damaged / 2);
+    let line = walk_back(&text, &log, kept, &answer, PLENTY as u64, PLENTY);
+    let needed = workspace_needed(&formula, kept_lines) as usize;
+    Call::WalkBack {
+        work: room(random, needed, damaged),
+        room: room(random, line.map_or(60, |line| line.len()), damaged),
+        kept,
+        text,
+        log,
+        answer,
+    }
+}

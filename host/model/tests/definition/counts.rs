@@ -1,0 +1,87 @@
+//! How often each case occurs in the rows.
+
+use crate::rows::{Call, Row};
+use model::encoding::Encoding;
+use model::Arrangement;
+use std::collections::BTreeMap;
+
+pub type Counts = BTreeMap<String, usize>;
+
+pub fn counts(rows: &[Row]) -> Counts {
+    let mut counts = Counts::new();
+    for row in rows {
+        let (call, texts) = match &row.call {
+            Call::Reencode { text, .. } => ("reencode", vec![text]),
+            Call::ReadBack { text, .. } => ("read-back", vec![text]),
+            Call::WalkBack {
+                text, log, answer, ..
+            } => ("walk-back", vec![text, log, answer]),
+            Call::Choose { text } => ("choose", vec![text]),
+        };
+        count(&mut counts, format!("{call} {:02}", row.number()), 1);
+        let is_ascii = texts.iter().all(|text| text.is_ascii());
+        count(&mut counts, "not in ASCII", usize::from(!is_ascii));
+        count_reencoding(&mut counts, row);
+        count_walk_back(&mut counts, row);
+    }
+    counts
+}
+
+fn count(counts: &mut Counts, what: impl Into<String>, times: usize) {
+    *counts.entry(what.into()).or_default() += times;
+}
+
+fn count_reencoding(counts: &mut Counts, row: &Row) {
+    let (
+        Call::Reencode {
+            form, arrangement, ..
+        },
+        Some(run),
+    ) = (&row.call, row.run())
+    else {
+        return;
+    };
+    let aligned = match arrangement {
+        Arrangement::Alignment => ", aligned",
+        Arrangement::AsListed => "",
+    };
+    count(counts, format!("{form:?}{aligned}"), 1);
+    let matters = usize::from(row.alignment_matters());
+    count(counts, format!("{form:?}, alignment matters"), matters);
+    for (place, choice) in &run.choices {
+        let size = choice.len();
+        count(counts, format!("{form:?}, choice of {size:02}"), 1);
+        let joined = *place >= run.input_clauses;
+        count(counts, "choices joined by clashes", usize::from(joined));
+    }
+    count_run(counts, &run);
+}
+
+fn count_run(counts: &mut Counts, run: &Encoding) {
+    let tally = &run.tally;
+    for (what, times) in [
+        ("choices", run.choices.len()),
+        ("clashes", tally.clashes),
+        ("clash chains", tally.chained_clashes),
+        ("double clashes", tally.double_clashes),
+        ("empty resolvents", tally.empty_resolvents),
+        ("pure deletions", tally.pure),
+        ("pairs in several copies", tally.repeated_pairs),
+        ("several negated literals", tally.several_negated),
+        ("replaced by nothing", tally.replaced_by_nothing),
+        ("chained links", tally.chained_links),
+        ("unalignable", tally.unalignable),
+    ] {
+        count(counts, what, times);
+    }
+}
+
+fn count_walk_back(counts: &mut Counts, row: &Row) {
+    if !matches!(row.call, Call::WalkBack { .. }) || row.number() > 0 {
+        return;
+    }
+    let log = if row.is_cut() { "cut log" } else { "whole log" };
+    count(counts, format!("walk-back, {log}"), 1);
+    let changed = usize::from(row.is_changed());
+    count(counts, format!("walk-back, {log}, answer changed"), changed);
+}

@@ -1,0 +1,167 @@
+//! Rows drawn from a seed: so many of each case.
+
+use crate::calls::{
+    choice_of_20, linked_choices, reading_back, reencoding, small, unique_clause, walking_back,
+    ARRANGEMENTS, FORMS,
+};
+use crate::rows::{Call, Row};
+use model::encoding::Encoding;
+use model::generator::{text_of, Random};
+use model::{Arrangement, Form};
+
+pub fn rows(seed: u64) -> Vec<Row> {
+    let mut drawn = Drawn {
+        random: Random::new(seed),
+        rows: Vec::new(),
+    };
+    for form in FORMS {
+        drawn.reencodings(form);
+        drawn.aligned(form);
+        drawn.walk_backs(form);
+        drawn.read_backs(form);
+        drawn.twenty(form);
+    }
+    drawn.refused_reencodings();
+    drawn.refused_read_backs();
+    drawn.refused_walk_backs();
+    drawn.sizes();
+    drawn.rows
+}
+
+struct Drawn {
+    random: Random,
+    rows: Vec<Row>,
+}
+
+fn has(row: &Row, what: impl Fn(&Encoding) -> bool) -> bool {
+    row.run().is_some_and(|run| what(&run))
+}
+
+impl Drawn {
+    /// Draws until there are so many rows more, each other than those before it.
+    #[track_caller]
+    fn add(
+        &mut self,
+        wanted: usize,
+        draw: impl Fn(&mut Random) -> Call,
+        is_wanted: impl Fn(&Row) -> bool,
+    ) {
+        let whole = self.rows.len() + wanted;
+        for _ in 0..100_000 {
+            if self.rows.len() == whole {
+                return;
+            }
+            let row = Row::of(draw(&mut self.random));
+            if is_wanted(&row) && !self.rows.contains(&row) {
+                self.rows.push(row);
+            }
+        }
+        panic!("this case is too rare");
+    }
+
+    fn reencodings(&mut self, form: Form) {
+        for arrangement in ARRANGEMENTS {
+            let draw =
+                |random: &mut Random| reencoding(small(random), random, form, arrangement, 5);
+            self.add(20, draw, |_| true);
+            self.add(20, draw, |row| has(row, |run| !run.choices.is_empty()));
+            self.add(6, draw, |row| has(row, |run| run.tally.chained_clashes > 0));
+            self.add(4, draw, |row| has(row, |run| run.tally.double_clashes > 0));
+            self.add(2, draw, |row| {
+                has(row, |run| run.tally.empty_resolvents > 0)
+            });
+            self.add(4, draw, |row| has(row, |run| run.tally.pure > 0));
+        }
+    }
+
+    fn aligned(&mut self, form: Form) {
+        let draw = |random: &mut Random| {
+            reencoding(small(random), random, form, Arrangement::Alignment, 0)
+        };
+        self.add(10, draw, Row::alignment_matters);
+        self.add(4, draw, |row| has(row, |run| run.tally.unalignable > 0));
+        let draw = |random: &mut Random| {
+            reencoding(
+                linked_choices(random),
+                random,
+                form,
+                Arrangement::Alignment,
+                0,
+            )
+        };
+        self.add(1, draw, Row::alignment_matters);
+    }
+
+    fn walk_backs(&mut self, form: Form) {
+        let draw = |random: &mut Random| walking_back(small(random), random, form, 0);
+        self.add(15, draw, |row| row.number() == 0 && !row.is_cut());
+        self.add(15, draw, |row| row.number() == 0 && row.is_cut());
+        self.add(10, draw, |row| row.is_changed() && !row.is_cut());
+        self.add(10, draw, |row| row.is_changed() && row.is_cut());
+    }
+
+    fn read_backs(&mut self, form: Form) {
+        let draw = |random: &mut Random| reading_back(small(random), random, form, 0);
+        self.add(10, draw, |_| true);
+    }
+
+    /// The whole log of a choice of 20, written and walked back.
+    fn twenty(&mut self, form: Form) {
+        let draw = |random: &mut Random| {
+            reencoding(choice_of_20(random), random, form, Arrangement::AsListed, 0)
+        };
+        self.add(1, draw, |_| true);
+        let draw = |random: &mut Random| walking_back(choice_of_20(random), random, form, 0);
+        self.add(1, draw, |row| row.number() == 0 && !row.is_cut());
+    }
+
+    fn refused_reencodings(&mut self) {
+        let draw = |random: &mut Random| {
+            let (form, arrangement) = (*random.one_of(&FORMS), *random.one_of(&ARRANGEMENTS));
+            reencoding(small(random), random, form, arrangement, 50)
+        };
+        for number in (1..=8).chain(11..=13) {
+            self.add(6, draw, |row| row.number() == number);
+        }
+    }
+
+    fn refused_read_backs(&mut self) {
+        let draw = |random: &mut Random| {
+            let form = *random.one_of(&FORMS);
+            reading_back(small(random), random, form, 50)
+        };
+        for number in (1..=8).chain([11]) {
+            self.add(2, draw, |row| row.number() == number);
+        }
+    }
+
+    fn refused_walk_backs(&mut self) {
+        let draw = |random: &mut Random| {
+            let form = *random.one_of(&FORMS);
+            walking_back(small(random), random, form, 40)
+        };
+        for number in 1..=8 {
+            self.add(1, draw, |row| row.number() == number);
+        }
+        for number in [11, 14, 31, 32, 33, 34, 41, 42, 43, 44] {
+            self.add(6, draw, |row| row.number() == number);
+        }
+    }
+
+    /// Clauses of 5 to 64 literals are choices. The log of 64 is too long for the checker.
+    fn sizes(&mut self) {
+        for size in [4, 5, 64, 65] {
+            let draw = |random: &mut Random| Call::Choose {
+                text: text_of(&unique_clause(random, size)),
+            };
+            self.add(2, draw, |_| true);
+        }
+        for size in [4, 5, 65] {
+            let draw = |random: &mut Random| {
+                let formula = unique_clause(random, size);
+                reencoding(formula, random, Form::Order, Arrangement::Alignment, 0)
+            };
+            self.add(1, draw, |_| true);
+        }
+    }
+}

@@ -1,0 +1,114 @@
+//! The definition gives what the model gives: the checker computes rows that are drawn from a fixed seed.
+
+mod antt;
+mod calls;
+mod checker;
+mod counts;
+mod drawing;
+mod fixed;
+mod rows;
+mod wrong;
+
+use checker::check;
+use counts::{counts, Counts};
+use rows::Row;
+use wrong::{short_rows, wrong};
+
+/// Each row with the name of its theorem.
+fn named(name: &str, rows: Vec<Row>) -> Vec<(String, Row)> {
+    let with_name = |(place, row)| (format!("{name}-{place:03}"), row);
+    rows.into_iter().enumerate().map(with_name).collect()
+}
+
+/// Has the checker compute the rows.
+fn assert_rows(rows: Vec<Row>) {
+    let verdict = check(&named("row", rows));
+    let messages: String = verdict.messages.chars().take(20_000).collect();
+    assert!(verdict.proved, "{messages}");
+}
+
+#[test]
+fn definition_and_model_agree() {
+    let mut rows = drawing::rows(1);
+    rows.extend(fixed::limits());
+    let counts = counts(&rows);
+    println!("{} rows: {counts:#?}", rows.len());
+    assert!(rows.len() >= 500);
+    assert_cases(&counts);
+    assert_numbers(&counts);
+    assert_rows(rows);
+}
+
+#[test]
+#[ignore = "some minutes"]
+fn more_rows() {
+    assert_rows(fixed::tiny_formulas());
+    for seed in 2..=8 {
+        assert_rows(drawing::rows(seed));
+    }
+}
+
+fn assert_cases(counts: &Counts) {
+    for (what, least) in [
+        ("Counter", 40),
+        ("Counter, aligned", 40),
+        ("Order", 40),
+        ("Order, aligned", 40),
+        ("Counter, alignment matters", 10),
+        ("Order, alignment matters", 10),
+        ("chained links", 2),
+        ("unalignable", 8),
+        ("Counter, choice of 20", 1),
+        ("Order, choice of 20", 1),
+        ("choices", 80),
+        ("choices joined by clashes", 10),
+        ("clashes", 60),
+        ("clash chains", 24),
+        ("double clashes", 16),
+        ("empty resolvents", 8),
+        ("pure deletions", 50),
+        ("pairs in several copies", 10),
+        ("several negated literals", 50),
+        ("replaced by nothing", 50),
+        ("walk-back, whole log, answer changed", 20),
+        ("walk-back, cut log, answer changed", 20),
+        ("not in ASCII", 5),
+    ] {
+        assert!(counts.get(what) >= Some(&least), "{what}");
+    }
+}
+
+fn assert_numbers(counts: &Counts) {
+    for (call, numbers) in [
+        ("reencode", &[0, 1, 2, 3, 4, 5, 6, 7, 8, 11, 12, 13][..]),
+        ("read-back", &[0, 1, 2, 3, 4, 5, 6, 7, 8, 11]),
+        ("walk-back", &[0, 1, 2, 3, 4, 5, 6, 7, 8, 11, 14]),
+        ("walk-back", &[31, 32, 33, 34, 41, 42, 43, 44]),
+    ] {
+        for number in numbers {
+            let what = format!("{call} {number:02}");
+            assert!(counts.contains_key(&what), "{what}");
+        }
+    }
+}
+
+#[test]
+fn wrong_rows_are_refused() {
+    let right = short_rows(&drawing::rows(1));
+    let wrong = named("wrong", right.iter().flat_map(wrong).collect());
+    let mut rows = named("right", right);
+    rows.extend(wrong.iter().cloned());
+
+    let verdict = check(&rows);
+    assert!(!verdict.proved);
+    let errors: Vec<&str> = verdict.messages.split("error: ").skip(1).collect();
+    assert_eq!(errors.len(), wrong.len(), "{}", verdict.messages);
+    for ((name, _), error) in wrong.iter().zip(errors) {
+        // computed to its end, the theorem is false
+        let is_false = error.contains("the two types are `Prim.⊥` (expected)");
+        assert!(
+            is_false && error.starts_with(&format!("`{name}`:")),
+            "{name}: {error}"
+        );
+    }
+}

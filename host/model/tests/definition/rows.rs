@@ -1,0 +1,201 @@
+//! Rows: a call, and what the model gives for it.
+
+use model::answer::read_answer;
+use model::encoding::Encoding;
+use model::generator::text_of;
+use model::reading::{read_formula, Formula, INPUT_LIMITS};
+use model::texts::{answer_text, log_text, Line};
+use model::{read_back, reencode, walk_back, Arrangement, Form};
+
+pub type Text = Vec<u8>;
+
+/// More workspace and room than any row wants.
+pub const PLENTY: usize = 1_000_000;
+
+#[derive(Clone, PartialEq)]
+pub enum Call {
+    Reencode {
+        form: Form,
+        arrangement: Arrangement,
+        work: usize,
+        log_room: usize,
+        formula_room: usize,
+        text: Text,
+    },
+    ReadBack {
+        work: usize,
+        text: Text,
+    },
+    WalkBack {
+        work: usize,
+        room: usize,
+        kept: usize,
+        text: Text,
+        log: Text,
+        answer: Text,
+    },
+    /// Which clauses are taken as choices.
+    Choose {
+        text: Text,
+    },
+}
+
+#[derive(Clone, PartialEq)]
+pub enum Outcome {
+    Refused(u8),
+    Reencoded {
+        /// Choices, H, M, log lines and both byte lengths.
+        tally: [usize; 6],
+        log: Text,
+        formula: Text,
+    },
+    /// What is read back, written again.
+    Read(Text),
+    /// What an answer is walked back to.
+    Line(Text),
+    /// The choices, written as added lines are.
+    Chosen(Text),
+}
+
+#[derive(Clone, PartialEq)]
+pub struct Row {
+    pub call: Call,
+    pub outcome: Outcome,
+}
+
+impl Row {
+    /// The call, and what the model gives for it.
+    pub fn of(call: Call) -> Row {
+        let outcome = given(&call).unwrap_or_else(Outcome::Refused);
+        Row { call, outcome }
+    }
+
+    /// The number of the refusal, 0 for a result.
+    pub fn number(&self) -> u8 {
+        match self.outcome {
+            Outcome::Refused(number) => number,
+            _ => 0,
+        }
+    }
+
+    /// The run of a reencoding that gives a result.
+    pub fn run(&self) -> Option<Encoding> {
+        match &self.call {
+            Call::Reencode {
+                form,
+                arrangement,
+                text,
+                ..
+            } if self.number() == 0 => {
+                let formula = read_formula(text, &INPUT_LIMITS).ok()?;
+                Some(Encoding::run(&formula, *form, *arrangement))
+            }
+            _ => None,
+        }
+    }
+
+    /// Without the arrangement, the log would be another one.
+    pub fn alignment_matters(&self) -> bool {
+        match (&self.call, &self.outcome) {
+            (Call::Reencode { form, text, .. }, Outcome::Reencoded { log, .. }) => {
+                let other = reencode(
+                    text,
+                    *form,
+                    Arrangement::AsListed,
+                    PLENTY as u64,
+                    PLENTY,
+                    PLENTY,
+                );
+                other.is_ok_and(|other| other.log != *log)
+            }
+            _ => false,
+        }
+    }
+
+    /// Some lines of the log are not kept.
+    pub fn is_cut(&self) -> bool {
+        match &self.call {
+            Call::WalkBack { log, kept, .. } => {
+                *kept < log.split(|&byte| byte == b'\n').count() - 1
+            }
+            _ => false,
+        }
+    }
+
+    /// An answer is carried back to other values than it has.
+    pub fn is_changed(&self) -> bool {
+        let (Call::WalkBack { answer, text, .. }, Outcome::Line(line)) =
+            (&self.call, &self.outcome)
+        else {
+            return false;
+        };
+        let variables = read_formula(text, &INPUT_LIMITS).map_or(0, |formula| formula.variables);
+        let values = read_answer(answer, 70_000).unwrap_or_default();
+        *line != answer_text(variables, |variable| values[variable as usize])
+    }
+}
+
+fn given(call: &Call) -> Result<Outcome, u8> {
+    match call {
+        Call::Reencode {
+            form,
+            arrangement,
+            work,
+            log_room,
+            formula_room,
+            text,
+        } => reencode(
+            text,
+            *form,
+            *arrangement,
+            *work as u64,
+            *log_room,
+            *formula_room,
+        )
+        .map(reencoded),
+        Call::ReadBack { work, text } => {
+            let (variables, clauses) = read_back(text, *work as u64)?;
+            Ok(Outcome::Read(text_of(&Formula { variables, clauses })))
+        }
+        Call::WalkBack {
+            work,
+            room,
+            kept,
+            text,
+            log,
+            answer,
+        } => walk_back(text, log, *kept, answer, *work as u64, *room).map(Outcome::Line),
+        Call::Choose { text } => {
+            let formula = read_formula(text, &INPUT_LIMITS)?;
+            Ok(chosen(&Encoding::run(
+                &formula,
+                Form::Counter,
+                Arrangement::AsListed,
+            )))
+        }
+    }
+}
+
+fn reencoded(result: model::Reencoded) -> Outcome {
+    Outcome::Reencoded {
+        tally: [
+            result.choices,
+            result.highest as usize,
+            result.clauses,
+            result.lines,
+            result.log.len(),
+            result.formula.len(),
+        ],
+        log: result.log,
+        formula: result.formula,
+    }
+}
+
+fn chosen(run: &Encoding) -> Outcome {
+    let line = |(_, choice): &(usize, Vec<i32>)| Line {
+        deletion: false,
+        literals: choice.clone(),
+    };
+    let lines: Vec<Line> = run.choices.iter().map(line).collect();
+    Outcome::Chosen(log_text(&lines))
+}

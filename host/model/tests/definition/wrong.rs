@@ -1,0 +1,61 @@
+//! Rows made wrong on purpose.
+
+use crate::antt::row_text;
+use crate::rows::{Call, Outcome, Row};
+
+/// Of the rows, the shortest with each kind of result, and the shortest refusal of each call.
+pub fn short_rows(rows: &[Row]) -> Vec<Row> {
+    let kinds: [fn(&Row) -> bool; 7] = [
+        |row| matches!(&row.outcome, Outcome::Reencoded { log, .. } if !log.is_empty()),
+        |row| matches!(row.outcome, Outcome::Read(_)),
+        |row| matches!(row.outcome, Outcome::Line(_)),
+        |row| matches!(&row.outcome, Outcome::Chosen(text) if !text.is_empty()),
+        |row| matches!(row.call, Call::Reencode { .. }) && row.number() > 0,
+        |row| matches!(row.call, Call::ReadBack { .. }) && row.number() > 0,
+        |row| matches!(row.call, Call::WalkBack { .. }) && row.number() > 0,
+    ];
+    let mut short = Vec::new();
+    for is_wanted in kinds {
+        let wanted = rows.iter().filter(|row| is_wanted(row));
+        let shortest = wanted.min_by_key(|row| row_text(row).len());
+        short.push(shortest.expect("the rows have each kind").clone());
+    }
+    short
+}
+
+/// The row with one number or one byte of its outcome changed, for each number and each text.
+pub fn wrong(row: &Row) -> Vec<Row> {
+    let parts = match row.outcome {
+        Outcome::Reencoded { .. } => 8,
+        _ => 1,
+    };
+    let mut wrong = vec![row.clone(); parts];
+    for (part, row) in wrong.iter_mut().enumerate() {
+        change(&mut row.outcome, part);
+    }
+    wrong
+}
+
+/// The parts of a reencoding are its six numbers and its two texts.
+fn change(outcome: &mut Outcome, part: usize) {
+    match outcome {
+        Outcome::Refused(number) => *number += 1,
+        Outcome::Read(text) | Outcome::Line(text) | Outcome::Chosen(text) => change_byte(text),
+        Outcome::Reencoded {
+            tally,
+            log,
+            formula,
+        } => match part {
+            6 => change_byte(log),
+            7 => change_byte(formula),
+            _ => tally[part] += 1,
+        },
+    }
+}
+
+/// Each text ends with `0` and LF; this `0` becomes `1`.
+fn change_byte(text: &mut [u8]) {
+    let place = text.len() - 2;
+    assert_eq!(text[place], b'0');
+    text[place] = b'1';
+}

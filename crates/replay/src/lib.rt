@@ -64,17 +64,7 @@ fn key_at(store: &[i32], at: usize) -> usize
     key_of(&store[first..next])
 }
 
-// Makes the entry at a place the last one of a key.
-fn link_entry(work: &mut [i32], heads: &mut [usize], links: usize, at: usize, key: usize)
-    requires { ⌜ (links + at < length (now work)) × (key < length (now heads)) ⌝ }
-    ensures linked { λ _. ⌜ now (work .exit) ≡ set (now (work .entry)) (links + at) (header-of (getD (now (heads .entry)) key 0)) ⌝ }
-    ensures newest { λ _. ⌜ now (heads .exit) ≡ set (now (heads .entry)) key (at + 1) ⌝ }
-{
-    work[links + at] = literals::header(heads[key]);
-    heads[key] = at + 1;
-}
-
-// Enters the clause at a place of a store in the index.
+// Enters the clause at a place of a store in the index: it becomes the last one of its key.
 fn index_entry(
     work: &mut [i32],
     heads: &mut [usize],
@@ -88,7 +78,8 @@ fn index_entry(
     ensures newest { λ _. ⌜ now (heads .exit) ≡ set (now (heads .entry)) (key-at (between store end (now (work .entry))) at) (at + 1) ⌝ }
 {
     let key = key_at(&work[store..end], at);
-    link_entry(work, heads, links, at, key);
+    work[links + at] = literals::header(heads[key]);
+    heads[key] = at + 1;
 }
 
 // Enters the clauses of a store in an empty index.
@@ -283,24 +274,16 @@ fn replay_lines(
     Replayed::Standing(filled)
 }
 
-// Replays the lines at lines..store over what stands at store..end; the links of the index begin in the middle of the room behind the lines.
-fn replay_over(work: &mut [i32], lines: usize, store: usize, end: usize) -> Replayed
-    requires { ⌜ Laid-out (now work) lines store end ⌝ }
-    ensures result { λ r. ⌜ Replays (replay-all (stored (between store end (now (work .entry)))) (lines-in (between lines store (now (work .entry))))) store (length (now (work .entry))) r (now (work .exit)) ⌝ }
-    ensures kept { λ _. ⌜ take store (now (work .exit)) ≡ take store (now (work .entry)) ⌝ }
-{
-    let mut heads = [0usize; 140002];
-    let links = store + (work.len() - store) / 2;
-    index_all(work, &mut heads, store, end, links);
-    replay_lines(work, &mut heads, lines, store, end, links)
-}
-
-// Replays the lines at n..m over a copy of the formula before n, which is made behind the lines.
+// Replays the lines at n..m over a copy of the formula before n, which is made behind the lines; the links of the index begin in the
+// middle of the room there.
 pub fn replay(work: &mut [i32], n: usize, m: usize) -> Replayed
     requires { ⌜ Replayable (now work) n m ⌝ }
     ensures result { λ r. ⌜ Replays (replay-all (stored (take n (now (work .entry)))) (lines-in (between n m (now (work .entry))))) m (length (now (work .entry))) r (now (work .exit)) ⌝ }
     ensures kept { λ _. ⌜ take m (now (work .exit)) ≡ take m (now (work .entry)) ⌝ }
 {
     copy_up(work, m, 0, n);
-    replay_over(work, n, m, m + n)
+    let mut heads = [0usize; 140002];
+    let links = m + (work.len() - m) / 2;
+    index_all(work, &mut heads, m, m + n, links);
+    replay_lines(work, &mut heads, n, m, m + n, links)
 }

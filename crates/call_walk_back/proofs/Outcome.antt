@@ -1,6 +1,6 @@
 -- From the outcome of carrying the answer back to the call's: the replay before it, the texts before that, and the buffer.
 use mathlib.Core.Path.{_≡_, refl, sym, ap, ap₂, _∙_}
-use mathlib.Core.Bool.{not, true, false}
+use mathlib.Core.Bool.{true, false}
 use mathlib.Core.List.{List, _++_}
 use Prim.Native.Nat.{ℕ, _+_, _≤_, _<_, _^_}
 use native.Mathlib.Omega.{arith}
@@ -14,14 +14,11 @@ use Rattle.definition.specs.Literals.{Formula, literals-of}
 use Rattle.definition.specs.Text.{Bytes}
 use Rattle.definition.specs.Reading.{Input, input-limits}
 use Rattle.definition.specs.Standing.{Line, replay}
-use Rattle.definition.specs.Assignments.{Assignment, satisfies, carried-back}
-use Rattle.definition.specs.LogReading.{read-log}
-use Rattle.definition.specs.Answer.{read-answer}
-use Rattle.definition.specs.Calls.{read-input, assigned, answer-text, numbers-of, log-workspace-need, highest-allowed, carry-answer, walk-back, buffer-after}
+use Rattle.definition.specs.Assignments.{Assignment}
+use Rattle.definition.specs.Calls.{assigned, numbers-of, log-workspace-need, highest-allowed, carry-answer, walk-back, buffer-after}
 use Rattle.theory_base.specs.Slices.{between}
 use Rattle.theory_base.proofs.Parts.{between-same}
 use Rattle.theory_base.proofs.Lines.{lines-few}
-use Rattle.theory_base.proofs.Outcomes.{refuse-value, value-same, bind-value}
 use Rattle.theory_base.proofs.Fitting.{highest-in-le}
 use Rattle.theory_text.specs.Accepted.{Accepted}
 use Rattle.theory_text.proofs.Accepted.{input-accepted}
@@ -198,22 +195,6 @@ module _ (kept : ℕ) (formula log answer : Bytes) (old new : List ℤ) (v n g f
 
 -- ---- the buffer
 
--- the line fits its buffer
-line-within : (workspace room kept : ℕ) (formula log answer text : Bytes) → walk-back workspace room kept formula log answer ≡ value text → length text ≤ room
-unfolding walk-back carry-answer
-line-within workspace room kept formula log answer text e =
-    let a = bind-value (read-input formula) _ text e in
-    let b = bind-value (read-log kept log) _ text (a .2) in
-    let c = bind-value (read-answer (highest-allowed (a .0) (b .0)) answer) _ text (b .2) in
-    let d = refuse-value (ltb workspace (log-workspace-need (a .0) (b .0) (highest-allowed (a .0) (b .0)))) 11 _ text (c .2) in
-    let s = bind-value (replay (a .0 .formula) (b .0)) _ text (d .1) in
-    let f = refuse-value (not (satisfies (assigned (c .0)) (s .0))) 44 _ text (s .2) in
-    let back = carried-back (assigned (c .0)) (b .0) in
-    let g = refuse-value (not (satisfies back (a .0 .formula))) 33 _ text (f .1) in
-    let line = answer-text (a .0 .variables) back in
-    let h = refuse-value (ltb room (length line)) 14 (value line) text (g .1) in
-    omega (arith, ltb-false room (length line) (h .0), ap length (value-same line text (h .1)))
-
 module _ (work : List ℤ) (kept : ℕ) (formula log answer old new : Bytes) (w : Code.WalkedBack) (s : Walks (outcome work old kept formula log answer) old w new) where
   abbrev walked : Checked Bytes
   walked = outcome work old kept formula log answer
@@ -222,9 +203,8 @@ module _ (work : List ℤ) (kept : ℕ) (formula log answer old new : Bytes) (w 
   unfolding buffer-after
   line-written n e =
       let z : Walks walked old (WalkedBack.Line n) new = rw e at s in
-      let l = line-within (length work) (length old) kept formula log answer (z .0) (z .1) in
       let size : n ≡ length (z .0) = omega (arith, z .2 .next) in
-      rw (z .1) (ap (λ (k : ℕ). WalkedBack.Line k) size, put-fits (z .2) (omega arith) ∙ ap (λ (k : ℕ). z .0 ++ drop k old) size)
+      rw (z .1) (ap (λ (k : ℕ). WalkedBack.Line k) size, put-fits (z .2) (z .3) ∙ ap (λ (k : ℕ). z .0 ++ drop k old) size)
 
   pub refused-zero : (n : ℕ) (after : Bytes) → w ≡ WalkedBack.Refused n → length new ≡ length old → after ≡ replicate (length new) 0 → (WalkedBack.Refused n ≡ walked-back-of walked) × (after ≡ buffer-after 0 walked (λ t. t) old)
   unfolding buffer-after

@@ -34,9 +34,9 @@ abbrev pub carried-as : Carried-code.Carried → Code.WalkedBack
 carried-as (Carried.Written n) = WalkedBack.Line n
 carried-as (Carried.Fault n) = WalkedBack.Refused n
 
--- the outcome so far: a fault, or the line, written into a buffer
+-- the outcome so far: a fault, or the line, written into a buffer, which it fits
 abbrev pub Walks : Checked Bytes → Bytes → Code.WalkedBack → Bytes → Type 0
-Walks o old (WalkedBack.Line n) new = (t : Bytes) × (o ≡ value t) × Put old 0 t n new
+Walks o old (WalkedBack.Line n) new = (t : Bytes) × (o ≡ value t) × Put old 0 t n new × (n ≤ length old)
 Walks o old (WalkedBack.Refused n) new = o ≡ fault n
 
 -- the lines are replayed over the formula, then the answer is tested and carried back: 32, 44, 33, 14

@@ -28,7 +28,7 @@ module _ (old new : Bytes) (v n : ℕ) (f : Formula) (a : Assignment) where
 
   pub tested-written : satisfies a f ≡ true → Put old 0 (answer-text v a) n new → n ≤ length old → Carries (tested-text (length old) v f a) old (Carried.Written n) new
   unfolding tested-text refuse-if
-  tested-written e p h = (answer-text v a, rw (e, le-ltb (length old) (length (answer-text v a)) (omega (arith, p .next))) refl, p)
+  tested-written e p h = (answer-text v a, rw (e, le-ltb (length old) (length (answer-text v a)) (omega (arith, p .next))), p, h)
 
 module _ (room v : ℕ) (f : Formula) (ss : List Line) (standing : Formula) (a : Assignment) where
   pub answer-fails : satisfies a standing ≡ false → carried-text room v f ss standing a ≡ fault 44

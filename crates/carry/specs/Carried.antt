@@ -2,7 +2,7 @@
 use mathlib.Core.Path.{_≡_}
 use mathlib.Core.Bool.{Bool, not, _||_}
 use mathlib.Core.List.{List}
-use Prim.Native.Nat.{ℕ}
+use Prim.Native.Nat.{ℕ, _≤_}
 use lib.Dec.{ltb}
 use lib.IntN.{ℤ}
 use lib.ListN.{length}
@@ -32,7 +32,7 @@ tested-text room v f a =
 unfoldable pub carried-text : ℕ → ℕ → Formula → List Line → Formula → Assignment → Checked Bytes
 carried-text room v f ss standing a = refuse-if (not (satisfies a standing)) 44 (tested-text room v f (carried-back a ss))
 
--- a fault, or the text written
+-- a fault, or the text written, which fits
 abbrev pub Carries : Checked Bytes → Bytes → Carried → Bytes → Type 0
-Carries o old (Carried.Written n) new = (t : Bytes) × (o ≡ value t) × Put old 0 t n new
+Carries o old (Carried.Written n) new = (t : Bytes) × (o ≡ value t) × Put old 0 t n new × (n ≤ length old)
 Carries o old (Carried.Fault n) new = o ≡ fault n

@@ -99,8 +99,8 @@ fault-stays step n a e = rw e refl
 
 -- the outcome so far is reached, and what follows leads from it to the whole
 pub record Walked (p : Progress) (m : Bytes) (rest : Answer → Checked Answer) (whole : Checked Answer) : Type 0 where
-  pub so-far : Checked Answer
-  pub reached : Reached p m so-far
+  so-far : Checked Answer
+  reached : Reached p m so-far
   pub leads : (so-far >>= rest) ≡ whole
 
 module _ {W : Type 0} (step : Answer → W → Checked Answer) where

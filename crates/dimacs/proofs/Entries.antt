@@ -23,7 +23,7 @@ unfolding entries for-each
 entries-snoc f c = rw (for-each-++ f (c ∷ []) entry, append-nil (entry c)) refl
 
 -- lengths that an i32 can hold
-pub entries-store : (f : Formula) → literals-of f < 2 ^ 31 → Formed (entries f) × (stored (entries f) ≡ f)
+entries-store : (f : Formula) → literals-of f < 2 ^ 31 → Formed (entries f) × (stored (entries f) ≡ f)
 unfolding entries for-each literals-of sum-of
 entries-store [] h = (tt, stored-none)
 entries-store (c ∷ f) h =

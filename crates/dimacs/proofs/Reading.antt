@@ -41,7 +41,7 @@ module _ {o : Checked Input} (old new : List ℤ) where
   pub read-refused : {n : ℕ} → o ≡ fault n → (FormulaRead.Fault n ≡ read-of o) × Filled o old new
   read-refused {n} e = (sym (ap read-of e), λ i q. fault-value n i (sym e ∙ q))
 
-  pub read-accepted : {i : Input} → o ≡ value i → new ≡ sets old 0 (entries (i .formula)) → (read-of (value i) ≡ read-of o) × Filled o old new
+  read-accepted : {i : Input} → o ≡ value i → new ≡ sets old 0 (entries (i .formula)) → (read-of (value i) ≡ read-of o) × Filled o old new
   read-accepted {i} e s = (sym (ap read-of e), λ j q. s ∙ ap (λ (k : Input). sets old 0 (entries (k .formula))) (value-same i j (sym e ∙ q)))
 
 numbers-is : (f : Formula) → numbers-of f ≡ literals-of f + length f

@@ -28,7 +28,7 @@ use Rattle.exports.specs.Numbers.{form-number, arrangement-number, setti
 use Rattle.exports.specs.Counts.{overwritten, tally-after, walk-back-counts, read-back-counts, reencoding-counts, done-counts}
 
 -- one count, three counts, six counts
-pub one-count : (t : List ℕ) (a : ℕ) → set t 0 a ≡ overwritten (a ∷ []) t
+one-count : (t : List ℕ) (a : ℕ) → set t 0 a ≡ overwritten (a ∷ []) t
 unfolding overwritten
 one-count [] a = refl
 one-count (x ∷ t) a = refl
@@ -90,14 +90,14 @@ result-tally r =
       «formula_bytes» = r .formula-bytes;
     }
 
-pub reencoding-counted : (o : Checked Reencoded) (t : Code.Tally) (before after : List ℕ) → outcome-of o ≡ Reencoding.Done t → after ≡ overwritten (done-counts t) before → (0 ≡ number-of o) × (after ≡ tally-after o reencoding-counts before)
+reencoding-counted : (o : Checked Reencoded) (t : Code.Tally) (before after : List ℕ) → outcome-of o ≡ Reencoding.Done t → after ≡ overwritten (done-counts t) before → (0 ≡ number-of o) × (after ≡ tally-after o reencoding-counts before)
 unfolding number-of tally-after
 reencoding-counted (fault m) t before after e w = let z : _≡_ {A = ℕ} 0 1 = cc in absurd (omega arith)
 reencoding-counted (value r) t before after e w =
     let et : result-tally (r .tally) ≡ t = cc in
     (refl, w ∙ ap (λ (x : Code.Tally). overwritten (done-counts x) before) (sym et))
 
-pub reencoding-refused : (o : Checked Reencoded) (n : ℕ) (before after : List ℕ) → outcome-of o ≡ Reencoding.Refused n → after ≡ replicate (length before) 0 → (n ≡ number-of o) × (after ≡ tally-after o reencoding-counts before)
+reencoding-refused : (o : Checked Reencoded) (n : ℕ) (before after : List ℕ) → outcome-of o ≡ Reencoding.Refused n → after ≡ replicate (length before) 0 → (n ≡ number-of o) × (after ≡ tally-after o reencoding-counts before)
 unfolding number-of tally-after
 reencoding-refused (fault m) n before after e w = (cc, w)
 reencoding-refused (value r) n before after e w = let z : _≡_ {A = ℕ} 0 1 = cc in absurd (omega arith)

@@ -60,7 +60,7 @@ module _ (h : ℤ) (f : SFits w32 h) where
 
 -- ---- the variable of a negative l is one more than -1 - l
 
-pub flip-variable : (l : ℤ) → negative l ≡ true → natAbs (flip l) + 1 ≡ natAbs l
+flip-variable : (l : ℤ) → negative l ≡ true → natAbs (flip l) + 1 ≡ natAbs l
 flip-variable (pos n) e = differ {b = true} tt (sym e)
 flip-variable (negsuc n) e = omega arith
 

@@ -49,7 +49,7 @@ choice-within t c e = leb-true (length c) 64 (to-true (and-r (leb 5 (length c)) 
 
 -- ---- one clause more
 
-pub joined-none : (old : List ℤ) (end : ℕ) → end ≤ length old → Joined [] old end end old
+joined-none : (old : List ℤ) (end : ℕ) → end ≤ length old → Joined [] old end end old
 joined-none old end h =
     record { next = omega (arith, numbers-none); inside = h; formed = λ f. f; stands = λ f. sym (append-nil (stored (take end old))) }
 

@@ -89,7 +89,7 @@ pub record Passing (k : Choice) (E : Formula) (middle : List ℤ) (start : ℕ) 
   pub left-stands : stored (take at left) ≡ kept k done
   pub results-formed : Formed results
   pub results-stand : stored results ≡ added k done
-  pub results-size : length results ≡ numbers-of (added k done)
+  results-size : length results ≡ numbers-of (added k done)
   pub end : q .end ≡ p .end + length results
   pub written : Written (lines (for-each done (replace k))) x p log q
 

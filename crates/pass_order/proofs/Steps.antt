@@ -19,7 +19,7 @@ use Rattle.theory_base.specs.Clauses.{Proper, Fit-all}
 use Rattle.theory_base.proofs.Clauses.{numbers-none, numbers-first}
 use Rattle.theory_base.proofs.Slices.{part-is, part-before}
 use Rattle.theory_counter.specs.Ready.{Well-formed}
-use Rattle.literals.specs.Literal.{largest, header-of}
+use Rattle.literals.specs.Literal.{largest}
 use Rattle.literals.proofs.Laws.{literals-within}
 use Rattle.tables.specs.Places.{Places}
 use Rattle.store.specs.Store.{entry, header-at, deleted-at, clause-at, past, marked}

@@ -26,10 +26,10 @@ use Rattle.progress.specs.Growth.{entries, Grow-room, Grown}
 
 -- ---- entries
 
-pub entries-++ : (f g : Formula) → entries (f ++ g) ≡ entries f ++ entries g
+entries-++ : (f g : Formula) → entries (f ++ g) ≡ entries f ++ entries g
 entries-++ f g = for-each-++ f g entry
 
-pub entries-one : (c : Clause) → entries (c ∷ []) ≡ entry c
+entries-one : (c : Clause) → entries (c ∷ []) ≡ entry c
 unfolding for-each
 entries-one c = append-nil (entry c)
 

@@ -25,7 +25,7 @@ use Rattle.tables.proofs.Counting.{counted-table}
 use Rattle.store.specs.Store.{Formed, stored, Counted, Compacted}
 use Rattle.store.proofs.Laws.{few-stored}
 use Rattle.progress.specs.declared.Progress.{Progress}
-use Rattle.progress.specs.Progress.{Written, Log-room, Ran, standing, Good, Runs, Slid-down}
+use Rattle.progress.specs.Progress.{Written, Log-room, standing, Good, Runs, Slid-down}
 
 -- ---- the lines of events, and their text
 
@@ -37,15 +37,15 @@ pub lines-one : (e : Event) → lines (e ∷ []) ≡ lines-of e
 unfolding lines for-each
 lines-one e = append-nil (lines-of e)
 
-pub text-none : log-text [] ≡ []
+text-none : log-text [] ≡ []
 unfolding log-text for-each
 text-none = refl
 
-pub text-one : (l : Line) → log-text (l ∷ []) ≡ log-line-text l
+text-one : (l : Line) → log-text (l ∷ []) ≡ log-line-text l
 unfolding log-text for-each
 text-one l = append-nil (log-line-text l)
 
-pub text-++ : (ks ls : List Line) → log-text (ks ++ ls) ≡ log-text ks ++ log-text ls
+text-++ : (ks ls : List Line) → log-text (ks ++ ls) ≡ log-text ks ++ log-text ls
 unfolding log-text
 text-++ ks ls = for-each-++ ks ls log-line-text
 
@@ -86,34 +86,6 @@ pub record Holds (F : Formula) (work : List ℤ) (end : ℕ) : Type 0 where
   pub formed : Formed (take end work)
   pub stands : stored (take end work) ≡ F
 
-pub ran-nothing : {F : Formula} {work : List ℤ} (log : Bytes) (p q : Progress) → Holds F work (q .end) → q .at ≡ p .at → q .lines ≡ p .lines → Ran F [] (length work) log p work log q
-unfolding after
-ran-nothing {F} log p q h e f =
-    record { size = refl; inside = h .inside; formed = h .formed; stands = h .stands ∙ ap (after F) (sym lines-none); written = rw (lines-none, text-none, e) (put-none log (p .at)); counted = rw lines-none (omega arith) }
-
--- what is written, and what stands then
-pub ran-lines : {F G : Formula} {es : List Event} {work : List ℤ} {size : ℕ} {x y : Bytes} {p q : Progress} → length work ≡ size → Holds G work (q .end) → G ≡ after F (lines es) → Written (lines es) x p y q → Ran F es size x p work y q
-ran-lines s h e w =
-    record { size = s; inside = omega (arith, h .inside); formed = h .formed; stands = h .stands ∙ e; written = w .written; counted = w .counted }
-
--- one event
-pub ran-event : {F G : Formula} {work : List ℤ} {size : ℕ} {x y : Bytes} {p q : Progress} (e : Event) → length work ≡ size → Holds G work (q .end) → G ≡ after F (lines-of e) → Written (lines-of e) x p y q → Ran F (e ∷ []) size x p work y q
-ran-event {F} {G} e s h a w = ran-lines s h (rw (lines-one e) a) (rw (lines-one e) w)
-
-pub ran-holds : {F : Formula} {es : List Event} {size : ℕ} {x y : Bytes} {p q : Progress} {work : List ℤ} → Ran F es size x p work y q → Holds (after F (lines es)) work (q .end)
-ran-holds r = record { inside = omega (arith, r .size, r .inside); formed = r .formed; stands = r .stands }
-
-pub ran-written : {F : Formula} {es : List Event} {size : ℕ} {x y : Bytes} {p q : Progress} {work : List ℤ} → Ran F es size x p work y q → Written (lines es) x p y q
-ran-written r = record { written = r .written; counted = r .counted }
-
-pub ran-join : {F : Formula} {es fs : List Event} {size : ℕ} {x y z : Bytes} {p q r : Progress} {v w : List ℤ} → Ran F es size x p v y q → Ran (after F (lines es)) fs size y q w z r → Ran F (es ++ fs) size x p w z r
-ran-join {F} {es} {fs} a b =
-    ran-lines (b .size) (ran-holds b) (sym (after-++ F (lines es) (lines fs)) ∙ ap (after F) (sym (lines-++ es fs))) (rw (lines-++ es fs) (written-then (ran-written a) (ran-written b)))
-
--- only the lines of the events count
-pub ran-as : {F : Formula} {es fs : List Event} {size : ℕ} {x y : Bytes} {p q : Progress} {work : List ℤ} → lines es ≡ lines fs → Ran F es size x p work y q → Ran F fs size x p work y q
-ran-as {F} e r = ran-lines (r .size) (ran-holds r) (ap (after F) e) (rw e at (ran-written r))
-
 -- ---- a pass over a workspace
 
 -- nothing happened, but the store may have moved
@@ -147,13 +119,6 @@ runs-join {es} {fs} {work} {p = p} a b =
 pub runs-as : {es fs : List Event} {work new : List ℤ} {x y : Bytes} {p q : Progress} → lines es ≡ lines fs → Runs es work x p new y q → Runs fs work x p new y q
 runs-as {work = work} {p = p} e r = runs-lines (r .size) (runs-holds r) (ap (after (standing work p)) e) (rw e at (runs-written r))
 
--- the same as what happened where a formula stood
-pub runs-ran : {es : List Event} {work new : List ℤ} {x y : Bytes} {p q : Progress} → Runs es work x p new y q → Ran (standing work p) es (length work) x p new y q
-runs-ran r = ran-lines (r .size) (runs-holds r) refl (runs-written r)
-
-pub ran-runs : {es : List Event} {work new : List ℤ} {x y : Bytes} {p q : Progress} → Ran (standing work p) es (length work) x p new y q → Runs es work x p new y q
-ran-runs r = runs-lines (r .size) (ran-holds r) refl (ran-written r)
-
 -- ---- the first elements of a workspace changed, as `&mut work[..end]` leaves it
 module _ (work part : List ℤ) (end : ℕ) (b : end ≤ length work) (s : length part ≡ length (take end work)) where
   pub part-length : length part ≡ end
@@ -162,7 +127,7 @@ module _ (work part : List ℤ) (end : ℕ) (b : end ≤ length work) (s : lengt
   pub part-size : length (part ++ drop end work) ≡ length work
   part-size = omega (arith, length-append part (drop end work), length-drop end work, part-length)
 
-  pub part-holds : {G : Formula} (n : ℕ) → n ≤ end → Formed (take n part) → stored (take n part) ≡ G → Holds G (part ++ drop end work) n
+  part-holds : {G : Formula} (n : ℕ) → n ≤ end → Formed (take n part) → stored (take n part) ≡ G → Holds G (part ++ drop end work) n
   part-holds n h f e =
       let t : take n (part ++ drop end work) ≡ take n part = take-append-le n part (drop end work) (omega (arith, part-length)) in
       record { inside = omega (arith, part-size); formed = rw t f; stands = ap stored t ∙ e }
@@ -180,7 +145,7 @@ runs-part {es} work part {p = p} {q = q} b r =
 -- ---- a good store
 
 -- its clauses are fewer than 2^32
-pub good-few : {h : ℕ} {es : List Event} {work : List ℤ} {p : Progress} → Good h es work p → length (standing work p) ≤ most
+good-few : {h : ℕ} {es : List Event} {work : List ℤ} {p : Progress} → Good h es work p → length (standing work p) ≤ most
 good-few {work = work} {p = p} g = omega (arith, g .small, g .inside, few-stored (take (p .end) work), length-take-le (p .end) work (g .inside))
 
 -- what `count_all` gives from zeros

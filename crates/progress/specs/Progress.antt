@@ -26,15 +26,6 @@ pub record Log-room (ls : List Line) (p : Progress) : Type 0 where
   pub text : p .at + length (log-text ls) < 2 ^ 62
   pub count : p .lines + length ls < 2 ^ 62
 
--- the events es happened where F stood: the store holds what stands after them, the log their lines' text
-pub record Ran (F : Formula) (es : List Event) (room : ℕ) (old-log : Bytes) (old : Progress) (work : List ℤ) (log : Bytes) (new : Progress) : Type 0 where
-  pub size : length work ≡ room
-  pub inside : new .end ≤ room
-  pub formed : Formed (take (new .end) work)
-  pub stands : stored (take (new .end) work) ≡ after F (lines es)
-  pub written : Put old-log (old .at) (log-text (lines es)) (new .at) log
-  pub counted : new .lines ≡ old .lines + length (lines es)
-
 -- ---- a pass over a workspace
 
 -- what stands in the workspace: its first elements, up to the end, are the store

@@ -29,7 +29,7 @@ map-same : {A : Type 0} (f : A → A) → ((x : A) → f x ≡ x) → (xs : List
 map-same f e [] = refl
 map-same f e (x ∷ xs) = sym (ap (λ y. y ∷ map f xs) (e x) ∙ ap (λ ys. x ∷ ys) (sym (map-same f e xs)))
 
-pub as-listed-stays : (F : Formula) (chosen : List ℤ) → Formed chosen → Mapped (arranged as-listed F (stored chosen)) chosen chosen
+as-listed-stays : (F : Formula) (chosen : List ℤ) → Formed chosen → Mapped (arranged as-listed F (stored chosen)) chosen chosen
 unfolding arranged
 as-listed-stays F chosen f = record { same-size = refl; formed = f; stands = map-same (arranged as-listed F (stored chosen)) (λ c. refl) (stored chosen) }
 

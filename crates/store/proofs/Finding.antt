@@ -135,11 +135,11 @@ miss-from c zero at (h ∷ s) e = go h (begins-with c (h ∷ s)) refl e (λ x. m
     go (pos n) false m x r = rw m (r x)
 miss-from c (suc k) at (x ∷ s) e = miss-from c k (at + 1) s e
 
-pub miss : (c : Clause) (s : List ℤ) → place-of c s ≡ Nothing → stands c (stored s) ≡ false
+miss : (c : Clause) (s : List ℤ) → place-of c s ≡ Nothing → stands c (stored s) ≡ false
 miss c s e = miss-from c 0 0 s e
 
 -- whether one was found is whether one stands
-pub hit-stands : (c : Clause) (s : List ℤ) (p : ℕ) → Formed s → place-of c s ≡ At p → stands c (stored s) ≡ true
+hit-stands : (c : Clause) (s : List ℤ) (p : ℕ) → Formed s → place-of c s ≡ At p → stands c (stored s) ≡ true
 hit-stands c s p f e =
     let r = hit c s p e in
     ap (stands c) (stored-around s p (r .inside) (r .place f) (r .stays))

@@ -61,7 +61,7 @@ pub formed-++ : (s t : List ℤ) → Formed s → Formed t → Formed (s ++ t)
 formed-++ s t f g = formed-from-++ 0 s t f g
 
 -- what follows a formed part of a formed store
-pub formed-rest : (s t : List ℤ) → Formed s → Formed (s ++ t) → Formed t
+formed-rest : (s t : List ℤ) → Formed s → Formed (s ++ t) → Formed t
 formed-rest s t f g = rest-from 0 s t f g
 
 pub stored-++ : (s t : List ℤ) → Formed s → stored (s ++ t) ≡ stored s ++ stored t
@@ -183,7 +183,7 @@ module _ (s : List ℤ) (at : ℕ) (h : at < length s) where
   inside : at < length new
   inside = omega (arith, length-set s at (flip (header-at s at)))
 
-  pub marked-header : header-at (marked s at) at ≡ flip (header-at s at)
+  marked-header : header-at (marked s at) at ≡ flip (header-at s at)
   marked-header = getD-set-same s at (flip (header-at s at)) (pos 0) h
 
   -- before and behind nothing changes
@@ -212,7 +212,7 @@ module _ (s : List ℤ) (at : ℕ) (h : at < length s) where
   behind = ap (λ (k : ℕ). drop k new) marked-past ∙ marked-behind (past s at) (omega arith)
 
   -- the clause at the place is gone, all others stay
-  pub marked-rest : deleted-at s at ≡ false → stored (drop at (marked s at)) ≡ stored (drop (past s at) s)
+  marked-rest : deleted-at s at ≡ false → stored (drop at (marked s at)) ≡ stored (drop (past s at) s)
   marked-rest e = rest-deleted new at inside (gone e) ∙ ap stored behind
 
   pub marked-prefix : Place s at → deleted-at s at ≡ false → stored (take (past s at) (marked s at)) ≡ stored (take at s)
@@ -244,7 +244,7 @@ module _ (s : List ℤ) (at : ℕ) (c : Clause) (h : length c ≤ largest) (b : 
   heads : header-at s at ∷ drop (at + 1) s ≡ entry c ++ b
   heads = sym (drop-step s at (pos 0) within) ∙ e
 
-  pub entry-header : header-at s at ≡ header-of (length c)
+  entry-header : header-at s at ≡ header-of (length c)
   entry-header = cc heads
 
   pub entry-size : size-at s at ≡ length c

@@ -49,7 +49,7 @@ unique-none t c h = rw (le-ltb 0 (length c) h) refl
 
 -- ---- lengths
 
-pub length-tallied : (t : List ℕ) (c : Clause) → length (tallied t c) ≡ length t
+length-tallied : (t : List ℕ) (c : Clause) → length (tallied t c) ≡ length t
 unfolding tallied
 length-tallied t [] = refl
 length-tallied t (l ∷ c) = length-tallied (counted-at t (index-of l)) c ∙ length-set t (index-of l) _

@@ -40,7 +40,7 @@ entry-zeros n l = getD-zeros n (index-of l)
 
 -- ---- read after set
 
-pub entry-set-same : (t : List ℕ) (v : ℕ) (l : ℤ) → index-of l < length t → entry-of (set t (index-of l) v) l ≡ v
+entry-set-same : (t : List ℕ) (v : ℕ) (l : ℤ) → index-of l < length t → entry-of (set t (index-of l) v) l ≡ v
 entry-set-same t v l h = getD-set-same t (index-of l) v 0 h
 
 pub entry-set-other : (t : List ℕ) (v : ℕ) (x l : ℤ) → l ≢ x → entry-of (set t (index-of x) v) l ≡ entry-of t l

@@ -31,7 +31,7 @@ pub numbers-end : (t : List ℕ) (s : Clause) (i : ℕ) → length s ≤ i → t
 unfolding with-numbers
 numbers-end t s i h = rw (drop-end s i h) refl
 
-pub length-numbers : (t : List ℕ) (i : ℕ) (c : Clause) → length (with-numbers t i c) ≡ length t
+length-numbers : (t : List ℕ) (i : ℕ) (c : Clause) → length (with-numbers t i c) ≡ length t
 unfolding with-numbers
 length-numbers t i [] = refl
 length-numbers t i (l ∷ c) = length-numbers (set t (index-of l) i) (i + 1) c ∙ length-set t (index-of l) i

@@ -143,7 +143,7 @@ Number-says o (Number.Value z) = (o ≡ some z) × (natAbs z ≤ 70_000)
 Number-says o Number.Large = (z : ℤ) × (o ≡ some z) × (70_000 < natAbs z)
 Number-says o Number.NotANumber = o ≡ none
 
-pub number-says : (o : Option ℤ) → Number-says o (number-class o)
+number-says : (o : Option ℤ) → Number-says o (number-class o)
 number-says none = refl
 number-says (some z) = by-test (leb (natAbs z) 70_000)
     (λ e. rw e (refl, leb-true (natAbs z) 70_000 e))

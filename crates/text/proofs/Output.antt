@@ -55,7 +55,7 @@ put-part {l} {n} {xs} {at} a p = record { next = omega (arith, p .next); kept = 
 
 -- the digits of m are still to be written, before the place k
 pub record Writing (old : Bytes) (at n k m : ℕ) (new : Bytes) : Type 0 where
-  pub tail : Bytes
+  tail : Bytes
   pub split : digits n ≡ digits m ++ tail
   pub place : k ≡ at + length (digits m)
   pub stored : new ≡ sets old k tail

@@ -71,7 +71,7 @@ tests-proper c r o z = by-members c r (λ x i j. differ (mem-opposes c c x i j) 
         (z l (here refl), λ i. differ (mem-holds l c i) (q .0), λ i. o l (here refl) (there i), by-members c (q .1) (λ x i j. o x (there i) (there j)) (λ x i. z x (there i)))
 
 -- ---- two proper clauses with the same literals have the same sums
-pub proper-distinct : (c : Clause) → Proper c → Distinct c
+proper-distinct : (c : Clause) → Proper c → Distinct c
 proper-distinct [] p = tt
 proper-distinct (l ∷ c) p = (p .1, proper-distinct c (p .3))
 

@@ -25,7 +25,7 @@ fuel-enough (suc d) (suc e) n f g = go (ltb n 10) refl (fuel-enough d e (n / 10)
     go true q ih = refl
     go false q ih = rw (ih (tenth-less n d (ltb-false n 10 q) f) (tenth-less n e (ltb-false n 10 q) g))
 
-pub digits-enough : (d n : ℕ) → n < d → digits-up-to d n ≡ digits n
+digits-enough : (d n : ℕ) → n < d → digits-up-to d n ≡ digits n
 unfolding digits
 digits-enough d n h = fuel-enough d (suc n) n h (omega arith)
 

@@ -94,7 +94,7 @@ nonzero-variable (negsuc m) n = omega arith
 pub fit-between : (h : ℕ) (x : ℤ) → Fit h x → Between 1 h x
 fit-between h x f = (nonzero-variable x (f .0), f .1)
 
-pub between-fit : (h : ℕ) (x : ℤ) → Between 1 h x → Fit h x
+between-fit : (h : ℕ) (x : ℤ) → Between 1 h x → Fit h x
 between-fit h x b = (λ e. omega (arith, ap natAbs e), b .1)
 
 pub proper-fit : {h : ℕ} {c : Clause} → Proper-to h c → Fit-all h c
@@ -124,7 +124,7 @@ cons-to h x c b n p = ((between-fit h x b .0, λ m. n x m refl, λ m. n (negℤ 
     bound y (here e) = rw e (b .1)
     bound y (there m) = p .1 y m
 
-pub one-to : (h : ℕ) (x : ℤ) → Between 1 h x → Proper-to h (x ∷ [])
+one-to : (h : ℕ) (x : ℤ) → Between 1 h x → Proper-to h (x ∷ [])
 one-to h x a = cons-to h x [] a (λ z m. absurd (List·Memᴰ·not-nil m)) (tt, λ z m. absurd (List·Memᴰ·not-nil m))
 
 pub two-to : (h : ℕ) (x y : ℤ) → Between 1 h x → Between 1 h y → natAbs x ≢ natAbs y → Proper-to h (x ∷ y ∷ [])

@@ -81,7 +81,7 @@ unfolding same
 same-refl (pos a) = eqb-refl a
 same-refl (negsuc a) = eqb-refl a
 
-pub eq-same : {l m : ℤ} → l ≡ m → T (same l m)
+eq-same : {l m : ℤ} → l ≡ m → T (same l m)
 eq-same {l} {m} e = rw e (same-refl m)
 
 pub unlike : (y k : ℤ) → same y k ≡ false → y ≢ k

@@ -63,7 +63,7 @@ mem-take-out c (e ∷ F) d m = go (same-set c e) m (mem-take-out c F d)
     go false (here q) ih = here q
     go false (there m) ih = there (ih m)
 
-pub take-out-within : (c : Clause) (F : Formula) → length (take-out c F) ≤ length F
+take-out-within : (c : Clause) (F : Formula) → length (take-out c F) ≤ length F
 unfolding take-out
 take-out-within c [] = omega arith
 take-out-within c (d ∷ F) = go (same-set c d) (take-out-within c F)

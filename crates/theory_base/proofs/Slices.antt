@@ -47,7 +47,7 @@ module _ {A : Type 0} where
   sets-past (x ∷ xs) l at h = rw (set-out l at x h) (sets-past xs l (suc at) (omega arith))
 
   -- a run in the rest of a list is one in the list
-  pub sets-drop : (vs xs : List A) (a j : ℕ) → take a xs ++ sets (drop a xs) j vs ≡ sets xs (a + j) vs
+  sets-drop : (vs xs : List A) (a j : ℕ) → take a xs ++ sets (drop a xs) j vs ≡ sets xs (a + j) vs
   sets-drop [] xs a j = take-append-drop a xs
   sets-drop (v ∷ vs) xs a j =
       let e : a + suc j ≡ suc (a + j) = omega arith in

@@ -80,11 +80,11 @@ clash-at-none F p n e a b i j s t x y = go (ulc-with F (pos n)) refl (ulc-with F
 pub record Lowest (F : Formula) (c : Clash) : Type 0 where
   pub is-clash : Is-clash F c
   pub variable : ℕ
-  pub positive : 1 ≤ variable
+  positive : 1 ≤ variable
   pub literal : c .v ≡ pos variable
   pub lowest : (n : ℕ) → 1 ≤ n → n < variable → clash-at F n ≡ none
 
-pub lowest-some : (F : Formula) (c : Clash) → lowest-clash F ≡ some c → Lowest F c
+lowest-some : (F : Formula) (c : Clash) → lowest-clash F ≡ some c → Lowest F c
 unfolding lowest-clash
 lowest-some F c e =
     let r = first-from-some (clash-at F) 1 (highest-of F) c e in
@@ -134,7 +134,7 @@ pub data Clears : Formula → List Event → Formula → Type 0 where
   no-more : {F : Formula} → Clears F [] F
   next : {F G : Formula} {c : Clash} {es : List Event} → Lowest F c → Clears (after F (clash-lines c)) es G → Clears F (clash-cleared c ∷ es) G
 
-pub up-to-clears : (n : ℕ) (F : Formula) → Clears F (clear-up-to n F) (after F (lines (clear-up-to n F)))
+up-to-clears : (n : ℕ) (F : Formula) → Clears F (clear-up-to n F) (after F (lines (clear-up-to n F)))
 unfolding clear-up-to clear-next lines lines-of for-each after
 up-to-clears zero F = no-more
 up-to-clears (suc n) F = go (lowest-clash F) refl (up-to-clears n)
@@ -144,11 +144,11 @@ up-to-clears (suc n) F = go (lowest-clash F) refl (up-to-clears n)
     go none e ih = no-more
     go (some c) e ih = rw (after-++ F (clash-lines c) (lines (clear-up-to n (after F (clash-lines c))))) (next (lowest-some F c e) (ih (after F (clash-lines c))))
 
-pub clears-proper : {h : ℕ} {F G : Formula} {es : List Event} → Proper-all F → Fits h F → Clears F es G → Proper-all G × Fits h G
+clears-proper : {h : ℕ} {F G : Formula} {es : List Event} → Proper-all F → Fits h F → Clears F es G → Proper-all G × Fits h G
 clears-proper p f no-more = (p, f)
 clears-proper {h} {F} p f (next {c = c} l s) = clears-proper (after-proper F c p (l .is-clash)) (after-fits F c p (l .is-clash) h f) s
 
-pub clears-sound : {h : ℕ} {F E G : Formula} {es rest L : List Event} {xs : List Line} → Proper-all F → Fits h F → Clears F es E →
+clears-sound : {h : ℕ} {F E G : Formula} {es rest L : List Event} {xs : List Line} → Proper-all F → Fits h F → Clears F es E →
     Known h rest E → Sound E rest xs G L → Sound F (es ++ rest) (lines es ++ xs) G L × Known h (es ++ rest) F
 unfolding lines lines-of for-each
 clears-sound p f no-more w s = (s, w)

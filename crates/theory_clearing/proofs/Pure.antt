@@ -81,7 +81,7 @@ eliminates-times {F} (next {E = E} {d = d} {l = l} q r s) x c i j = others-same 
 pub pure-removed : (X F : Formula) (d : Clause) (l : ℤ) → Is-pure (X ++ (d ∷ F)) d l → Removed (with-first l d) (X ++ (d ∷ F)) (X ++ F)
 pure-removed X F d l q = only-removed l d X F (q .literal) (unique-at (X ++ (d ∷ F)) d (q .alone) l (q .literal))
 
-pub from-eliminates : (X F : Formula) → Eliminates (X ++ F) (clear-pure-from X F) (after (X ++ F) (lines (clear-pure-from X F)))
+from-eliminates : (X F : Formula) → Eliminates (X ++ F) (clear-pure-from X F) (after (X ++ F) (lines (clear-pure-from X F)))
 unfolding clear-pure-from pure-next lines lines-of pure-lines for-each after changed
 from-eliminates X [] = no-more
 from-eliminates X (d ∷ F) = go (pure-literal (X ++ (d ∷ F)) d) refl (from-eliminates (X ++ (d ∷ [])) F) (from-eliminates X F)
@@ -104,7 +104,7 @@ into-later {l} {d} {es} c i = go (i .goes)
     go : Goes-into (i .choice) (pure-deleted l d ∷ es) c → Into es c
     go (later g) = record { choice = i .choice; goes = g }
 
-pub eliminates-sound : {h : ℕ} {F E G : Formula} {es rest L : List Event} {xs : List Line} → Fits h F → Eliminates F es E → Known h rest E →
+eliminates-sound : {h : ℕ} {F E G : Formula} {es rest L : List Event} {xs : List Line} → Fits h F → Eliminates F es E → Known h rest E →
     Sound E rest xs G L → Sound F (es ++ rest) (lines es ++ xs) G L × Known h (es ++ rest) F
 unfolding lines lines-of pure-lines for-each with-first
 eliminates-sound f no-more w s = (s, w)

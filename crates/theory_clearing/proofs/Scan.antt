@@ -36,7 +36,7 @@ module _ (F : Formula) (c : Clash) (p : Proper-all F) (q : Is-clash F c) where
           absurd (v-gone F c p q (k .one) (r .1 .one-stands) (Memᴰ·cast (sym (r .0 ∙ z)) (r .1 .one-holds)))
       go (some k) e (inr z) = let r = clash-at-some (after F (clash-lines c)) n k e in absurd (earlier k (r .0) (r .1) z)
 
-  pub none-up-to : (n : ℕ) → pos n ≡ c .v → ((k : ℕ) → 1 ≤ k → k < n → clash-at F k ≡ none) → (k : ℕ) → 1 ≤ k → k < suc n → clash-at (after F (clash-lines c)) k ≡ none
+  none-up-to : (n : ℕ) → pos n ≡ c .v → ((k : ℕ) → 1 ≤ k → k < n → clash-at F k ≡ none) → (k : ℕ) → 1 ≤ k → k < suc n → clash-at (after F (clash-lines c)) k ≡ none
   none-up-to n e h = one-more (λ k. clash-at (after F (clash-lines c)) k ≡ none) n (none-again n (inl e)) (λ k lo hi. none-again k (inr (h k lo hi)))
 
 -- no variable of the formula is higher after a clash

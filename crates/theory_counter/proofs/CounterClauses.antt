@@ -84,20 +84,20 @@ module _ (k : Choice) (l m : ℤ) (c : Clause) (e : k .literals ≡ l ∷ m ∷ 
   unfolding lit
   first-literal = rw e
 
-  pub stage-2-recursive : stage-2 k ≡ (negsuc (k .below) ∷ l ∷ []) ∷ (pos (suc (k .below)) ∷ negℤ l ∷ []) ∷ stage-2-from (k .below) (m ∷ c)
+  stage-2-recursive : stage-2 k ≡ (negsuc (k .below) ∷ l ∷ []) ∷ (pos (suc (k .below)) ∷ negℤ l ∷ []) ∷ stage-2-from (k .below) (m ∷ c)
   unfolding stage-2
   stage-2-recursive =
       let n : size k - 2 ≡ length c = omega (arith, full-size) in
       rw (n, links-2 k 2 (k .below) m c from-second, first-new, first-literal)
 
-  pub stage-3-recursive : stage-3 k ≡ stage-3-from (k .below) (m ∷ c)
+  stage-3-recursive : stage-3 k ≡ stage-3-from (k .below) (m ∷ c)
   unfolding stage-3
   stage-3-recursive =
       let a : size k - 1 ≡ suc (length c) = omega (arith, full-size) in
       let b : 2 + length c - 1 ≡ suc (length c) = omega arith in
       rw (a, full-size) (rw b at (links-3 k 2 (k .below) m c from-second))
 
-  pub counter-recursive : counter k ≡ counter-from (k .below) l (m ∷ c)
+  counter-recursive : counter k ≡ counter-from (k .below) l (m ∷ c)
   unfolding counter
   counter-recursive = rw (stage-2-recursive, stage-3-recursive)
 

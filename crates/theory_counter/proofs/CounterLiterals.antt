@@ -37,7 +37,7 @@ stages-first g h (l ∷ []) b = (tt, (omega arith, (omega arith, tt)))
 stages-first g h (l ∷ m ∷ c) b =
     let r = stages-first g (suc h) (m ∷ c) (omega arith) in ((omega arith, (omega arith, (omega arith, r .0))), (omega arith, r .1))
 
-pub counter-from-new : (h : ℕ) (l : ℤ) (c p : Clause) → Fit-all h p → (d : Clause) → List·Memᴰ d (counter-from h l c) → Same p d → ⊥
+counter-from-new : (h : ℕ) (l : ℤ) (c p : Clause) → Fit-all h p → (d : Clause) → List·Memᴰ d (counter-from h l c) → Same p d → ⊥
 counter-from-new h l c p =
     let r = stages-first h h c (omega arith) in
     first-above-not h (counter-from h l c) (omega arith, (omega arith, first-above-++ h (stage-2-from h c) (stage-3-from h c) (r .0) (r .1))) p
@@ -61,7 +61,7 @@ stages-absent x h (m ∷ k ∷ c) b n p =
       ((far x (negsuc h) (omega arith), (λ e. p (here (turn x m e)), tt)), r .1),
     )
 
-pub counter-from-absent : (x : ℤ) (h : ℕ) (l : ℤ) (c : Clause) → natAbs x ≤ h → (List·Memᴰ x (l ∷ c) → ⊥) → (List·Memᴰ (negℤ x) (l ∷ c) → ⊥) → Absent x (counter-from h l c)
+counter-from-absent : (x : ℤ) (h : ℕ) (l : ℤ) (c : Clause) → natAbs x ≤ h → (List·Memᴰ x (l ∷ c) → ⊥) → (List·Memᴰ (negℤ x) (l ∷ c) → ⊥) → Absent x (counter-from h l c)
 counter-from-absent x h l c b n p =
     let r = stages-absent x h c b (λ i. n (there i)) (λ i. p (there i)) in
     in-none x (counter-from h l c) (
@@ -86,7 +86,7 @@ stages-fit g h m (k ∷ c) b f =
     let r = stages-fit g (suc h) k c (omega arith) (f .1) in
     (((o, (p, (f .0, tt))), ((q, (n, tt)), ((q, (fit-neg g m (f .0), tt)), r .0))), ((n, (fit-neg g m (f .0), tt)), r .1))
 
-pub counter-from-fits : (h : ℕ) (l m : ℤ) (c : Clause) → Fit-all h (l ∷ m ∷ c) → Fits (h + length (m ∷ c)) (counter-from h l (m ∷ c))
+counter-from-fits : (h : ℕ) (l m : ℤ) (c : Clause) → Fit-all h (l ∷ m ∷ c) → Fits (h + length (m ∷ c)) (counter-from h l (m ∷ c))
 counter-from-fits h l m c f =
     every (Fit g) (counter-from h l (m ∷ c)) (
       (fit-negsuc g h (omega arith), (up l (here refl), tt)),
@@ -111,7 +111,7 @@ stage-3-length : (h : ℕ) (m : ℤ) (c : Clause) → length (stage-3-from h (m 
 stage-3-length h m [] = refl
 stage-3-length h m (k ∷ c) = omega (arith, stage-3-length (suc h) k c)
 
-pub counter-from-length : (h : ℕ) (l m : ℤ) (c : Clause) → length (counter-from h l (m ∷ c)) ≡ 4 * length (m ∷ c)
+counter-from-length : (h : ℕ) (l m : ℤ) (c : Clause) → length (counter-from h l (m ∷ c)) ≡ 4 * length (m ∷ c)
 counter-from-length h l m c =
     omega (arith, length-append (stage-2-from h (m ∷ c)) (stage-3-from h (m ∷ c)), stage-2-length h m c, stage-3-length h m c)
 

@@ -73,7 +73,7 @@ links-spread h m (k ∷ c) a b =
         (rw e at (s .0 (pos (suc (suc h))) (there (here refl))))
     second o n d (there i) s = differs-by (negℤ m) (negℤ m ∷ pos (suc (suc h)) ∷ []) (link-deletions (suc h) (k ∷ c)) (here refl) n d i s
 
-pub deletions-spread : (h : ℕ) (l m : ℤ) (c : Clause) → Proper (l ∷ m ∷ c) → Up-to h (l ∷ m ∷ c) → Spread (deletions-from h l (m ∷ c))
+deletions-spread : (h : ℕ) (l m : ℤ) (c : Clause) → Proper (l ∷ m ∷ c) → Up-to h (l ∷ m ∷ c) → Spread (deletions-from h l (m ∷ c))
 deletions-spread h l m c a b =
     let o = b l (here refl) in
     let o′ : natAbs (negℤ l) ≤ h = rw natAbs-neg o in
@@ -103,7 +103,7 @@ links-found h m (k ∷ c) =
       ),
     )
 
-pub deletions-found : (h : ℕ) (l m : ℤ) (c : Clause) → Found-all (deletions-from h l (m ∷ c)) (counter-from h l (m ∷ c))
+deletions-found : (h : ℕ) (l m : ℤ) (c : Clause) → Found-all (deletions-from h l (m ∷ c)) (counter-from h l (m ∷ c))
 deletions-found h l m c = (
   (negsuc h ∷ l ∷ [], here refl, pair-turned l (negsuc h)),
   (
@@ -132,7 +132,7 @@ links-times x h m (k ∷ c) b =
       links-times x (suc h) k c (omega arith),
     )
 
-pub deletions-times : (x : ℤ) (h : ℕ) (l m : ℤ) (c : Clause) → natAbs x ≤ h → times x (counter-from h l (m ∷ c)) ≡ times x (deletions-from h l (m ∷ c))
+deletions-times : (x : ℤ) (h : ℕ) (l m : ℤ) (c : Clause) → natAbs x ≤ h → times x (counter-from h l (m ∷ c)) ≡ times x (deletions-from h l (m ∷ c))
 unfolding times count
 deletions-times x h l m c b =
     omega (

@@ -71,7 +71,7 @@ module _ (k : Choice) (E : Formula) (b : Before E k) where
   pub ordered-times : (x : ℤ) → natAbs x ≤ k .below → times x (ordered E k) ≤ times x E
   ordered-times x s = omega (arith, left-times x s, pass-times k u x s E)
 
-  pub ordered-gone : Gone (k .literals) (ordered E k)
+  ordered-gone : Gone (k .literals) (ordered E k)
   ordered-gone x i = (
     none-times x (ordered E k) (omega (arith, ordered-times x (u .fit x i .1), b .absent x i)),
     none-times (negℤ x) (ordered E k)

@@ -57,7 +57,7 @@ module _ (σ : Assignment) where
         (λ e. rw e (omega (arith, negated σ l (a .0), bit-not (σ (suc h)), s .0, s .1 .0)))
         (link-trues h m c x (a .3) (sat-left σ (stage-2-from h (m ∷ c)) (stage-3-from h (m ∷ c)) (s .1 .1)) (sat-right σ (stage-2-from h (m ∷ c)) (stage-3-from h (m ∷ c)) (s .1 .1)))
 
-    pub replaced-from-trues : (d : Clause) → trues σ (replaced-from h l (m ∷ c) d) ≡ trues σ d
+    replaced-from-trues : (d : Clause) → trues σ (replaced-from h l (m ∷ c) d) ≡ trues σ d
     unfolding trues count
     replaced-from-trues [] = refl
     replaced-from-trues (x ∷ d) =
@@ -101,7 +101,7 @@ module _ (h : ℕ) (l m : ℤ) (c : Clause) where
       go true e (here q) = inr (rw q (omega arith))
       go false e j = ⊎-elim (λ p. inl (p .0, no-negated l (m ∷ c) y e (p .1))) (λ p. inr p) (link-mem h m c y z j)
 
-  pub replaced-mem : (d : Clause) (z : ℤ) → List·Memᴰ z (replaced-from h l (m ∷ c) d) → (List·Memᴰ z d × No-negated (l ∷ m ∷ c) z) ⊎ Between (suc h) (h + length (m ∷ c)) z
+  replaced-mem : (d : Clause) (z : ℤ) → List·Memᴰ z (replaced-from h l (m ∷ c) d) → (List·Memᴰ z d × No-negated (l ∷ m ∷ c) z) ⊎ Between (suc h) (h + length (m ∷ c)) z
   replaced-mem (y ∷ d) z i =
       ⊎-elim
       (λ j. ⊎-elim (λ p. inl (here (p .0), rw (p .0) (p .1))) (λ p. inr p) (instead-mem y z j))

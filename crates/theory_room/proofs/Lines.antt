@@ -98,7 +98,7 @@ module _ (b : Clause) (c : Choice) (u : Well-formed c) (f : Formula) (a : All-cl
   pub order-gone-through : order-events c (after f (lines-of (take-choice f b c))) ≡ for-each (before-counter c f) (replace c) ++ (literals-deleted c ∷ [])
   order-gone-through = ap (order-events c) after-taken ∙ order-events-are c (before-counter c f)
 
-  pub events-of-choice : (form : Form) (e : Event) → List·Memᴰ e (choice-events form f b c) → Of-choice b c f e
+  events-of-choice : (form : Form) (e : Event) → List·Memᴰ e (choice-events form f b c) → Of-choice b c f e
   unfolding choice-events replace
   events-of-choice counter-form e m = rw (List·Memᴰ·eq-of-singleton m) taken
   events-of-choice order-form e (here q) = rw q taken
@@ -109,7 +109,7 @@ module _ (b : Clause) (c : Choice) (u : Well-formed c) (f : Formula) (a : All-cl
       each : (d : Clause) → List·Memᴰ d (before-counter c f) → List·Memᴰ e (replace c d) → Of-choice b c f e
       each d i k = rw (List·Memᴰ·eq-of-singleton (only-if-mem (opposes (c .literals) d) (clause-replaced d (replaced c d) ∷ []) e k .1)) (replacing d i)
 
-  pub choice-lines-to : (form : Form) → All-lines (Proper-to (last-new c)) (lines (choice-events form f b c))
+  choice-lines-to : (form : Form) → All-lines (Proper-to (last-new c)) (lines (choice-events form f b c))
   unfolding lines-of literal-deletions
   choice-lines-to form = all-events (Proper-to (last-new c)) (choice-events form f b c) (λ e m. by-event e (events-of-choice form e m))
     where

@@ -182,7 +182,7 @@ module _ (s : Settings) (i : Input) (h : Run s i) where
   unfolding log
   parts-lead xs ys e = leads-split (lines xs) (lines ys) (rw (ap lines e ∙ lines-++ xs ys) at (h .leads))
 
-  pub parts-proper : (xs ys : List Event) → events s i ≡ xs ++ ys → All-lines Proper (lines xs) × All-lines Proper (lines ys)
+  parts-proper : (xs ys : List Event) → events s i ≡ xs ++ ys → All-lines Proper (lines xs) × All-lines Proper (lines ys)
   unfolding log
   parts-proper xs ys e =
       let p : All-lines Proper (lines xs ++ lines ys) = rw (ap lines e ∙ lines-++ xs ys) at log-proper in

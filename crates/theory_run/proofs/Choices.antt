@@ -95,13 +95,13 @@ module _ (F : Formula) (c : Clause) (k : Choice) (f : Fits (k .below) F) (r : Re
         sum-≤ (λ d. sum-of numbers (results k d)) (λ d. sum-of n (replace k d)) E (λ d _. result-space k d),
       )
 
-  pub front-proper-of : Proper-all F → Proper-all (front F k)
+  front-proper-of : Proper-all F → Proper-all (front F k)
   front-proper-of p d m =
       ⊎-elim (p d) (λ i. pairs-to (k .below) (k .literals) (r .proper, λ x j. own-fit F c k f r x j .1) d (missing-mem F (k .literals) d i) .0)
       (List·Memᴰ·append-cases F (mem-removes (front-removes F c k f r) m))
 
 -- the variables are within the tables' reach
-pub few-variables : {i : Input} → Accepted input-limits i → i .highest ≤ 8_000
+few-variables : {i : Input} → Accepted input-limits i → i .highest ≤ 8_000
 unfolding input-limits
 few-variables a = a .highest-few
 
@@ -212,7 +212,7 @@ module _ (i : Input) (a : Accepted input-limits i) (s : Settings) where
     unfolding F k es
     room-F = steps i a s .choice cs ds c e
 
-    pub takeable-choice : Takeable (s .form) (workspace-need i) (standing-after-first s i cs) c (next-choice s i cs c)
+    takeable-choice : Takeable (s .form) (workspace-need i) (standing-after-first s i cs) c (next-choice s i cs c)
     unfolding F k es
     takeable-choice =
         let t = chosen-mem s i c next-in in

@@ -48,7 +48,7 @@ module _ (F : Formula) (b : Clause) (k : Choice) (f : Fits (k .below) F) (r : Re
   before-order = record { well-formed = well-formed F b k f r; fits = front-fits F b k f r; absent = front-own F b k f r }
 
   -- every line is sound, and clauses that go into a choice are known
-  pub choice-sound : (form : Form) {H : Formula} {K L : List Event} {xs : List Line} → Known (last-new k) K (after-form form F k) → Sound (after-form form F k) K xs H L →
+  choice-sound : (form : Form) {H : Formula} {K L : List Event} {xs : List Line} → Known (last-new k) K (after-form form F k) → Sound (after-form form F k) K xs H L →
       Sound F (choice-events form F b k ++ K) (lines (choice-events form F b k) ++ xs) H L × Known (k .below) (choice-events form F b k ++ K) F
   unfolding after-form choice-events lines for-each
   choice-sound counter-form w s = (rw append-nil (counter-sound F b k f r s), counter-known F b k f r w)
@@ -79,13 +79,13 @@ module _ (F : Formula) (b : Clause) (k : Choice) (f : Fits (k .below) F) (r : Re
     unopposed : opposes (k .literals) c ≡ false
     unopposed = to-false (λ t. let o = opposes-mem (k .literals) c t in d (o .0) (o .1) (negℤ (o .0)) (o .2) (sym (natAbs-neg (o .0))))
 
-    pub after-stands : (form : Form) → List·Memᴰ c (after-form form F k)
+    after-stands : (form : Form) → List·Memᴰ c (after-form form F k)
     unfolding after-form
     after-stands counter-form = Memᴰ·append-left (counter k) in-front
     after-stands order-form =
         ordered-mem k (front F k) before-order c in-front unopposed y j (other y j .not-in) (other y j .not-negated)
 
-    pub after-alone : (form : Form) (x : ℤ) → List·Memᴰ x c → times x F ≡ 1 → times x (after-form form F k) ≡ 1
+    after-alone : (form : Form) (x : ℤ) → List·Memᴰ x c → times x F ≡ 1 → times x (after-form form F k) ≡ 1
     unfolding after-form
     after-alone counter-form x m e =
         omega (arith, times-++ x (front F k) (counter k), times-none x (counter k) (counter-absent k (r .long) x (other x m)), front-other F b k f r x (other x m))

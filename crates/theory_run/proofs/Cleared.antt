@@ -11,8 +11,6 @@ use Rattle.definition.specs.Events.{Event}
 use Rattle.definition.specs.Clearing.{clear-clashes, clear-pure}
 use Rattle.definition.specs.Reencoding.{lines, counter-form, Settings, chosen, events, unclashed, cleared}
 use Rattle.definition.specs.Alignment.{as-listed}
-use Rattle.theory_clearing.proofs.Clashes.{lowest-none, unclashed-proper, no-clash-left}
-use Rattle.theory_clearing.proofs.Cleared.{cleared-facts}
 use Rattle.theory_text.specs.Accepted.{Accepted}
 use Rattle.theory_room.proofs.Rises.{clearing-risen}
 use Rattle.theory_room.proofs.Cleared.{Clearing, clearing-event, cleared-after}
@@ -20,7 +18,6 @@ use Rattle.theory_room.specs.Choices.{clearing}
 use Rattle.theory_room.proofs.Runs.{choosing, events-are, weight-after, literal-weight, literal-most, literal-least, weight-most, weight-least}
 use Rattle.theory_run.proofs.LogSound.{accepted-run}
 use Rattle.theory_run.proofs.Steps.{events-from-clashes}
-use Rattle.theory_run.specs.Sizes.{Standing-cleared}
 
 module _ (i : Input) (a : Accepted input-limits i) where
   -- clearing only shortens, in any settings
@@ -45,23 +42,6 @@ module _ (i : Input) (a : Accepted input-limits i) where
       let f = i .formula in
       shorter (clear-clashes f) (clear-pure (unclashed f) ++ choosing any-settings i) (events-from-clashes any-settings i) (λ e m. clearing-event f e (Memᴰ·append-left (clear-pure (unclashed f)) m))
 
-  pub cleared-shorter : length (cleared (i .formula)) ≤ length (i .formula)
+  cleared-shorter : length (cleared (i .formula)) ≤ length (i .formula)
   cleared-shorter =
       omega (arith, shorter (clearing (i .formula)) (choosing any-settings i) (events-are any-settings i) (clearing-event (i .formula)), ap (λ (X : Formula). length X) (cleared-after (i .formula)))
-
-  pub unclashed-standing : Standing-cleared i (unclashed (i .formula))
-  unfolding input-limits
-  unclashed-standing =
-      let r = unclashed-proper (a .proper) (a .fits) in
-      record {
-        proper = r .0;
-        fits = r .1;
-        free = lowest-none (unclashed (i .formula)) (r .0) (no-clash-left (i .formula) (a .proper));
-        few = omega (arith, unclashed-shorter, a .clauses-few);
-      }
-
-  pub cleared-standing : Standing-cleared i (cleared (i .formula))
-  unfolding input-limits
-  cleared-standing =
-      let r = cleared-facts (a .proper) (a .fits) in
-      record { proper = r .0; fits = r .1; free = r .2; few = omega (arith, cleared-shorter, a .clauses-few) }

@@ -196,7 +196,7 @@ module _ (i : Input) (a : Accepted input-limits i) (s : Settings) where
         a .literals-few,
       )
 
-  pub log-lines : All-lines (Up-to 70_000) (log s i)
+  log-lines : All-lines (Up-to 70_000) (log s i)
   unfolding input-limits
   log-lines x m y j = omega (arith, log-to s i run x m .1 y j, chosen-few s i run (chosen-parted s i (a .proper) (a .fits)) .1, a .highest-few, top-most s i run)
 

@@ -24,7 +24,7 @@ taken-same : (F : Formula) (c d : Clause) (k : Choice) → lines-of (take-choice
 unfolding take-choice lines-of
 taken-same F c d k = refl
 
-pub choice-lines-same : (form : Form) (F : Formula) (c d : Clause) (k : Choice) → lines (choice-events form F c k) ≡ lines (choice-events form F d k)
+choice-lines-same : (form : Form) (F : Formula) (c d : Clause) (k : Choice) → lines (choice-events form F c k) ≡ lines (choice-events form F d k)
 unfolding choice-events lines for-each
 choice-lines-same counter-form F c d k = ap (λ (xs : List Line). xs ++ []) (taken-same F c d k)
 choice-lines-same order-form F c d k = ap (λ (xs : List Line). xs ++ lines (order-events k (after F xs))) (taken-same F c d k)

@@ -4,7 +4,7 @@ use mathlib.Core.Bool.{false}
 use mathlib.Core.List.{List, [], _∷_, _++_}
 use Prim.Native.Nat.{_+_, _≤_, _<_, _^_}
 use lib.ListN.{length}
-use Rattle.definition.specs.Literals.{Clause, Formula, opposed}
+use Rattle.definition.specs.Literals.{Clause, opposed}
 use Rattle.definition.specs.Reading.{Input}
 use Rattle.definition.specs.Standing.{Line, after}
 use Rattle.definition.specs.Events.{Clash, Event, clash-cleared}
@@ -13,8 +13,7 @@ use Rattle.definition.specs.Alignment.{choice-literals}
 use Rattle.definition.specs.Log.{log-text, formula-text}
 use Rattle.definition.specs.Reencoding.{lines, Settings, choice-events, unclashed, chosen, events, log, result, highest-used}
 use Rattle.definition.specs.Calls.{workspace-need, numbers-of}
-use Rattle.theory_base.specs.Clauses.{Proper, Proper-all, Fits, Fit-all}
-use Rattle.theory_clearing.specs.Clashes.{Clash-free}
+use Rattle.theory_base.specs.Clauses.{Proper, Fit-all}
 use Rattle.theory_room.specs.Choices.{standing-after-first, next-choice, used-after, order-of}
 use Rattle.theory_run.specs.Choices.{events-up-to}
 
@@ -22,13 +21,6 @@ use Rattle.theory_run.specs.Choices.{events-up-to}
 pub record Short (ks ls : List Line) : Type 0 where
   pub text : length (log-text ks) + length (log-text ls) < 2 ^ 62
   pub count : length ks + length ls < 2 ^ 62
-
--- what stands when no clash is left, or when the pure clauses are deleted too; proved as `unclashed-standing` and `cleared-standing` in proofs/Cleared
-pub record Standing-cleared (i : Input) (F : Formula) : Type 0 where
-  pub proper : Proper-all F
-  pub fits : Fits (i .highest) F
-  pub free : Clash-free F
-  pub few : length F ≤ 20_000
 
 -- the whole run
 pub record Sizes (s : Settings) (i : Input) : Type 0 where

@@ -23,7 +23,7 @@ pub data Removes : Formula → Formula → Formula → Type 0 where
   none-left : {F : Formula} → Removes F [] F
   next : {F E G D : Formula} {d : Clause} → Removed d F E → Removes E D G → Removes F (d ∷ D) G
 
-pub sat-removes : (σ : Assignment) {F D G : Formula} → Removes F D G → Sat σ F → Sat σ G
+sat-removes : (σ : Assignment) {F D G : Formula} → Removes F D G → Sat σ F → Sat σ G
 sat-removes σ none-left s = s
 sat-removes σ (next e r) s = sat-removes σ r (sat-less σ e s)
 

@@ -19,7 +19,7 @@ use Rattle.theory_base.proofs.Removal.{Removed, sat-more}
 use Rattle.theory_soundness.proofs.Sound.{Into, Ones, Sound, adding, deleting}
 
 -- ---- repairing: a clause that holds changes nothing, one that is all false gets its first literal
-pub by-repaired : (P : Assignment → Type 0) (l : ℤ) (c : Clause) (σ : Assignment) →
+by-repaired : (P : Assignment → Type 0) (l : ℤ) (c : Clause) (σ : Assignment) →
     (1 ≤ trues σ (l ∷ c) → P σ) → (trues σ (l ∷ c) ≡ 0 → P (make-true l σ)) → P (repaired (l ∷ c) σ)
 unfolding repaired
 by-repaired P l c σ f g = go (has-true σ (l ∷ c)) refl
@@ -31,7 +31,7 @@ by-repaired P l c σ f g = go (has-true σ (l ∷ c)) refl
     go true e = f (has-trues σ (l ∷ c) (of-true e))
     go false e = g (none (trues σ (l ∷ c)) (λ h. differ (trues-has σ (l ∷ c) h) e))
 
-pub repaired-holds : (c : Clause) (σ : Assignment) → 1 ≤ trues σ c → repaired c σ ≡ σ
+repaired-holds : (c : Clause) (σ : Assignment) → 1 ≤ trues σ c → repaired c σ ≡ σ
 unfolding repaired
 repaired-holds [] σ h = refl
 repaired-holds (l ∷ c) σ h = by-repaired (λ τ. τ ≡ σ) l c σ (λ g. refl) (λ g. absurd (omega arith))
@@ -44,7 +44,7 @@ first-true l c σ = omega (arith, made l σ)
 abbrev pub Clear : ℤ → List Event → Type 0
 Clear l K = (d : Clause) → Into K d → (m : ℤ) → List·Memᴰ m d → natAbs m ≢ natAbs l
 
-pub ones-clear : (σ : Assignment) (l : ℤ) (K : List Event) → Clear l K → Ones σ K → Ones (make-true l σ) K
+ones-clear : (σ : Assignment) (l : ℤ) (K : List Event) → Clear l K → Ones σ K → Ones (make-true l σ) K
 ones-clear σ l K h o c m = trues-same σ (make-true l σ) c (λ x d. unmoved l x σ (h c m x d)) ∙ o c m
 
 -- a clause without the negation stays true

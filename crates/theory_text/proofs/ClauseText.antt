@@ -53,11 +53,11 @@ pub space-or-tab-outside : Outside space-or-tab
 unfolding space-or-tab is
 space-or-tab-outside b f g = rw (ne-eqb b 32 (λ e. omega arith), ne-eqb b 9 (λ e. omega arith))
 
-pub blanks-outside : Outside blank
+blanks-outside : Outside blank
 unfolding blank is
 blanks-outside b f g = rw (ne-eqb b 32 (λ e. omega arith), ne-eqb b 9 (λ e. omega arith), ne-eqb b 13 (λ e. omega arith), ne-eqb b 10 (λ e. omega arith))
 
-pub literal-free : (p : ℕ → Bool) → Outside p → (l : ℤ) → Free p (literal-text l)
+literal-free : (p : ℕ → Bool) → Outside p → (l : ℤ) → Free p (literal-text l)
 literal-free p h l = between-free p 45 57 h (literal-text l) (literal-between l)
 
 pub digits-free : (p : ℕ → Bool) → Outside p → (n : ℕ) → Free p (digits n)

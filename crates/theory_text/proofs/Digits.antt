@@ -19,7 +19,7 @@ abbrev pub Between : ℕ → ℕ → Bytes → Type 0
 Between a z [] = Unit {0}
 Between a z (b ∷ t) = (a ≤ b) × (b ≤ z) × Between a z t
 
-pub between-++ : (a z : ℕ) (s t : Bytes) → Between a z s → Between a z t → Between a z (s ++ t)
+between-++ : (a z : ℕ) (s t : Bytes) → Between a z s → Between a z t → Between a z (s ++ t)
 between-++ a z [] t f g = g
 between-++ a z (b ∷ s) t f g = (f .0, f .1, between-++ a z s t (f .2) g)
 
@@ -98,7 +98,7 @@ between-wider : (t : Bytes) → Between 48 57 t → Between 45 57 t
 between-wider [] f = tt
 between-wider (b ∷ t) f = (omega (arith, f .0), f .1, between-wider t (f .2))
 
-pub digits-between : (n : ℕ) → Between 48 57 (digits n)
+digits-between : (n : ℕ) → Between 48 57 (digits n)
 digits-between n = between-digits n (digits n) (numeral-digits n)
 
 pub literal-between : (l : ℤ) → Between 45 57 (literal-text l)
@@ -109,7 +109,7 @@ literal-between (negsuc n) = (omega arith, omega arith, between-wider (digits (s
 numeral-some : (n : ℕ) (t : Bytes) → Numeral n t → 1 ≤ length t
 numeral-some n (b ∷ t) f = omega arith
 
-pub digits-some : (n : ℕ) → 1 ≤ length (digits n)
+digits-some : (n : ℕ) → 1 ≤ length (digits n)
 digits-some n = numeral-some n (digits n) (numeral-digits n)
 
 pub literal-some : (l : ℤ) → 1 ≤ length (literal-text l)

@@ -107,7 +107,7 @@ pub settings-named : (f : Code-form.Form) (a : Code-arrangement.Arrangement) (m 
 settings-named f a m n e d = rw (e, d) refl
 
 -- what the exported call ensures, from what reencoding ensures for the settings that the numbers name
-module _ (s : Code-settings.Settings) (m n : ℕ) (text : Bytes) (work : List ℤ) (log formula : Bytes) {log' formula' : Bytes} (before : List ℕ) {after : List ℕ} {r : Code-outcome.Reencoding}
+module _ (s : Code-settings.Settings) (m n : ℕ) (text : Bytes) (work : List ℤ) (log formula : Bytes) {log' formula' : Bytes} (before : List ℕ) {r : Code-outcome.Reencoding}
     (es : settings-of s ≡ settings-number m n)
     (er : r ≡ outcome-of (outcome s text work log formula))
     (el : log' ≡ buffer-after 0 (outcome s text work log formula) (λ o. o .log) log)
@@ -123,11 +123,11 @@ module _ (s : Code-settings.Settings) (m n : ℕ) (text : Bytes) (work : List �
         × ((formula' ≡ buffer-after 0 (reencoding m n text work log formula) (λ o. o .formula) formula)
         × (tally ≡ tally-after (reencoding m n text work log formula) reencoding-counts before)))
 
-    with-buffers : {k : ℕ} → (k ≡ number-of (reencoding m n text work log formula)) × (after ≡ tally-after (reencoding m n text work log formula) reencoding-counts before) → Exported k after
+    with-buffers : {k : ℕ} {after : List ℕ} → (k ≡ number-of (reencoding m n text work log formula)) × (after ≡ tally-after (reencoding m n text work log formula) reencoding-counts before) → Exported k after
     with-buffers d = (d .0, (rw same-outcome at el, (rw same-outcome at eo, d .1)))
 
-    pub exported-done : (t : Code.Tally) → r ≡ Reencoding.Done t → after ≡ overwritten (done-counts t) before → Exported 0 after
-    exported-done t e c = with-buffers (reencoding-counted (reencoding m n text work log formula) t before after (sym (rw same-outcome at er) ∙ e) c)
+    pub exported-done : (t : Code.Tally) {after : List ℕ} → r ≡ Reencoding.Done t → after ≡ overwritten (done-counts t) before → Exported 0 after
+    exported-done t {after} e c = with-buffers (reencoding-counted (reencoding m n text work log formula) t before after (sym (rw same-outcome at er) ∙ e) c)
 
-    pub exported-refused : (k : ℕ) → r ≡ Reencoding.Refused k → after ≡ replicate (length before) 0 → Exported k after
-    exported-refused k e c = with-buffers (reencoding-refused (reencoding m n text work log formula) k before after (sym (rw same-outcome at er) ∙ e) c)
+    pub exported-refused : (k : ℕ) {after : List ℕ} → r ≡ Reencoding.Refused k → after ≡ replicate (length before) 0 → Exported k after
+    exported-refused k {after} e c = with-buffers (reencoding-refused (reencoding m n text work log formula) k before after (sym (rw same-outcome at er) ∙ e) c)

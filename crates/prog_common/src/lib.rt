@@ -113,7 +113,7 @@ fn print_reencoded(
 pub fn reencode_input(is_log: bool) {
     let mut text = [0u8; 524288];
     let mut work = [0i32; 1296192];
-    let mut log = [0u8; 1048576];
-    let mut formula = [0u8; 524288];
+    let mut log = [0u8; 524288];
+    let mut formula = [0u8; 262144];
     print_reencoded(is_log, &mut text, &mut work, &mut log, &mut formula);
 }

@@ -13,10 +13,10 @@ slice-aggregate-print-reencoded-2 : tie.Need-slice-aggregate-print-reencoded-2
 slice-aggregate-print-reencoded-2 c = sym (length-replicate {A = ℤ} 1296192 (pos 0))
 
 slice-aggregate-print-reencoded-3 : tie.Need-slice-aggregate-print-reencoded-3
-slice-aggregate-print-reencoded-3 c = sym (length-replicate {A = ℕ} 1048576 0)
+slice-aggregate-print-reencoded-3 c = sym (length-replicate {A = ℕ} 524288 0)
 
 slice-aggregate-print-reencoded-4 : tie.Need-slice-aggregate-print-reencoded-4
-slice-aggregate-print-reencoded-4 c = sym (length-replicate {A = ℕ} 524288 0)
+slice-aggregate-print-reencoded-4 c = sym (length-replicate {A = ℕ} 262144 0)
 
 print-reencoded-requires : tie.Need-print-reencoded-requires
 print-reencoded-requires c κs = search needs

@@ -19,12 +19,15 @@ write-all-requires c κs = search needs
 print-number-requires : tie.Need-print-number-requires
 print-number-requires c κs = search needs
 
+counter-requires : tie.Need-counter-requires
+counter-requires c κs = search needs
+
 array-share-prefix-text : tie.Need-array-share-prefix-text
 array-share-prefix-text c = search needs
 
 slice-aggregate-reencode : tie.Need-slice-aggregate-reencode
 slice-aggregate-reencode c =
-    let put-unique = c .before .before .before .before .before .before .put-unique in
+    let put-unique = c .before .before .before .before .before .before .before .put-unique in
     sym (length-take-le (put-unique .result) (put-unique .last .0) (search needs))
 
 slice-aggregate-reencode-2 : tie.Need-slice-aggregate-reencode-2
@@ -66,6 +69,7 @@ print-size-spec =
     slice-aggregate-write-all
     write-all-requires
     print-number-requires
+    counter-requires
     array-share-prefix-text
     slice-aggregate-reencode
     slice-aggregate-reencode-2

@@ -9,7 +9,6 @@ use common::{
 };
 use model::encoding::Encoding;
 use model::generator::{answer_after, damage, damage_log, text_of, Random};
-use model::reading::Formula;
 use model::texts::log_text;
 use std::collections::BTreeMap;
 

@@ -18,6 +18,7 @@ ghost use Rattle.theory_text.specs.Runs.{letters};
 ghost use Rattle.theory_text.specs.HeaderLine.{marker};
 ghost use Rattle.text.specs.Output.{Put};
 ghost use Rattle.store.specs.Store.{Formed, stored, past};
+ghost use Rattle.tables.specs.Sizes.{log-reach, log-size};
 ghost use Rattle.tables.specs.Stamps.{Marks, Fresh};
 ghost use Rattle.dimacs.specs.Limits.{limits-of, Countable};
 ghost use Rattle.dimacs.specs.HeaderLine.{counts-by, counts-of, Header-post};
@@ -39,7 +40,7 @@ pub fn input_limits() -> Limits
     ensures { λ r. ⌜ (limits-of r ≡ input-limits) × Countable r ⌝ }
 {
     Limits {
-        variables: 8000,
+        variables: tables::INPUT_REACH,
         clauses: 20000,
         literals: 60000,
     }
@@ -50,7 +51,7 @@ pub fn read_back_limits() -> Limits
     ensures { λ r. ⌜ (limits-of r ≡ read-back-limits) × Countable r ⌝ }
 {
     Limits {
-        variables: 70000,
+        variables: tables::LOG_REACH,
         clauses: 300000,
         literals: 1000000,
     }
@@ -200,7 +201,7 @@ enum ClauseRead {
 
 // What a word says by itself: 3, 4.
 fn number_item(word: &[u8], variables: u32) -> Item
-    requires { ⌜ variables ≤ 70000 ⌝ }
+    requires { ⌜ variables ≤ log-reach ⌝ }
     ensures { λ r. ⌜ r ≡ number-item variables (number (now (word .entry))) ⌝ }
 {
     match text::read_number(word) {
@@ -220,8 +221,8 @@ fn number_item(word: &[u8], variables: u32) -> Item
 
 // What a word says in its clause: 3, 4, 5, 6.
 fn read_item(word: &[u8], seen: &mut [u32], stamp: u32, variables: u32) -> Item
-    requires { ⌜ variables ≤ 70000 ⌝ }
-    requires { ⌜ 140002 ≤ length (now seen) ⌝ }
+    requires { ⌜ variables ≤ log-reach ⌝ }
+    requires { ⌜ log-size ≤ length (now seen) ⌝ }
     ensures { λ r. ⌜ ((here : Clause) → Marks (now (seen .entry)) stamp here → Item-post variables here (now (word .entry)) (now (seen .exit)) stamp r) ⌝ }
 {
     match number_item(word, variables) {
@@ -252,8 +253,8 @@ fn read_clause(
     room: usize,
     store: &mut [i32],
 ) -> ClauseRead
-    requires { ⌜ variables ≤ 70000 ⌝ }
-    requires { ⌜ 140002 ≤ length (now seen) ⌝ }
+    requires { ⌜ variables ≤ log-reach ⌝ }
+    requires { ⌜ log-size ≤ length (now seen) ⌝ }
     requires { ⌜ Fresh (now seen) stamp ⌝ }
     requires { ⌜ room ≤ 1000000 ⌝ }
     ensures { λ r. ⌜ Clause-post (now (text .entry)) (first-clause variables room [] (words (now (text .entry)))) room (now (store .entry)) (now (store .exit)) (now (seen .exit)) stamp r ⌝ }
@@ -303,13 +304,13 @@ fn read_clauses(
     most: Limits,
     store: &mut [i32],
 ) -> FormulaRead
-    requires { ⌜ variables ≤ 70000 ⌝ }
+    requires { ⌜ variables ≤ log-reach ⌝ }
     requires { ⌜ clauses ≤ 1000000 ⌝ }
     requires { ⌜ most .literals ≤ 1000000 ⌝ }
     ensures outcome { λ r. ⌜ r ≡ read-of (read-clauses (limits-of most) (header-of variables clauses (now (text .entry)))) ⌝ }
     ensures stored { λ _. ⌜ Filled (read-clauses (limits-of most) (header-of variables clauses (now (text .entry)))) (now (store .entry)) (now (store .exit)) ⌝ }
 {
-    let mut seen = [0u32; 140002];
+    let mut seen = [0u32; tables::LOG_SIZE];
     let mut at = 0;
     let mut done: u32 = 0;
     let mut total: usize = 0;

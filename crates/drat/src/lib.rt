@@ -12,6 +12,7 @@ ghost use Rattle.text.specs.Numbers.{number-class};
 ghost use Rattle.theory_text.specs.Runs.{run-end};
 ghost use Rattle.text.specs.Output.{Put};
 ghost use Rattle.theory_text.specs.LogLines.{first-read, begins-deletion, rest-read};
+ghost use Rattle.tables.specs.Sizes.{log-size};
 ghost use Rattle.tables.specs.Stamps.{Fresh, At-most};
 ghost use Rattle.drat.specs.Lines.{line-of};
 ghost use Rattle.drat.specs.Loaded.{line-header};
@@ -138,7 +139,7 @@ fn read_clause(
     store: &mut [i32],
     to: usize,
 ) -> LineRead
-    requires { ⌜ 140002 ≤ length (now seen) ⌝ }
+    requires { ⌜ log-size ≤ length (now seen) ⌝ }
     requires { ⌜ Fresh (now seen) stamp ⌝ }
     requires { ⌜ to + length (now text) ≤ 2 ^ 64 ⌝ }
     ensures read { λ r. ⌜ Clause-reads (rest-read from [] (drop from (now (text .entry)))) r (now (store .entry)) to (now (store .exit)) ⌝ }
@@ -201,7 +202,7 @@ fn line_header(is_deletion: bool, count: usize) -> i32
 
 // Reads the first line of a text, each literal looked up in a table of stamps; the line's entry is stored.
 fn read_line(text: &[u8], seen: &mut [u32], stamp: u32, store: &mut [i32], to: usize) -> LineRead
-    requires { ⌜ 140002 ≤ length (now seen) ⌝ }
+    requires { ⌜ log-size ≤ length (now seen) ⌝ }
     requires { ⌜ Fresh (now seen) stamp ⌝ }
     requires { ⌜ (0 < length (now text)) × (to + length (now text) < 2 ^ 64) ⌝ }
     ensures read { λ r. ⌜ Line-reads (first-read (now (text .entry))) r (now (store .entry)) to (now (store .exit)) ⌝ }
@@ -229,7 +230,7 @@ pub enum LogRead {
 pub fn read_log(log: &[u8], kept: usize, store: &mut [i32]) -> LogRead
     ensures { λ r. ⌜ Log-reads (read-log kept (now (log .entry))) r (now (store .entry)) 0 (now (store .exit)) ⌝ }
 {
-    let mut seen = [0u32; 140002];
+    let mut seen = [0u32; tables::LOG_SIZE];
     let mut stamp: u32 = 1;
     let mut at = 0;
     let mut lines: usize = 0;

@@ -16,6 +16,9 @@ ghost use Rattle.replay.specs.Replayed.{Replayable, Laid-out, Clause-add
 
 // ---- an index of the clauses by key: a table of the last entry of each key, and a link from each entry to the one before it with the same key
 
+// How many keys there are.
+const KEYS: usize = 140002;
+
 // The lowest index of a clause's literals, no more than 140,001.
 fn lowest(clause: &[i32]) -> usize
     ensures { λ r. ⌜ r ≡ lowest-index (now (clause .entry)) ⌝ }
@@ -51,7 +54,7 @@ fn key_of(clause: &[i32]) -> usize
 {
     let low = lowest(clause);
     let top = greatest(clause);
-    (613 * low + top) % 140002
+    (613 * low + top) % KEYS
 }
 
 // The key of the clause at a place.
@@ -282,7 +285,7 @@ pub fn replay(work: &mut [i32], n: usize, m: usize) -> Replayed
     ensures kept { λ _. ⌜ take m (now (work .exit)) ≡ take m (now (work .entry)) ⌝ }
 {
     copy_up(work, m, 0, n);
-    let mut heads = [0usize; 140002];
+    let mut heads = [0usize; KEYS];
     let links = m + (work.len() - m) / 2;
     index_all(work, &mut heads, m, m + n, links);
     replay_lines(work, &mut heads, n, m, m + n, links)

@@ -17,7 +17,7 @@ use Rattle.definition.specs.Log.{log-text, formula-text}
 use Rattle.definition.specs.Reencoding.{Settings, chosen, events, log, result, highest-used}
 use Rattle.definition.specs.Calls.{read-input, Reencoded, reencoded, workspace-need, numbers-of, reencode, buffer-after}
 use Rattle.theory_text.specs.Accepted.{Accepted}
-use Rattle.theory_text.proofs.Accepted.{input-accepted, input-highest}
+use Rattle.theory_text.proofs.Accepted.{input-read, input-accepted, input-highest}
 use Rattle.text.specs.Output.{Put}
 use Rattle.text.proofs.Output.{put-length}
 use Rattle.store.specs.Store.{stored}
@@ -146,8 +146,7 @@ reencoded-same s i f v e h = rw (e, h) refl
 
 module _ (t : Bytes) (s : Code-settings.Settings) (work : List ℤ) (log₀ formula₀ : Bytes) (m : Code-limits.Limits) (k : limits-of m ≡ input-limits) (a : FormulaRead) (p : a ≡ read-of (read-formula (limits-of m) t)) where
   at-limits : read-formula (limits-of m) t ≡ read-input t
-  unfolding read-input
-  at-limits = ap (λ (l : Limits). read-formula l t) k
+  at-limits = ap (λ (l : Limits). read-formula l t) k ∙ sym (input-read t)
 
   pub call-fault : (n : ℕ) {x y : Bytes} → a ≡ FormulaRead.Fault n → Answers (outcome s t work log₀ formula₀) log₀ formula₀ (Reencoding.Refused n) x y
   unfolding reencode _>>=_

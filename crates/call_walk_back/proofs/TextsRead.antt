@@ -15,7 +15,7 @@ use Rattle.definition.specs.LogReading.{read-log}
 use Rattle.definition.specs.Answer.{read-answer}
 use Rattle.definition.specs.Calls.{read-input, assigned, log-workspace-need, highest-allowed, carry-answer, walk-back}
 use Rattle.theory_base.proofs.Fitting.{highest-in-le}
-use Rattle.theory_text.proofs.Accepted.{input-accepted, input-highest}
+use Rattle.theory_text.proofs.Accepted.{input-read, input-accepted, input-highest}
 use Rattle.theory_text.proofs.LogLines.{lines-fit}
 use Rattle.dimacs.specs.Limits.{limits-of}
 use Rattle.dimacs.specs.Entries.{entries-of}
@@ -64,8 +64,7 @@ module _ (workspace room kept : ℕ) (formula log answer : Bytes) where
 
 module _ (kept : ℕ) (formula log answer : Bytes) (old : List ℤ) (most : Code.Limits) (k : limits-of most ≡ input-limits) (a : FormulaRead) (p : a ≡ read-of (read-formula (limits-of most) formula)) where
   as-input : read-formula (limits-of most) formula ≡ read-input formula
-  unfolding read-input
-  as-input = ap (λ (l : Limits). read-formula l formula) k
+  as-input = ap (λ (l : Limits). read-formula l formula) k ∙ sym (input-read formula)
 
   pub says-formula : (n : ℕ) → a ≡ Formula-read.Fault n → (workspace room : ℕ) → walk-back workspace room kept formula log answer ≡ fault n
   says-formula n q workspace room = formula-refused workspace room kept formula log answer n (formula-answer (read-input formula) (sym q ∙ p ∙ ap read-of as-input))

@@ -1,5 +1,5 @@
 -- Every outcome is a value or one of the listed numbers: laws for the parts of an outcome, then each reader and each call.
-use mathlib.Core.Path.{refl}
+use mathlib.Core.Path.{refl, sym, subst}
 use mathlib.Core.Bool.{Bool, true, false, cond, not, _&&_}
 use mathlib.Core.List.{List, [], _∷_, List·Memᴰ, Memᴰ·cast}
 use mathlib.Core.Option.{Option, some, none}
@@ -18,6 +18,7 @@ use Rattle.definition.specs.Answer.{Answer, begins-with, read-answer-word, read
 use Rattle.definition.specs.Reencoding.{Settings}
 use Rattle.definition.specs.Calls.{reencode, assigned, highest-allowed, read-back, carry-answer, walk-back, buffer-after, read-input}
 use Rattle.theory_base.proofs.Members.{any-mem, all-at}
+use Rattle.theory_text.proofs.Accepted.{input-read}
 use Rattle.theorems.specs.Refusals.{formula-numbers, log-numbers, answer-numbers, reencode-numbers, read-back-numbers, walk-back-numbers, Listed, accepted, refused, Demand-1}
 
 -- the test that a number is in a list, which computes for a list written out
@@ -163,10 +164,13 @@ module _ (x : ℕ) where
       bind-listed (through-listed (λ a l. answer-line-listed a (line-text l)) _ (text-lines t)) (λ a. refuse-listed 41 _ tt accepted)
 
 -- ---- the calls
+input-listed : (t : Bytes) → Listed formula-numbers (read-input t)
+input-listed t = subst (Listed formula-numbers) (sym (input-read t)) (formula-listed input-limits t)
+
 reencode-listed : (s : Settings) (workspace log-room formula-room : ℕ) (t : Bytes) → Listed reencode-numbers (reencode s workspace log-room formula-room t)
-unfolding reencode read-input formula-numbers reencode-numbers any all
+unfolding reencode formula-numbers reencode-numbers any all
 reencode-listed s workspace log-room formula-room t =
-    bind-listed (listed-among tt (formula-listed input-limits t)) (λ i.
+    bind-listed (listed-among tt (input-listed t)) (λ i.
     refuse-listed 11 _ tt (refuse-listed 12 _ tt (refuse-listed 13 _ tt accepted)))
 
 read-back-listed : (workspace : ℕ) (t : Bytes) → Listed read-back-numbers (read-back workspace t)
@@ -186,9 +190,9 @@ unfolding carry-answer formula-numbers log-numbers answer-numbers walk-back-numb
 carry-listed room i ss standing a = refuse-listed 44 _ tt (refuse-listed 33 _ tt (refuse-listed 14 _ tt accepted))
 
 walk-back-listed : (workspace room kept : ℕ) (t log answer : Bytes) → Listed walk-back-numbers (walk-back workspace room kept t log answer)
-unfolding walk-back read-input replay formula-numbers log-numbers answer-numbers walk-back-numbers any all
+unfolding walk-back replay formula-numbers log-numbers answer-numbers walk-back-numbers any all
 walk-back-listed workspace room kept t log answer =
-    bind-listed (listed-among tt (formula-listed input-limits t)) (λ i.
+    bind-listed (listed-among tt (input-listed t)) (λ i.
     bind-listed (listed-among tt (log-listed kept log)) (λ ss.
     bind-listed (listed-among tt (answer-listed (highest-allowed i ss) answer)) (λ named.
     refuse-listed 11 _ tt

@@ -1,5 +1,5 @@
 -- A formula that is read keeps the limits; its clauses are proper and have no variable above V.
-use mathlib.Core.Path.{_≡_, refl, sym, ap, subst}
+use mathlib.Core.Path.{_≡_, refl, sym, ap, _∙_, subst}
 use mathlib.Core.Logic.{_≢_}
 use mathlib.Core.Bool.{Bool, true, false, _||_, cond}
 use mathlib.Core.List.{List, [], _∷_, List·Memᴰ, List·Memᴰ·head as here, List·Memᴰ·not-nil}
@@ -153,10 +153,12 @@ read-highest most t i e =
     subst (λ (j : Input). j .highest ≡ j .variables) (value-same (as-read (h .0 .variables) (h .0 .clauses) (f .0)) i (f .2)) refl
 
 -- ---- the input of a call
-pub input-accepted : (t : Bytes) (i : Input) → read-input t ≡ value i → Accepted input-limits i
+pub input-read : (t : Bytes) → read-input t ≡ read-formula input-limits t
 unfolding read-input
-input-accepted t i e = accepted input-limits t i e
+input-read t = refl
+
+pub input-accepted : (t : Bytes) (i : Input) → read-input t ≡ value i → Accepted input-limits i
+input-accepted t i e = accepted input-limits t i (sym (input-read t) ∙ e)
 
 pub input-highest : (t : Bytes) (i : Input) → read-input t ≡ value i → i .highest ≡ i .variables
-unfolding read-input
-input-highest t i e = read-highest input-limits t i e
+input-highest t i e = read-highest input-limits t i (sym (input-read t) ∙ e)

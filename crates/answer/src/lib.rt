@@ -8,9 +8,13 @@ ghost use Rattle.definition.specs.Assignments.{true-in, has-true};
 ghost use Rattle.definition.specs.Answer.{begins-with, space-or-tab, read-answer-word, read-answer-line, read-answer};
 ghost use Rattle.definition.specs.Calls.{answer-text};
 ghost use Rattle.text.specs.Output.{Put};
+ghost use Rattle.tables.specs.Sizes.{log-reach};
 ghost use Rattle.answer.specs.Table.{entry-of, marked, naming};
 ghost use Rattle.answer.specs.Output.{value-text, values-text};
 ghost use Rattle.answer.specs.Reading.{open-at, read-literal, Steps, Steps-open, Read-as, Ends};
+
+// How many entries a table of values has: one for each variable of a log, and one for 0.
+pub const VALUES: usize = 70001;
 
 // ---- what a line is
 
@@ -132,7 +136,7 @@ fn read_literal(l: i32, x: u32, marks: &mut [u8]) -> Progress
 
 // Reads a word of a `v ` line before the closing 0.
 fn read_open_word(word: &[u8], x: u32, marks: &mut [u8]) -> Progress
-    requires { ⌜ (x ≤ 70000) × (x < length (now marks)) ⌝ }
+    requires { ⌜ (x ≤ log-reach) × (x < length (now marks)) ⌝ }
     ensures { λ r. ⌜ Steps-open (λ c. read-answer-word x (open-at c) (now (word .entry))) (now (marks .entry)) r (now (marks .exit)) ⌝ }
 {
     match text::read_number(word) {
@@ -144,7 +148,7 @@ fn read_open_word(word: &[u8], x: u32, marks: &mut [u8]) -> Progress
 
 // Reads a word of a `v ` line.
 fn read_word(state: Progress, word: &[u8], x: u32, marks: &mut [u8]) -> Progress
-    requires { ⌜ (x ≤ 70000) × (x < length (now marks)) ⌝ }
+    requires { ⌜ (x ≤ log-reach) × (x < length (now marks)) ⌝ }
     ensures { λ r. ⌜ Steps (λ a. read-answer-word x a (now (word .entry))) state (now (marks .entry)) r (now (marks .exit)) ⌝ }
 {
     match state {
@@ -157,7 +161,7 @@ fn read_word(state: Progress, word: &[u8], x: u32, marks: &mut [u8]) -> Progress
 
 // Reads a `v ` line after the `s` line and before the closing 0, word by word.
 fn read_values(line: &[u8], x: u32, marks: &mut [u8]) -> Progress
-    requires { ⌜ (x ≤ 70000) × (x < length (now marks)) ⌝ }
+    requires { ⌜ (x ≤ log-reach) × (x < length (now marks)) ⌝ }
     ensures { λ r. ⌜ Steps-open (λ c. through (read-answer-word x) (open-at c) (words-by space-or-tab (drop 2 (now (line .entry))))) (now (marks .entry)) r (now (marks .exit)) ⌝ }
 {
     let mut state = Progress::Open;
@@ -177,7 +181,7 @@ fn read_values(line: &[u8], x: u32, marks: &mut [u8]) -> Progress
 
 // Reads a line of an answer; after a fault nothing is read.
 fn read_line(state: Progress, line: &[u8], x: u32, marks: &mut [u8]) -> Progress
-    requires { ⌜ (x ≤ 70000) × (x < length (now marks)) ⌝ }
+    requires { ⌜ (x ≤ log-reach) × (x < length (now marks)) ⌝ }
     ensures { λ r. ⌜ Steps (λ a. read-answer-line x a (now (line .entry))) state (now (marks .entry)) r (now (marks .exit)) ⌝ }
 {
     if is_comment(line) {
@@ -215,7 +219,7 @@ fn outcome(state: Progress) -> AnswerRead
 
 // Reads an answer with variables up to x into a table.
 pub fn read_answer(text: &[u8], x: u32, marks: &mut [u8]) -> AnswerRead
-    requires { ⌜ (x ≤ 70000) × (x < length (now marks)) ⌝ }
+    requires { ⌜ (x ≤ log-reach) × (x < length (now marks)) ⌝ }
     ensures { λ r. ⌜ Read-as (read-answer x (now (text .entry))) r (now (marks .exit)) ⌝ }
 {
     text::zero_all(marks);

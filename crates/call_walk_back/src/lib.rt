@@ -11,6 +11,7 @@ ghost use lib.ListN.{length, take};
 ghost use Rattle.definition.specs.Calls.{buffer-after};
 ghost use Rattle.theory_base.specs.Slices.{between};
 ghost use Rattle.answer.specs.Table.{marked};
+ghost use Rattle.tables.specs.Sizes.{log-reach};
 ghost use Rattle.store.specs.Store.{stored};
 ghost use Rattle.drat.specs.Loaded.{lines-in};
 ghost use Rattle.carry.specs.Carried.{carried-text};
@@ -40,7 +41,7 @@ fn read_texts(
     work: &mut [i32],
     marks: &mut [u8],
 ) -> Texts
-    requires { ⌜ 70000 < length (now marks) ⌝ }
+    requires { ⌜ log-reach < length (now marks) ⌝ }
     ensures { λ r. ⌜ Texts-says kept (now (formula .entry)) (now (log .entry)) (now (answer .entry)) (now (work .entry)) r (now (work .exit)) (now (marks .exit)) ⌝ }
 {
     match dimacs::read(formula, dimacs::input_limits(), work) {
@@ -132,7 +133,7 @@ fn walk(
 ) -> WalkedBack
     ensures { λ r. ⌜ Walks (outcome (now (work .entry)) (now (out .entry)) kept (now (formula .entry)) (now (log .entry)) (now (answer .entry))) (now (out .entry)) r (now (out .exit)) ⌝ }
 {
-    let mut marks = [0u8; 70001];
+    let mut marks = [0u8; answer::VALUES];
     match read_texts(formula, log, kept, answer, work, &mut marks) {
         Texts::Fault(k) => WalkedBack::Refused(k),
         Texts::Read(v, n, g, filled, x) => {

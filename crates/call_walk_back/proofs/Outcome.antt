@@ -99,16 +99,22 @@ module _ (old new : List ℤ) (n m v : ℕ) (marks : Bytes) (p : Carryable old n
       named = rw kept-lines (p .named);
     }
 
-    pub carry-walks : (out out' : Bytes) (w : Code.WalkedBack) → Walks (carried-text (length out) v (stored (take n new)) (lines-in (between n m new)) (stored (between m end new)) (marked marks)) out w out' → Walks (replayed-text (length out) v formula lines (marked marks)) out w out'
+    pub carry-walks : (out out' : Bytes) (w : Code.WalkedBack) →
+        Walks (carried-text (length out) v (stored (take n new)) (lines-in (between n m new)) (stored (between m end new)) (marked marks)) out w out' →
+        Walks (replayed-text (length out) v formula lines (marked marks)) out w out'
     carry-walks out out' w c =
         rw (replay-stands (length out) v formula lines (marked marks) (stood .0) (stood .1)) (rw (kept-formula, kept-lines, stood .2 .same) at c)
 
 -- ---- the texts before that
 
-pub texts-fault : (kept : ℕ) (formula log answer : Bytes) (old new : List ℤ) (marks : Bytes) (r : Texts-code.Texts) → Texts-says kept formula log answer old r new marks → (k : ℕ) → r ≡ Texts.Fault k → (workspace room : ℕ) → walk-back workspace room kept formula log answer ≡ fault k
+pub texts-fault : (kept : ℕ) (formula log answer : Bytes) (old new : List ℤ) (marks : Bytes) (r : Texts-code.Texts) →
+    Texts-says kept formula log answer old r new marks → (k : ℕ) → r ≡ Texts.Fault k → (workspace room : ℕ) →
+    walk-back workspace room kept formula log answer ≡ fault k
 texts-fault kept formula log answer old new marks r s k e = rw e at s
 
-pub texts-read : (kept : ℕ) (formula log answer : Bytes) (old new : List ℤ) (marks : Bytes) (r : Texts-code.Texts) → Texts-says kept formula log answer old r new marks → (v n g filled x : ℕ) → r ≡ Texts.Read v n g filled x → Texts-read kept formula log answer old v n g filled x new marks
+pub texts-read : (kept : ℕ) (formula log answer : Bytes) (old new : List ℤ) (marks : Bytes) (r : Texts-code.Texts) →
+    Texts-says kept formula log answer old r new marks → (v n g filled x : ℕ) → r ≡ Texts.Read v n g filled x →
+    Texts-read kept formula log answer old v n g filled x new marks
 texts-read kept formula log answer old new marks r s v n g filled x e = rw e at s
 
 carried-answer : (room : ℕ) (i : Input) (ss : List Line) (a : Assignment) → (replay (i .formula) ss >>= λ standing. carry-answer room i ss standing a) ≡ replayed-text room (i .variables) (i .formula) ss a
@@ -189,7 +195,9 @@ module _ (kept : ℕ) (formula log answer : Bytes) (old new : List ℤ) (v n g f
       named = rw lines-are (omega (arith, highest-in-le 70_000 (t .ss) (λ s i. fit s i .1)));
     }
 
-    pub outcome-walks : (out out' : Bytes) (r : Code.WalkedBack) → Walks (replayed-text (length out) v (stored (take n new)) (lines-in (between n m new)) (marked marks)) out r out' → Walks (outcome old out kept formula log answer) out r out'
+    pub outcome-walks : (out out' : Bytes) (r : Code.WalkedBack) →
+        Walks (replayed-text (length out) v (stored (take n new)) (lines-in (between n m new)) (marked marks)) out r out' →
+        Walks (outcome old out kept formula log answer) out r out'
     unfolding refuse-if
     outcome-walks out out' r z = rw (outcome-is (length old) (length out), ← len, enough) (rw (formula-stands, lines-are) at z)
 

@@ -55,7 +55,8 @@ module _ (most : Limits) (v c : ℕ) where
     abbrev full : Clause → Bool
     full here = leb (most .literals) (literals-of done + length here)
 
-    literal-step : (here : Clause) (l : ℤ) → refuse-if (holds l here) 5 (refuse-if (holds (negℤ l) here) 6 (refuse-if (full here) 9 (value (reader done (here ++ (l ∷ [])))))) ≡ after-item (full here) done here (item-after here (Item.Literal l))
+    literal-step : (here : Clause) (l : ℤ) →
+        refuse-if (holds l here) 5 (refuse-if (holds (negℤ l) here) 6 (refuse-if (full here) 9 (value (reader done (here ++ (l ∷ [])))))) ≡ after-item (full here) done here (item-after here (Item.Literal l))
     unfolding refuse-if
     literal-step here l = go (holds l here) (holds (negℤ l) here)
       where
@@ -64,7 +65,8 @@ module _ (most : Limits) (v c : ℕ) where
         go false true = refl
         go false false = refl
 
-    number-step : (here : Clause) (o : Option ℤ) → (or-fault o 3 >>= λ n. cond (eqb 0 (natAbs n)) (end-clause (reader done here)) (read-literal most v (reader done here) n)) ≡ after-item (full here) done here (item-after here (number-item v o))
+    number-step : (here : Clause) (o : Option ℤ) →
+        (or-fault o 3 >>= λ n. cond (eqb 0 (natAbs n)) (end-clause (reader done here)) (read-literal most v (reader done here) n)) ≡ after-item (full here) done here (item-after here (number-item v o))
     unfolding or-fault _>>=_ end-clause read-literal refuse-if
     number-step here none = refl
     number-step here (some l) = go (eqb 0 (natAbs l)) (ltb v (natAbs l))

@@ -78,7 +78,8 @@ module _ {old buf : Bytes} {from at end : ℕ} {s : List ℤ} (p : Entries old f
 
 -- ---- the header, then the clauses
 
-pub header-put : {x₀ x₁ x₂ x₃ x₄ x₅ : Bytes} {at a b c d r : ℕ} (h m : ℕ) → Put x₀ at (112 ∷ 32 ∷ 99 ∷ 110 ∷ 102 ∷ 32 ∷ []) a x₁ → Put x₁ a (digits h) b x₂ → Put x₂ b (32 ∷ []) c x₃ → Put x₃ c (digits m) d x₄ → Put x₄ d (10 ∷ []) r x₅ → Put x₀ at (header-text h m) r x₅
+pub header-put : {x₀ x₁ x₂ x₃ x₄ x₅ : Bytes} {at a b c d r : ℕ} (h m : ℕ) → Put x₀ at (112 ∷ 32 ∷ 99 ∷ 110 ∷ 102 ∷ 32 ∷ []) a x₁ →
+    Put x₁ a (digits h) b x₂ → Put x₂ b (32 ∷ []) c x₃ → Put x₃ c (digits m) d x₄ → Put x₄ d (10 ∷ []) r x₅ → Put x₀ at (header-text h m) r x₅
 unfolding header-text bytes
 header-put h m p q s t u = put-then (put-then (put-then (put-then p q) s) t) u
 

@@ -57,7 +57,8 @@ module _ (m : Code.Limits) (k : Countable m) (t : Bytes) where
   pub counts-one : letters (is " ") t ≡ length t → Counts.Fault 1 ≡ counts-of (read-header-fields (limits-of m) (fields (marker ++ t)) [])
   counts-one e = sym (ap counts-of (header-short (limits-of m) [] t e))
 
-  pub counts-two : letters (is " ") t < length t → counts-by m (natural-class 1_000_000 (natural (take (letters (is " ") t) t))) (natural-class 1_000_000 (natural (drop (suc (letters (is " ") t)) t))) ≡ counts-of (read-header-fields (limits-of m) (fields (marker ++ t)) [])
+  pub counts-two : letters (is " ") t < length t →
+      counts-by m (natural-class 1_000_000 (natural (take (letters (is " ") t) t))) (natural-class 1_000_000 (natural (drop (suc (letters (is " ") t)) t))) ≡ counts-of (read-header-fields (limits-of m) (fields (marker ++ t)) [])
   counts-two h = counts-classes m k (natural (take (letters (is " ") t) t)) (natural (drop (suc (letters (is " ") t)) t)) ∙ sym (ap counts-of (header-counts (limits-of m) [] t h))
 
   pub counts-header : begins-with marker t ≡ true → counts-of (read-header-fields (limits-of m) (fields (marker ++ drop 6 t)) []) ≡ counts-of (read-header-fields (limits-of m) (fields t) [])

@@ -143,7 +143,12 @@ module _ {most : Limits} {v c : ℕ} {text : Bytes} {old : List ℤ} {table : Li
             filled = omega (arith, l, k, g .filled, g .literals, g .count, numbers-is (g .read), numbers-is (g .read ++ (e .clause ∷ [])));
             below = e .below;
             size = ap length s ∙ length-sets store end (entry (e .clause)) ∙ g .size;
-            stored = s ∙ ap (λ (x : List ℤ). sets x end (entry (e .clause))) (g .stored) ∙ ap (λ (x : ℕ). sets (sets old 0 (entries (g .read))) x (entry (e .clause))) z ∙ sets-then (entries (g .read)) (entry (e .clause)) old 0 ∙ ap (sets old 0) (sym (entries-snoc (g .read) (e .clause)));
+            stored =
+                s
+                ∙ ap (λ (x : List ℤ). sets x end (entry (e .clause))) (g .stored)
+                ∙ ap (λ (x : ℕ). sets (sets old 0 (entries (g .read))) x (entry (e .clause))) z
+                ∙ sets-then (entries (g .read)) (entry (e .clause)) old 0
+                ∙ ap (sets old 0) (sym (entries-snoc (g .read) (e .clause)));
             same = ap (λ (u : Bytes). read-rest most v c (g .read ++ (e .clause ∷ [])) [] (words u)) (sym (ap (drop j) r ∙ drop-drop j at text)) ∙ next (finished (e .clause) (words (drop j rest))) (e .is);
           }
 
@@ -168,5 +173,7 @@ module _ (m : Code.Limits) (t : Bytes) (a : Code-header.Header) (p : Header-post
     unfolding read-formula _>>=_
     formula-clauses r = rw (subst Found q p .0, r) refl
 
-    pub header-clauses : {rest : Bytes} → rest ≡ drop next t → (x : FormulaRead) (old new : List ℤ) → (x ≡ read-of (read-clauses (limits-of m) (header-of v c rest))) × Filled (read-clauses (limits-of m) (header-of v c rest)) old new → (x ≡ read-of (read-formula (limits-of m) t)) × Filled (read-formula (limits-of m) t) old new
+    pub header-clauses : {rest : Bytes} → rest ≡ drop next t → (x : FormulaRead) (old new : List ℤ) →
+        (x ≡ read-of (read-clauses (limits-of m) (header-of v c rest))) × Filled (read-clauses (limits-of m) (header-of v c rest)) old new →
+        (x ≡ read-of (read-formula (limits-of m) t)) × Filled (read-formula (limits-of m) t) old new
     header-clauses r x old new e = subst (λ (o : Checked Input). (x ≡ read-of o) × Filled o old new) (formula-clauses r) e

@@ -89,6 +89,9 @@ abbrev pub Clause-post : Bytes → Checked Clause-read → ℕ → List ℤ → 
 Clause-post t o room old new table stamp (ClauseRead.Fault n) = o ≡ fault n
 Clause-post t o room old new table stamp (ClauseRead.Done next count) = Read t o room old new table stamp next count
 
-examples : (first-clause 3 9 [] (words (bytes "1 -2 0 3 0")) ≡ finished (pos 1 ∷ negsuc 1 ∷ []) (words (bytes "3 0"))) × (first-clause 3 9 [] (words (bytes "1 -1 0")) ≡ fault 6) × (first-clause 3 1 [] (words (bytes "1 2")) ≡ fault 9) × (first-clause 3 9 [] (words (bytes "1")) ≡ fault 7)
+examples :
+    (first-clause 3 9 [] (words (bytes "1 -2 0 3 0")) ≡ finished (pos 1 ∷ negsuc 1 ∷ []) (words (bytes "3 0")))
+    × (first-clause 3 9 [] (words (bytes "1 -1 0")) ≡ fault 6)
+    × (first-clause 3 1 [] (words (bytes "1 2")) ≡ fault 9) × (first-clause 3 9 [] (words (bytes "1")) ≡ fault 7)
 unfolding first-clause word-item Text.computing Lists.computing Literals.computing
 examples = (refl, refl, refl, refl)

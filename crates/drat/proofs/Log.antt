@@ -51,7 +51,8 @@ entry-of true c = refl
 entry-of false c = refl
 
 -- the header in front of the literals and their number
-entry-stored : (old : List ℤ) (to : ℕ) {mid new : List ℤ} {count : ℕ} {h : ℤ} (d : Bool) (c : Clause) → mid ≡ sets old (to + 1) (closed c) → count ≡ length c → h ≡ line-header d count → new ≡ set mid to h → new ≡ sets old to (line-entry (line-of d c))
+entry-stored : (old : List ℤ) (to : ℕ) {mid new : List ℤ} {count : ℕ} {h : ℤ} (d : Bool) (c : Clause) → mid ≡ sets old (to + 1) (closed c) →
+    count ≡ length c → h ≡ line-header d count → new ≡ set mid to h → new ≡ sets old to (line-entry (line-of d c))
 entry-stored old to d c m n p z =
     z ∙ rw (m, p, n, add-one to) (sets-first (closed c) old to (line-header d (length c))) ∙ ap (sets old to) (entry-of d c)
 
@@ -183,7 +184,9 @@ module _ {log : Bytes} {kept stamp at n filled top : ℕ} {seen : List ℕ} {old
 
 -- ---- behind a place
 
-pub log-behind : (o : Checked (List Line)) (r : LogRead) (s rest : List ℤ) (to start : ℕ) → start ≡ min to (length s) → Log-reads o r (take (length s - start) (drop start s)) 0 rest → Log-reads o r s to (take start s ++ (rest ++ drop (length s - start) (drop start s)))
+pub log-behind : (o : Checked (List Line)) (r : LogRead) (s rest : List ℤ) (to start : ℕ) → start ≡ min to (length s) →
+    Log-reads o r (take (length s - start) (drop start s)) 0 rest →
+    Log-reads o r s to (take start s ++ (rest ++ drop (length s - start) (drop start s)))
 log-behind o (Log.Kept g top filled) s rest to start m k = record {
   ss = k .ss;
   read = k .read;

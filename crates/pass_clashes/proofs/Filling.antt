@@ -89,7 +89,13 @@ module _ {counts : List ℕ} {s : List ℤ} {at : ℕ} {t : List ℕ} (k : Count
     not-before u l j none e = refl
     not-before u l j (some b) e =
         let r = first-some (λ b. holds l b && unique F b) G b e in
-        absurd (twice (times l G) (times l (c ∷ stored (drop (past s at) s))) (bit (holds l c)) (times l F) (times l (stored (drop (past s at) s))) (times-at l (r .0) (holds-mem l b (and-l (holds l b) (unique F b) (r .1)))) (ap (times l) around ∙ times-++ l G (c ∷ stored (drop (past s at) s))) (unique-at F c u l j) (times-cons l c (stored (drop (past s at) s))) (ap bit (holds-yes l c j)))
+        let rest = stored (drop (past s at) s) in
+        absurd (twice (times l G) (times l (c ∷ rest)) (bit (holds l c)) (times l F) (times l rest)
+        (times-at l (r .0) (holds-mem l b (and-l (holds l b) (unique F b) (r .1))))
+        (ap (times l) around ∙ times-++ l G (c ∷ rest))
+        (unique-at F c u l j)
+        (times-cons l c rest)
+        (ap bit (holds-yes l c j)))
       where
         twice : (a b m n z : ℕ) → 1 ≤ a → n ≡ a + b → n ≡ 1 → b ≡ m + z → m ≡ 1 → ⊥
         twice a b m n z p q r u v = omega arith

@@ -124,7 +124,8 @@ module _ {work : List ℤ} {p : Progress} {v x y : ℕ} (r : Resolvable work p v
     pub room-kept : Log-room (parent-lines (clash-there t v x y)) q
     room-kept = subst (λ (e : Clash). Log-room (parent-lines e) q) (sym same-clash) (room-rest (map addition (added-by c)) (parent-lines c) (rw (clash-parts c) at (r .good .room)) (d .written))
 
-    pub resolved : {u : List ℤ} {new-log : Bytes} {w : Progress} → length u ≡ length t → length new ≡ length work → Parents-gone (clash-there t v x y) t mid-log q u new-log w → Runs (clash-cleared c ∷ []) work log p (u ++ drop (q .end) new) new-log w
+    pub resolved : {u : List ℤ} {new-log : Bytes} {w : Progress} → length u ≡ length t → length new ≡ length work →
+        Parents-gone (clash-there t v x y) t mid-log q u new-log w → Runs (clash-cleared c ∷ []) work log p (u ++ drop (q .end) new) new-log w
     resolved {u} {new-log} {w} n m g =
         let o = length-append u (drop (q .end) new) in
         let k : take (w .end) (u ++ drop (q .end) new) ≡ u = take-at u (drop (q .end) new) (w .end) (omega (arith, n, size, g .kept)) in

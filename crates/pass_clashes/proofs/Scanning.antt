@@ -181,7 +181,8 @@ module _ {work : List ℤ} {p : Progress} {variables : ℕ} (r : Clash-ready (cl
     order = omega arith;
   }
 
-  pub scanned-end : {new : List ℤ} {log new-log : Bytes} {z : Scan} → Scanned variables work log (record { progress = p; next = 1 }) new new-log z → variables < z .next → Runs (clear-clashes (standing work p)) work log p new new-log (z .progress)
+  pub scanned-end : {new : List ℤ} {log new-log : Bytes} {z : Scan} → Scanned variables work log (record { progress = p; next = 1 }) new new-log z →
+      variables < z .next → Runs (clear-clashes (standing work p)) work log p new new-log (z .progress)
   scanned-end {new} {log} {new-log} {z} s h =
       let e : s .events ≡ clear-clashes (standing work p) =
       sym (append-nil (s .events)) ∙ ap (λ (es : List Event). s .events ++ es) (sym (events-none (z .next) variables (standing new (z .progress)) h)) ∙ s .rest ∙ sym all-left in

@@ -128,11 +128,14 @@ rest-room {f = f} {g = g} e d k o a = let b = grown-as a d in grow-as (grow-rest
 pub two-grown : {F f g made more : Formula} {w v u : List ℤ} {x y z : Bytes} {p q r : Progress} → F ≡ f ++ g → made ≡ f → more ≡ g → Grown made w x p v y q → Grown more v y q u z r → Grown F w x p u z r
 two-grown e d k a b = grown-as (grown-then (grown-as a d) (grown-as b k)) (sym e)
 
-pub second-room : {F f g : Formula} (h : Formula) {made more : Formula} {w v : List ℤ} {x y : Bytes} {p q : Progress} → F ≡ f ++ (g ++ h) → made ≡ f → more ≡ g → Grow-room F (length w) p → Grown made w x p v y q → Grow-room more (length v) q
+pub second-room : {F f g : Formula} (h : Formula) {made more : Formula} {w v : List ℤ} {x y : Bytes} {p q : Progress} → F ≡ f ++ (g ++ h) → made ≡ f →
+    more ≡ g → Grow-room F (length w) p → Grown made w x p v y q → Grow-room more (length v) q
 second-room {g = g} h e d k o a = first-room h refl k (rest-room {g = g ++ h} {more = g ++ h} e d refl o a)
 
-pub third-room : {F f g h made more last : Formula} {w v u : List ℤ} {x y z : Bytes} {p q r : Progress} → F ≡ f ++ (g ++ h) → made ≡ f → more ≡ g → last ≡ h → Grow-room F (length w) p → Grown made w x p v y q → Grown more v y q u z r → Grow-room last (length u) r
+pub third-room : {F f g h made more last : Formula} {w v u : List ℤ} {x y z : Bytes} {p q r : Progress} → F ≡ f ++ (g ++ h) → made ≡ f → more ≡ g →
+    last ≡ h → Grow-room F (length w) p → Grown made w x p v y q → Grown more v y q u z r → Grow-room last (length u) r
 third-room {g = g} {h = h} e d k m o a b = rest-room {F = g ++ h} refl k m (rest-room {g = g ++ h} {more = g ++ h} e d refl o a) b
 
-pub three-grown : {F f g h made more last : Formula} {w v u t : List ℤ} {x y z o : Bytes} {p q r n : Progress} → F ≡ f ++ (g ++ h) → made ≡ f → more ≡ g → last ≡ h → Grown made w x p v y q → Grown more v y q u z r → Grown last u z r t o n → Grown F w x p t o n
+pub three-grown : {F f g h made more last : Formula} {w v u t : List ℤ} {x y z o : Bytes} {p q r n : Progress} → F ≡ f ++ (g ++ h) → made ≡ f →
+    more ≡ g → last ≡ h → Grown made w x p v y q → Grown more v y q u z r → Grown last u z r t o n → Grown F w x p t o n
 three-grown {g = g} {h = h} e d k m a b c = two-grown {more = g ++ h} e d refl a (two-grown {F = g ++ h} refl k m b c)

@@ -183,7 +183,9 @@ module _ (l : Clause) (below i : ℕ) (h : 1 ≤ i) (b : i ≤ length l) (u : Sm
       pub third-deletable : Deletable (only-if (ltb 1 i) ((toZ w32 (ofZ w32 m) ∷ toZ w32 (ofZ w32 e) ∷ []) ∷ [])) s2 q2
       third-deletable = subst (λ (D : List Clause). Deletable D s2 q2) third-is (deletable-rest Y Z rest-deletable d2′)
 
-      pub literal-deletes : {y3 : Bytes} {s3 : List ℤ} {q3 : Progress} → Deletes (only-if (ltb 1 i) ((toZ w32 (ofZ w32 m) ∷ toZ w32 (ofZ w32 e) ∷ []) ∷ [])) s2 y2 q2 s3 y3 q3 → Deletes (deletions-of (choice-of l below) i) store x0 p s3 y3 q3
+      pub literal-deletes : {y3 : Bytes} {s3 : List ℤ} {q3 : Progress} →
+          Deletes (only-if (ltb 1 i) ((toZ w32 (ofZ w32 m) ∷ toZ w32 (ofZ w32 e) ∷ []) ∷ [])) s2 y2 q2 s3 y3 q3 →
+          Deletes (deletions-of (choice-of l below) i) store x0 p s3 y3 q3
       literal-deletes {y3} {s3} {q3} d3 =
           subst (λ (D : List Clause). Deletes D store x0 p s3 y3 q3) (sym are)
           (deletes-then D1 (Y ++ Z) d1 (deletes-then Y Z d2′ (subst (λ (D : List Clause). Deletes D s2 y2 q2 s3 y3 q3) (sym third-is) d3)))

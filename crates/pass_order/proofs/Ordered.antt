@@ -149,7 +149,10 @@ module _ {work : List ℤ} {p : Progress} {start : ℕ} {l : Clause} {below : �
         Runs (order-events (choice-of l below) (standing work p)) work x p new-work z s
     order-runs {new} {new-work} {z} {s} same a f d =
         let front-is : take start w ≡ i .left = ap (take start) regroup ∙ take-at (i .left) (part ++ i .free) start (i .left-size) in
-        let behind-is : drop (q .end - start) (drop start w) ≡ i .free = ap (λ (t : List ℤ). drop (q .end - start) (drop start t)) regroup ∙ ap (drop (q .end - start)) (drop-at (i .left) (part ++ i .free) start (i .left-size)) ∙ drop-at part (i .free) (q .end - start) (omega (arith, part-size)) in
+        let behind-is : drop (q .end - start) (drop start w) ≡ i .free =
+        ap (λ (t : List ℤ). drop (q .end - start) (drop start t)) regroup
+        ∙ ap (drop (q .end - start)) (drop-at (i .left) (part ++ i .free) start (i .left-size))
+        ∙ drop-at part (i .free) (q .end - start) (omega (arith, part-size)) in
         let g : new-work ≡ i .left ++ (new ++ i .free) = rw (f, front-is, behind-is) refl in
         let n : length new ≡ length part = a ∙ ap length part-is in
         let whole : take (s .end) new-work ≡ i .left ++ new =

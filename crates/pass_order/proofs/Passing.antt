@@ -93,7 +93,8 @@ pub record Passing (k : Choice) (E : Formula) (middle : List ℤ) (start : ℕ) 
   pub end : q .end ≡ p .end + length results
   pub written : Written (lines (for-each done (replace k))) x p log q
 
-pub passing-start : (k : Choice) (work : List ℤ) (start : ℕ) (x : Bytes) (p : Progress) → start ≤ p .end → p .end ≤ length work → Formed (take start work) → Passing k (stored (take start work)) (drop start (take (p .end) work)) start x p 0 work x p
+pub passing-start : (k : Choice) (work : List ℤ) (start : ℕ) (x : Bytes) (p : Progress) → start ≤ p .end → p .end ≤ length work →
+    Formed (take start work) → Passing k (stored (take start work)) (drop start (take (p .end) work)) start x p 0 work x p
 unfolding for-each those
 passing-start k work start x p s e f = record {
   left = take start work;
@@ -329,7 +330,8 @@ module _ {l : Clause} {below : ℕ} {E : Formula} (b : Before E (choice-of l bel
         (λ o. passing-touched d o (subst (λ (c : Bool). Step c K work at log q new y r) (touched-is d ∙ o) s))
         (λ o. stays (touched-is d ∙ o) (passing-kept i h m d o))))
 
-pub passing-end : {k : Choice} {E : Formula} {middle : List ℤ} {start : ℕ} {x : Bytes} {p : Progress} {at : ℕ} {work : List ℤ} {log : Bytes} {q : Progress} → Passing k E middle start x p at work log q → start ≤ at → Passed k E middle start x p work log q
+pub passing-end : {k : Choice} {E : Formula} {middle : List ℤ} {start : ℕ} {x : Bytes} {p : Progress} {at : ℕ} {work : List ℤ} {log : Bytes} {q : Progress} →
+    Passing k E middle start x p at work log q → start ≤ at → Passed k E middle start x p work log q
 passing-end {k} {E} {at = at} i h =
     let a : i .done ≡ E = sym (append-nil (i .done)) ∙ ap (λ (r : Formula). i .done ++ r) (sym (stored-end (i .left) at (omega (arith, i .left-size)))) ∙ i .all in
     record {

@@ -62,7 +62,9 @@ module _ {t : List ℕ} {l : Clause} {below : ℕ} (v : Tabled t l below) (work 
   W = replaced k d
 
   -- by what is_opposed answers of the part of the store
-  pub opposed-there : {r b : Bool} → ((j : Choice) → Places t (j .literals) → Well-formed j → length (j .literals) ≤ 64 → Proper (take (from + len - from) (drop from work)) → Fit-all (j .below) (take (from + len - from) (drop from work)) → r ≡ opposed (replaced j (take (from + len - from) (drop from work)))) → r ≡ b →
+  pub opposed-there : {r b : Bool} →
+      ((j : Choice) → Places t (j .literals) → Well-formed j → length (j .literals) ≤ 64 → Proper (take (from + len - from) (drop from work)) → Fit-all (j .below) (take (from + len - from) (drop from work)) → r ≡ opposed (replaced j (take (from + len - from) (drop from work)))) →
+      r ≡ b →
       opposed (replaced (choice-of l below) (take len (drop from work))) ≡ b
   opposed-there e f =
       let q = part-is work from len in
@@ -82,7 +84,8 @@ module _ {t : List ℕ} {l : Clause} {below : ℕ} (v : Tabled t l below) (work 
       pub added-room : ((p .end < next) × (next ≤ length new) × (length new < 2 ^ 31)) × ((p .at < 2 ^ 63) × (p .lines < 2 ^ 63))
       added-room = ((omega arith, omega (arith, entry-room, ap length h, length-sets work (p .end) (entry W)), omega (arith, a .small, ap length h, length-sets work (p .end) (entry W))), (omega (arith, a .room .text), omega (arith, a .room .count)))
 
-      pub result-added : {x y : Bytes} {r : Progress} → Written (addition (take (next - (p .end + 1)) (drop (p .end + 1) new)) ∷ []) x p y r → r .end ≡ next → Grown (result-of (choice-of l below) (take len (drop from work))) work x p new y r
+      pub result-added : {x y : Bytes} {r : Progress} → Written (addition (take (next - (p .end + 1)) (drop (p .end + 1) new)) ∷ []) x p y r →
+          r .end ≡ next → Grown (result-of (choice-of l below) (take len (drop from work))) work x p new y r
       result-added w i = rw (result-one k d e) (added-grown W short (omega (arith, entry-room)) (omega arith) h w i)
 
 -- ---- the clause at a place
@@ -132,7 +135,9 @@ module _ {t : List ℕ} {l : Clause} {below : ℕ} (s : List ℤ) (at : ℕ) {p 
           omega (arith, last-room .count),
         )
 
-        pub step-replaced : {z : Bytes} {last : List ℤ} {o : Progress} → Written (deletion (take (next - (at + 1)) (drop (at + 1) new)) ∷ []) y q z o → o .end ≡ q .end → last ≡ marked new at → Step (touched l s at) (choice-of l below) s at x p last z o
+        pub step-replaced : {z : Bytes} {last : List ℤ} {o : Progress} →
+            Written (deletion (take (next - (at + 1)) (drop (at + 1) new)) ∷ []) y q z o → o .end ≡ q .end → last ≡ marked new at →
+            Step (touched l s at) (choice-of l below) s at x p last z o
         step-replaced {z} {last} {o} v i j =
             rw (tested e g) (record {
               put = j ∙ ap (λ (r : List ℤ). marked r at) (grown .put);

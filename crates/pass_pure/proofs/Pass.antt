@@ -169,7 +169,8 @@ module _ {F : Formula} {x y : Bytes} {p q : Progress} {s : List ℤ} {at : ℕ} 
         (λ d. by-literal d (pure-literal F (clause-at s at)) refl (rw (same-literal d) at (rw d at w)))
 
 -- all clauses are gone through
-pub passing-end : (work : List ℤ) {x y : Bytes} {p q : Progress} {s : List ℤ} {at : ℕ} → Passing (standing work p) x p s at y q → length work ≡ p .end → length s ≡ length work → length s ≤ at → Runs (clear-pure (standing work p)) work x p s y q
+pub passing-end : (work : List ℤ) {x y : Bytes} {p q : Progress} {s : List ℤ} {at : ℕ} → Passing (standing work p) x p s at y q →
+    length work ≡ p .end → length s ≡ length work → length s ≤ at → Runs (clear-pure (standing work p)) work x p s y q
 unfolding for-each
 passing-end work {p = p} {q = q} {s = s} {at = at} i w n h =
     let F = standing work p in
@@ -212,7 +213,8 @@ module _ (t : List ℕ) (s : List ℤ) (at next : ℕ) (e : next ≡ past s at) 
 pub standing-all : (work : List ℤ) (p : Progress) → length work ≡ p .end → standing work p ≡ stored work
 standing-all work p e = ap stored (take-all (p .end) work (omega arith))
 
-pub passable : {work : List ℤ} {t : List ℕ} {p : Progress} → Good input-reach (clear-pure (standing work p)) work p → Clash-free (standing work p) → t ≡ tallied-all (replicate input-size 0) (standing work p) → Passable (take (p .end) work) t p
+pub passable : {work : List ℤ} {t : List ℕ} {p : Progress} → Good input-reach (clear-pure (standing work p)) work p → Clash-free (standing work p) →
+    t ≡ tallied-all (replicate input-size 0) (standing work p) → Passable (take (p .end) work) t p
 passable {work} {t} {p} g f e =
     let s = take (p .end) work in
     let k = sym (standing-part work p) in record {

@@ -95,12 +95,14 @@ runs-nothing {work} log p q s h e f =
     record { size = s; inside = omega (arith, h .inside); formed = h .formed; stands = h .stands ∙ ap (after (standing work p)) (sym lines-none); written = rw (lines-none, text-none, e) (put-none log (p .at)); counted = rw lines-none (omega arith) }
 
 -- what is written, and what stands then
-pub runs-lines : {G : Formula} {es : List Event} {work new : List ℤ} {x y : Bytes} {p q : Progress} → length new ≡ length work → Holds G new (q .end) → G ≡ after (standing work p) (lines es) → Written (lines es) x p y q → Runs es work x p new y q
+pub runs-lines : {G : Formula} {es : List Event} {work new : List ℤ} {x y : Bytes} {p q : Progress} → length new ≡ length work →
+    Holds G new (q .end) → G ≡ after (standing work p) (lines es) → Written (lines es) x p y q → Runs es work x p new y q
 runs-lines s h e w =
     record { size = s; inside = omega (arith, h .inside); formed = h .formed; stands = h .stands ∙ e; written = w .written; counted = w .counted }
 
 -- one event
-pub runs-event : {G : Formula} {work new : List ℤ} {x y : Bytes} {p q : Progress} (e : Event) → length new ≡ length work → Holds G new (q .end) → G ≡ after (standing work p) (lines-of e) → Written (lines-of e) x p y q → Runs (e ∷ []) work x p new y q
+pub runs-event : {G : Formula} {work new : List ℤ} {x y : Bytes} {p q : Progress} (e : Event) → length new ≡ length work → Holds G new (q .end) →
+    G ≡ after (standing work p) (lines-of e) → Written (lines-of e) x p y q → Runs (e ∷ []) work x p new y q
 runs-event e s h a w = runs-lines s h (rw (lines-one e) a) (rw (lines-one e) w)
 
 pub runs-holds : {es : List Event} {work new : List ℤ} {x y : Bytes} {p q : Progress} → Runs es work x p new y q → Holds (after (standing work p) (lines es)) new (q .end)

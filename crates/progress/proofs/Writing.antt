@@ -33,7 +33,8 @@ unfolding without those
 without-++ x [] b = refl
 without-++ x (l ∷ a) b = go (not (same x l)) (without-++ x a b)
   where
-    go : (t : Bool) → those (λ m. not (same x m)) (a ++ b) ≡ those (λ m. not (same x m)) a ++ those (λ m. not (same x m)) b → cond t (l ∷ those (λ m. not (same x m)) (a ++ b)) (those (λ m. not (same x m)) (a ++ b)) ≡ cond t (l ∷ those (λ m. not (same x m)) a) (those (λ m. not (same x m)) a) ++ those (λ m. not (same x m)) b
+    go : (t : Bool) → those (λ m. not (same x m)) (a ++ b) ≡ those (λ m. not (same x m)) a ++ those (λ m. not (same x m)) b →
+        cond t (l ∷ those (λ m. not (same x m)) (a ++ b)) (those (λ m. not (same x m)) (a ++ b)) ≡ cond t (l ∷ those (λ m. not (same x m)) a) (those (λ m. not (same x m)) a) ++ those (λ m. not (same x m)) b
     go true e = ap (λ (c : Clause). l ∷ c) e
     go false e = e
 
@@ -46,7 +47,8 @@ pub skipped : {x : Bytes} {at : ℕ} {t : Bool} (f l : ℤ) → SFits w32 f → 
 unfolding without those literals-text for-each
 skipped {x} {at} f l a b e k = let d : same f l ≡ true = sym (at-arg2 same f l a b) ∙ sym e ∙ k in rw d (put-none x at)
 
-pub one-other : {x y : Bytes} {at r : ℕ} {t : Bool} (f l : ℤ) → SFits w32 f → SFits w32 l → t ≡ same (toZ w32 (ofZ w32 f)) (toZ w32 (ofZ w32 l)) → t ≡ false → Put x at (literal-text (toZ w32 (ofZ w32 l)) ++ bytes " ") r y → Put x at (literals-text (without f (l ∷ []))) r y
+pub one-other : {x y : Bytes} {at r : ℕ} {t : Bool} (f l : ℤ) → SFits w32 f → SFits w32 l → t ≡ same (toZ w32 (ofZ w32 f)) (toZ w32 (ofZ w32 l)) →
+    t ≡ false → Put x at (literal-text (toZ w32 (ofZ w32 l)) ++ bytes " ") r y → Put x at (literals-text (without f (l ∷ []))) r y
 unfolding without those literals-text for-each
 one-other f l a b e k p =
     let d : same f l ≡ false = sym (at-arg2 same f l a b) ∙ sym e ∙ k in
@@ -67,7 +69,9 @@ others-more : (f : ℤ) (c : Clause) (i : ℕ) → i < length c → literals-tex
 others-more f c i h =
     rw (add-one i, take-suc c i (pos 0) h, without-++ f (take i c) (getD c i (pos 0) ∷ []), texts-++ (without f (take i c)) (without f (getD c i (pos 0) ∷ [])))
 
-pub others-step : {old buf new : Bytes} {at i end r : ℕ} {f : ℤ} {c : Clause} → Others old at f c i end buf → i < length c → SFits w32 (getD c i (pos 0)) → Put buf end (literals-text (without f (toZ w32 (ofZ w32 (getD c i (pos 0))) ∷ []))) r new → r ≤ end + 12 → Others old at f c (i + 1) r new
+pub others-step : {old buf new : Bytes} {at i end r : ℕ} {f : ℤ} {c : Clause} → Others old at f c i end buf → i < length c →
+    SFits w32 (getD c i (pos 0)) → Put buf end (literals-text (without f (toZ w32 (ofZ w32 (getD c i (pos 0))) ∷ []))) r new → r ≤ end + 12 →
+    Others old at f c (i + 1) r new
 others-step {i = i} {f = f} {c = c} s h b p w =
     let q = put-same p (at-arg (λ (y : ℤ). literals-text (without f (y ∷ []))) (getD c i (pos 0)) b) in record {
       inside = omega arith;
@@ -81,11 +85,14 @@ others-end {i = i} {f = f} {c = c} a s h = (put-same (s .put) (at-arg (λ (z : �
 
 -- ---- the line
 
-pub first-put : {x₀ x₁ x₂ x₃ : Bytes} {at a b r : ℕ} (f : ℤ) → SFits w32 f → Put x₀ at (100 ∷ []) a x₁ → Put x₁ a (32 ∷ []) b x₂ → Put x₂ b (literal-text (toZ w32 (ofZ w32 f)) ++ bytes " ") r x₃ → Put x₀ at (bytes "d " ++ literal-text f ++ bytes " ") r x₃
+pub first-put : {x₀ x₁ x₂ x₃ : Bytes} {at a b r : ℕ} (f : ℤ) → SFits w32 f → Put x₀ at (100 ∷ []) a x₁ → Put x₁ a (32 ∷ []) b x₂ →
+    Put x₂ b (literal-text (toZ w32 (ofZ w32 f)) ++ bytes " ") r x₃ → Put x₀ at (bytes "d " ++ literal-text f ++ bytes " ") r x₃
 unfolding bytes
 first-put f s p q t = put-then (put-then p q) (put-same t (at-arg (λ (z : ℤ). literal-text z ++ bytes " ") f s))
 
-pub line-put : {x₀ x₁ x₂ x₃ x₄ : Bytes} {at a b e r : ℕ} (f : ℤ) (c : Clause) → SFits w32 f → Put x₀ at (bytes "d " ++ literal-text (toZ w32 (ofZ w32 f)) ++ bytes " ") a x₁ → Put x₁ a (literals-text (without (toZ w32 (ofZ w32 f)) c)) b x₂ → Put x₂ b (48 ∷ []) e x₃ → Put x₃ e (10 ∷ []) r x₄ → Put x₀ at (log-line-text (deletion (with-first f c))) r x₄
+pub line-put : {x₀ x₁ x₂ x₃ x₄ : Bytes} {at a b e r : ℕ} (f : ℤ) (c : Clause) → SFits w32 f →
+    Put x₀ at (bytes "d " ++ literal-text (toZ w32 (ofZ w32 f)) ++ bytes " ") a x₁ → Put x₁ a (literals-text (without (toZ w32 (ofZ w32 f)) c)) b x₂ →
+    Put x₂ b (48 ∷ []) e x₃ → Put x₃ e (10 ∷ []) r x₄ → Put x₀ at (log-line-text (deletion (with-first f c))) r x₄
 unfolding bytes log-line-text clause-text literals-text for-each with-first
 line-put f c s p q t u =
     let p' = put-same p (at-arg (λ (z : ℤ). bytes "d " ++ literal-text z ++ bytes " ") f s) in

@@ -135,4 +135,6 @@ module _ {t : List ℕ} (k : Choice) (v : Places t (k .literals)) where
           mem-any (next-in t w) d m (n .one)
           (and-i (ltb 0 (place-in t m)) (eqb (getD w (place-in t m + 1) 0) 1)
           (of-true (lt-ltb 0 (place-in t m) (omega (arith, n .from-first))))
-          (of-true (mark-tells t (place-in t m + 1) d (omega (arith, n .before-last)) ∙ to-true (mem-any (λ x. eqb (place-in t x) (place-in t m + 1)) d (negℤ (lit k (n .place + 1))) (n .next) (of-true (eq-eqb (place-in t (negℤ (lit k (n .place + 1)))) (place-in t m + 1) (omega arith)))))))
+          (of-true (mark-tells t (place-in t m + 1) d (omega (arith, n .before-last))
+          ∙ to-true (mem-any (λ x. eqb (place-in t x) (place-in t m + 1)) d (negℤ (lit k (n .place + 1))) (n .next)
+          (of-true (eq-eqb (place-in t (negℤ (lit k (n .place + 1)))) (place-in t m + 1) (omega arith)))))))

@@ -149,7 +149,9 @@ module _ (n below p : ℕ) (m : ℤ) where
     pub none-room : (to size : ℕ) → to + length (instead-by n below m p) ≤ size → to + length (only-if true (toZ w32 (ofZ w32 m) ∷ [])) ≤ size
     none-room to size h = omega (arith, ap length none-is)
 
-    pub none-put : (old : List ℤ) (to : ℕ) {new : List ℤ} {r : ℕ} → r ≡ to + length (only-if true (toZ w32 (ofZ w32 m) ∷ [])) → new ≡ sets old to (only-if true (toZ w32 (ofZ w32 m) ∷ [])) → (r ≡ to + length (instead-by n below m p)) × (new ≡ sets old to (instead-by n below m p))
+    pub none-put : (old : List ℤ) (to : ℕ) {new : List ℤ} {r : ℕ} → r ≡ to + length (only-if true (toZ w32 (ofZ w32 m) ∷ [])) →
+        new ≡ sets old to (only-if true (toZ w32 (ofZ w32 m) ∷ [])) →
+        (r ≡ to + length (instead-by n below m p)) × (new ≡ sets old to (instead-by n below m p))
     none-put old to a b = (a ∙ ap (λ (c : Clause). to + length c) none-is, b ∙ ap (sets old to) none-is)
 
   module _ (e : p ≡ 0 → ⊥) (h : p ≤ 64) (k : below + 64 ≤ 70000) (z : ℤ) (f : SFits w32 z) (q : z ≡ signed-of false (below + (p - 1))) where
@@ -173,7 +175,9 @@ module _ (n below p : ℕ) (m : ℤ) where
       pub last-room : to + length (instead-by n below m p) ≤ length old → a + length (only-if (ltb p n) (toZ w32 (ofZ w32 y) ∷ [])) ≤ length w1
       last-room r = omega (arith, second-room old to A B c d (rw some-is at r), ap length last-is)
 
-      pub some-put : {w2 : List ℤ} {r : ℕ} → r ≡ a + length (only-if (ltb p n) (toZ w32 (ofZ w32 y) ∷ [])) → w2 ≡ sets w1 a (only-if (ltb p n) (toZ w32 (ofZ w32 y) ∷ [])) → (r ≡ to + length (instead-by n below m p)) × (w2 ≡ sets old to (instead-by n below m p))
+      pub some-put : {w2 : List ℤ} {r : ℕ} → r ≡ a + length (only-if (ltb p n) (toZ w32 (ofZ w32 y) ∷ [])) →
+          w2 ≡ sets w1 a (only-if (ltb p n) (toZ w32 (ofZ w32 y) ∷ [])) →
+          (r ≡ to + length (instead-by n below m p)) × (w2 ≡ sets old to (instead-by n below m p))
       some-put u v =
           let j = runs-joined old to A B c d (u ∙ ap (λ (x : Clause). a + length x) last-is) (v ∙ ap (sets w1 a) last-is) in
           (j .0 ∙ ap (λ (x : Clause). to + length x) (sym some-is), j .1 ∙ ap (sets old to) (sym some-is))

@@ -185,7 +185,8 @@ module _ (old added new : List ℤ) (heads table : List ℕ) (store end links r 
     }
 
 -- ---- a clause deleted
-pub linked-deleted : (old new : List ℤ) (heads : List ℕ) (store end links : ℕ) (c : Clause) → Linked old heads store end links → (f : Found) → f ≡ place-of c (between store end old) → (a : ℕ) → f ≡ At a → new ≡ marked old (store + a) → Linked new heads store end links
+pub linked-deleted : (old new : List ℤ) (heads : List ℕ) (store end links : ℕ) (c : Clause) → Linked old heads store end links → (f : Found) →
+    f ≡ place-of c (between store end old) → (a : ℕ) → f ≡ At a → new ≡ marked old (store + a) → Linked new heads store end links
 linked-deleted old new heads store end links c p f e a z d =
     let s = between store end old in
     let n = linked-length old heads store end links p in

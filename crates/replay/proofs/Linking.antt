@@ -42,7 +42,11 @@ module _ (s : List ℤ) (q : ℕ) (links : List ℤ) (heads : List ℕ) (h : q <
       go false m = getD-set-other heads key k (suc q) 0 (λ e. eqb-false key k m (sym e)) ∙ i .newest k l
 
   linked-next : (a : ℕ) → a < past s q → Place s a → header-literals (header-at (set links q (header-of (getD heads key 0))) a) ≡ last-with (key-at s a) (take a s)
-  linked-next a l pa = by-test (ltb a q) (λ t. old (ltb-true a q t)) (λ t. by-order q a (ltb-false a q t) (λ e. subst (λ (j : ℕ). header-literals (header-at (set links q (header-of (getD heads key 0))) j) ≡ last-with (key-at s j) (take j s)) e this) (λ x. absurd (omega (arith, past-within p pa x))))
+  linked-next a l pa =
+      by-test (ltb a q) (λ t. old (ltb-true a q t))
+      (λ t. by-order q a (ltb-false a q t)
+      (λ e. subst (λ (j : ℕ). header-literals (header-at (set links q (header-of (getD heads key 0))) j) ≡ last-with (key-at s j) (take j s)) e this)
+      (λ x. absurd (omega (arith, past-within p pa x))))
     where
       old : a < q → header-literals (header-at (set links q (header-of (getD heads key 0))) a) ≡ last-with (key-at s a) (take a s)
       old x = ap header-literals (getD-set-other links q a (header-of (getD heads key 0)) (pos 0) (λ e. omega arith)) ∙ i .linked a x pa
@@ -124,13 +128,20 @@ module _ (s : List ℤ) (p : ℕ) (h : p < length s) (a : Place s p) where
           ∙ take-set-le (size-at s q) (drop (q + 1) s) (p - (q + 1)) (flip (header-at s p)) (omega arith)
 
   marked-past-all : (q : ℕ) → Place s q → past (marked s p) q ≡ past s q
-  marked-past-all q b = ap (λ (n : ℕ). q + (1 + n)) (by-test (eqb p q) (λ t. let e = eqb-true p q t in subst (λ (j : ℕ). size-at (marked s p) j ≡ size-at s j) e (ap header-literals (getD-set-same s p (flip (header-at s p)) (pos 0) h) ∙ literals-flip (header-at s p))) (λ t. ap header-literals (getD-set-other s p q (flip (header-at s p)) (pos 0) (λ e. eqb-false p q t (sym e)))))
+  marked-past-all q b = ap (λ (n : ℕ). q + (1 + n)) (by-test (eqb p q) (λ t. subst (λ (j : ℕ). size-at (marked s p) j ≡ size-at s j) (eqb-true p q t) here) other)
+    where
+      here : size-at (marked s p) p ≡ size-at s p
+      here = ap header-literals (getD-set-same s p (flip (header-at s p)) (pos 0) h) ∙ literals-flip (header-at s p)
+
+      other : eqb p q ≡ false → size-at (marked s p) q ≡ size-at s q
+      other t = ap header-literals (getD-set-other s p q (flip (header-at s p)) (pos 0) (λ e. eqb-false p q t (sym e)))
 
   -- the last entries with a key stay
   marked-last : (key q : ℕ) → Place (marked s p) q → last-with key (take q (marked s p)) ≡ last-with key (take q s)
   marked-last key q b = by-entries (marked s p) (λ (q : ℕ). last-with key (take q (marked s p)) ≡ last-with key (take q s)) refl step q b
     where
-      step : (at : ℕ) → at < length (marked s p) → Place (marked s p) at → last-with key (take at (marked s p)) ≡ last-with key (take at s) → last-with key (take (past (marked s p) at) (marked s p)) ≡ last-with key (take (past (marked s p) at) s)
+      step : (at : ℕ) → at < length (marked s p) → Place (marked s p) at → last-with key (take at (marked s p)) ≡ last-with key (take at s) →
+          last-with key (take (past (marked s p) at) (marked s p)) ≡ last-with key (take (past (marked s p) at) s)
       step at l m r =
           let n : Place s at = unmarked-place s p at a m in
           last-next key (marked s p) at l m

@@ -71,5 +71,6 @@ module _ {work chosen : List ℤ} {p : Progress} (c : Choosable work p chosen) w
 pub listed-returned : {a : Code.Arrangement} → a ≡ Named.AsListed → (s chosen : List ℤ) → Formed chosen → Mapped (arranged (named-arrangement a) (stored s) (stored chosen)) chosen chosen
 listed-returned e s chosen f = rw e (as-listed-stays (stored s) chosen f)
 
-pub aligned-returned : {a : Code.Arrangement} {new : List ℤ} → a ≡ Named.Alignment → (s chosen : List ℤ) → Mapped (arranged alignment (stored s) (stored chosen)) chosen new → Mapped (arranged (named-arrangement a) (stored s) (stored chosen)) chosen new
+pub aligned-returned : {a : Code.Arrangement} {new : List ℤ} → a ≡ Named.Alignment → (s chosen : List ℤ) →
+    Mapped (arranged alignment (stored s) (stored chosen)) chosen new → Mapped (arranged (named-arrangement a) (stored s) (stored chosen)) chosen new
 aligned-returned e s chosen m = rw e m

@@ -102,7 +102,8 @@ hit-from c zero at p [] e = absurd (let z : _≡_ {A = ℕ} 0 1 = cc in omega ar
 hit-from c (suc k) at p [] e = absurd (let z : _≡_ {A = ℕ} 0 1 = cc in omega arith)
 hit-from c zero at p (h ∷ s) e = go (begins-with c (h ∷ s)) refl e (λ x. hit-from c (header-literals h) (at + 1) p s x)
   where
-    go : (t : Bool) → begins-with c (h ∷ s) ≡ t → cond t (At at) (place-from c (header-literals h) (at + 1) s) ≡ At p → (place-from c (header-literals h) (at + 1) s ≡ At p → Hit-from c (header-literals h) (at + 1) p s) → Hit-from c 0 at p (h ∷ s)
+    go : (t : Bool) → begins-with c (h ∷ s) ≡ t → cond t (At at) (place-from c (header-literals h) (at + 1) s) ≡ At p →
+        (place-from c (header-literals h) (at + 1) s ≡ At p → Hit-from c (header-literals h) (at + 1) p s) → Hit-from c 0 at p (h ∷ s)
     go true m x r = hit-here c at p h s m x
     go false m x r = hit-later c at p h s m (r x)
 hit-from c (suc k) at p (x ∷ s) e = hit-deeper c k at p x s (hit-from c k (at + 1) p s e)
@@ -129,7 +130,9 @@ miss-from c zero at [] e = refl
 miss-from c (suc k) at [] e = refl
 miss-from c zero at (h ∷ s) e = go h (begins-with c (h ∷ s)) refl e (λ x. miss-from c (header-literals h) (at + 1) s x)
   where
-    go : (h : ℤ) (t : Bool) → begins-with c (h ∷ s) ≡ t → cond t (At at) (place-from c (header-literals h) (at + 1) s) ≡ Nothing → (place-from c (header-literals h) (at + 1) s ≡ Nothing → stands c (stored-from (header-literals h) s) ≡ false) → stands c (stored-from 0 (h ∷ s)) ≡ false
+    go : (h : ℤ) (t : Bool) → begins-with c (h ∷ s) ≡ t → cond t (At at) (place-from c (header-literals h) (at + 1) s) ≡ Nothing →
+        (place-from c (header-literals h) (at + 1) s ≡ Nothing → stands c (stored-from (header-literals h) s) ≡ false) →
+        stands c (stored-from 0 (h ∷ s)) ≡ false
     go h true m x r = absurd (let z : _≡_ {A = ℕ} 0 1 = cc in omega arith)
     go (negsuc n) false m x r = r x
     go (pos n) false m x r = rw m (r x)

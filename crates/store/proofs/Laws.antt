@@ -8,7 +8,7 @@ use native.Mathlib.Numerals.{one-add}
 use lib.Dec.{leb}
 use lib.IntN.{ℤ, pos}
 use lib.ListN.{length, take, drop, length-append, length-drop, length-set, take-append-drop}
-use lib.Seq.{drop-append-le, getD-take, drop-drop, take-add, take-append-le, take-take, take-length, length-take-le, sets, length-sets, take-set-le, drop-set-lt, getD-set-same, take-at}
+use lib.Seq.{drop-append-le, getD-take, drop-drop, take-add, take-all, take-append-le, take-take, take-length, length-take-le, sets, length-sets, take-set-le, drop-set-lt, getD-set-same, take-at}
 use borrow.Author.Tests.{leb-true, le-leb}
 use Rattle.definition.specs.Literals.{Clause, Formula}
 use Rattle.theory_base.proofs.Tests.{differ}
@@ -95,23 +95,24 @@ stored-end s at h = ap stored (drop-end s at h) ∙ stored-none
 
 -- ---- one entry
 
-formed-take : (m : ℕ) (r : List ℤ) → m ≤ length r → Formed-from m (take m r)
-formed-take zero r h = tt
-formed-take (suc m) [] h = absurd (omega arith)
-formed-take (suc m) (x ∷ r) h = formed-take m r (omega arith)
+formed-literals : (c : Clause) (m : ℕ) → length c ≡ m → Formed-from m c
+formed-literals [] zero e = tt
+formed-literals [] (suc m) e = absurd (omega arith)
+formed-literals (x ∷ c) zero e = absurd (omega arith)
+formed-literals (x ∷ c) (suc m) e = formed-literals c m (omega arith)
 
-stored-take : (m : ℕ) (r : List ℤ) → stored-from m (take m r) ≡ []
+stored-literals : (c : Clause) (m : ℕ) → length c ≡ m → stored-from m c ≡ []
 unfolding stored-from
-stored-take zero r = refl
-stored-take (suc m) [] = refl
-stored-take (suc m) (x ∷ r) = stored-take m r
+stored-literals [] m e = refl
+stored-literals (x ∷ c) zero e = absurd (omega arith)
+stored-literals (x ∷ c) (suc m) e = stored-literals c m (omega arith)
 
-one-formed : (h : ℤ) (r : List ℤ) (m : ℕ) → header-literals h ≡ m → m ≤ length r → Formed (h ∷ take m r)
-one-formed h r m e l = subst (λ (k : ℕ). Formed-from k (take m r)) (sym e) (formed-take m r l)
+pub one-formed : (h : ℤ) (c : Clause) → length c ≡ header-literals h → Formed (h ∷ c)
+one-formed h c e = formed-literals c (header-literals h) e
 
-one-stored : (h : ℤ) (r : List ℤ) (m : ℕ) → header-literals h ≡ m → stored (h ∷ take m r) ≡ cond (negative h) [] (take m r ∷ [])
+pub one-stored : (h : ℤ) (c : Clause) → length c ≡ header-literals h → stored (h ∷ c) ≡ cond (negative h) [] (c ∷ [])
 unfolding stored-from
-one-stored h r m e = rw (e, take-take m m r (omega arith), stored-take m r) refl
+one-stored h c e = rw (stored-literals c (header-literals h) e, take-all (header-literals h) c (omega arith)) refl
 
 -- ---- the entry at a place
 module _ (s : List ℤ) (at : ℕ) (h : at < length s) where
@@ -152,10 +153,10 @@ module _ (s : List ℤ) (at : ℕ) (h : at < length s) where
   prefix-next = take-add at (1 + size-at s at) s ∙ ap (λ (r : List ℤ). take at s ++ r) piece
 
   pub formed-one-at : Formed (drop at s) → Formed (header-at s at ∷ clause-at s at)
-  formed-one-at f = one-formed (header-at s at) (drop (at + 1) s) (size-at s at) refl (omega (arith, formed-next f .0, length-drop (at + 1) s))
+  formed-one-at f = one-formed (header-at s at) (clause-at s at) (clause-length f)
 
-  pub stored-one-at : stored (header-at s at ∷ clause-at s at) ≡ cond (deleted-at s at) [] (clause-at s at ∷ [])
-  stored-one-at = one-stored (header-at s at) (drop (at + 1) s) (size-at s at) refl
+  pub stored-one-at : Formed (drop at s) → stored (header-at s at ∷ clause-at s at) ≡ cond (deleted-at s at) [] (clause-at s at ∷ [])
+  stored-one-at f = one-stored (header-at s at) (clause-at s at) (clause-length f)
 
   pub place-next : Place s at → Place s (past s at)
   place-next p =
@@ -163,7 +164,7 @@ module _ (s : List ℤ) (at : ℕ) (h : at < length s) where
 
   -- what stands before the place past the entry
   prefix-stored : Place s at → stored (take (past s at) s) ≡ stored (take at s) ++ cond (deleted-at s at) [] (clause-at s at ∷ [])
-  prefix-stored p = ap stored prefix-next ∙ stored-++ (take at s) _ (p .before) ∙ ap (λ (r : Formula). stored (take at s) ++ r) stored-one-at
+  prefix-stored p = ap stored prefix-next ∙ stored-++ (take at s) _ (p .before) ∙ ap (λ (r : Formula). stored (take at s) ++ r) (stored-one-at (p .rest))
 
   pub prefix-deleted : Place s at → deleted-at s at ≡ true → stored (take (past s at) s) ≡ stored (take at s)
   prefix-deleted p e = prefix-stored p ∙ rw e (append-nil (stored (take at s)))
@@ -224,10 +225,10 @@ module _ (s : List ℤ) (at : ℕ) (h : at < length s) where
 -- ---- a clause's entry
 
 pub entry-formed : (c : Clause) → length c ≤ largest → Formed (entry c)
-entry-formed c h = rw (take-length c) at (one-formed (header-of (length c)) c (length c) (literals-header (length c) (omega arith)) (omega arith))
+entry-formed c h = one-formed (header-of (length c)) c (sym (literals-header (length c) (omega arith)))
 
 pub entry-stored : (c : Clause) → length c ≤ largest → stored (entry c) ≡ c ∷ []
-entry-stored c h = rw (take-length c) at (one-stored (header-of (length c)) c (length c) (literals-header (length c) (omega arith)))
+entry-stored c h = one-stored (header-of (length c)) c (sym (literals-header (length c) (omega arith)))
 
 -- a clause added at the end
 pub added-formed : (s : List ℤ) (c : Clause) → Formed s → length c ≤ largest → Formed (s ++ entry c)

@@ -37,7 +37,7 @@ module _ (s : List ℤ) (to from : ℕ) (l : to ≤ from) (h : from < length s) 
   moved-formed = rw moved-front (formed-++ (take to s) _ g (formed-one-at s from h f))
 
   moved-stored : deleted-at s from ≡ false → stored (take (to + (1 + size-at s from)) moved) ≡ stored (take to s) ++ (clause-at s from ∷ [])
-  moved-stored e = ap stored moved-front ∙ stored-++ (take to s) _ g ∙ ap (λ (r : Formula). stored (take to s) ++ r) (stored-one-at s from h ∙ rw e refl)
+  moved-stored e = ap stored moved-front ∙ stored-++ (take to s) _ g ∙ ap (λ (r : Formula). stored (take to s) ++ r) (stored-one-at s from h f ∙ rw e refl)
 
 -- ---- the loop of `compact`: what stands before `to` and what stands from `from` on make up the old store
 

@@ -21,6 +21,7 @@ use Rattle.text.specs.declared.Number.{Number}
 use Rattle.text.specs.declared.Number.the-variants as Number
 use Rattle.text.specs.Numbers.{all-digits, natural-class, number-class, sign-value, with-sign}
 use Rattle.literals.specs.Literal.{signed-of}
+use Rattle.tables.specs.Sizes.{log-reach}
 
 -- ---- digits only
 
@@ -47,7 +48,8 @@ module _ (most : ℕ) (m : most ≤ 1_000_000) where
   cut [] a b h = rw (all-digits-none a, all-digits-none b) (some-cut a b h)
   cut (d ∷ t) a b h = rw (all-digits-cons a d t, all-digits-cons b d t) (go (digit d) (cut t (a * 10 + (d - 48)) (b * 10 + (d - 48)) (omega arith)))
     where
-      go : (x : Bool) → natural-class most (all-digits (a * 10 + (d - 48)) t) ≡ natural-class most (all-digits (b * 10 + (d - 48)) t) → natural-class most (cond x (all-digits (a * 10 + (d - 48)) t) none) ≡ natural-class most (cond x (all-digits (b * 10 + (d - 48)) t) none)
+      go : (x : Bool) → natural-class most (all-digits (a * 10 + (d - 48)) t) ≡ natural-class most (all-digits (b * 10 + (d - 48)) t) →
+          natural-class most (cond x (all-digits (a * 10 + (d - 48)) t) none) ≡ natural-class most (cond x (all-digits (b * 10 + (d - 48)) t) none)
       go true e = e
       go false e = refl
 
@@ -106,19 +108,19 @@ pub sign-some : (n : ℕ) → (n ≡ 0 → ⊥) → Number.Value (signed-of true
 sign-some zero h = absurd (h refl)
 sign-some (suc n) h = refl
 
-pub sign-plain : (o : Option ℕ) → with-sign false (natural-class 70_000 o) ≡ number-class (not-negated o)
+pub sign-plain : (o : Option ℕ) → with-sign false (natural-class log-reach o) ≡ number-class (not-negated o)
 unfolding not-negated
 sign-plain none = refl
-sign-plain (some n) = by-test (leb n 70_000)
-    (λ e. rw e (ap Number.Value (signed-small false n (omega (arith, leb-true n 70_000 e)))))
+sign-plain (some n) = by-test (leb n log-reach)
+    (λ e. rw e (ap Number.Value (signed-small false n (omega (arith, leb-true n log-reach e)))))
     (λ e. rw e refl)
 
-pub sign-minus : (o : Option ℕ) → with-sign true (natural-class 70_000 o) ≡ number-class (negated o)
+pub sign-minus : (o : Option ℕ) → with-sign true (natural-class log-reach o) ≡ number-class (negated o)
 unfolding negated
 sign-minus none = refl
 sign-minus (some zero) = refl
-sign-minus (some (suc n)) = by-test (leb (suc n) 70_000)
-    (λ e. rw e (ap Number.Value (signed-small true (suc n) (omega (arith, leb-true (suc n) 70_000 e)))))
+sign-minus (some (suc n)) = by-test (leb (suc n) log-reach)
+    (λ e. rw e (ap Number.Value (signed-small true (suc n) (omega (arith, leb-true (suc n) log-reach e)))))
     (λ e. rw e refl)
 
 pub number-none : (s : Bytes) → length s ≡ 0 → Number.NotANumber ≡ number-class (number s)
@@ -139,15 +141,15 @@ number-plain (b ∷ s) h e = rw (ne-eqb b 45 e) refl
 -- ---- what the answers say of the definition's number
 
 abbrev pub Number-says : Option ℤ → Number → Type 0
-Number-says o (Number.Value z) = (o ≡ some z) × (natAbs z ≤ 70_000)
-Number-says o Number.Large = (z : ℤ) × (o ≡ some z) × (70_000 < natAbs z)
+Number-says o (Number.Value z) = (o ≡ some z) × (natAbs z ≤ log-reach)
+Number-says o Number.Large = (z : ℤ) × (o ≡ some z) × (log-reach < natAbs z)
 Number-says o Number.NotANumber = o ≡ none
 
 number-says : (o : Option ℤ) → Number-says o (number-class o)
 number-says none = refl
-number-says (some z) = by-test (leb (natAbs z) 70_000)
-    (λ e. rw e (refl, leb-true (natAbs z) 70_000 e))
-    (λ e. rw e (z, refl, leb-false (natAbs z) 70_000 e))
+number-says (some z) = by-test (leb (natAbs z) log-reach)
+    (λ e. rw e (refl, leb-true (natAbs z) log-reach e))
+    (λ e. rw e (z, refl, leb-false (natAbs z) log-reach e))
 
 pub number-answer : (o : Option ℤ) {r : Number} → r ≡ number-class o → Number-says o r
 number-answer o e = rw e (number-says o)

@@ -69,7 +69,8 @@ pub items-start : (old : Bytes) (at : ℕ) (c : Clause) → Items old at c 0 at 
 unfolding literals-text for-each
 items-start old at c = record { inside = omega arith; size = refl; within = omega arith; put = put-none old at }
 
-pub items-step : {old buf new : Bytes} {at i end r : ℕ} {c : Clause} → Items old at c i end buf → i < length c → SFits w32 (getD c i (pos 0)) → Put buf end (literal-text (toZ w32 (ofZ w32 (getD c i (pos 0)))) ++ bytes " ") r new → r ≤ end + 12 → Items old at c (i + 1) r new
+pub items-step : {old buf new : Bytes} {at i end r : ℕ} {c : Clause} → Items old at c i end buf → i < length c → SFits w32 (getD c i (pos 0)) →
+    Put buf end (literal-text (toZ w32 (ofZ w32 (getD c i (pos 0)))) ++ bytes " ") r new → r ≤ end + 12 → Items old at c (i + 1) r new
 items-step {i = i} {c = c} s h f p w =
     let q = put-same p (item-argument (getD c i (pos 0)) f) in record {
       inside = omega arith;

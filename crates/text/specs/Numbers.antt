@@ -10,6 +10,7 @@ use Rattle.definition.specs.Lists as Lists
 use Rattle.definition.specs.Text.{Bytes, bytes, digit, value-from, natural, number}
 use Rattle.definition.specs.Text as Text
 use Rattle.literals.specs.Literal.{signed-of}
+use Rattle.tables.specs.Sizes.{log-reach}
 use Rattle.text.specs.declared.Natural.{Natural}
 use Rattle.text.specs.declared.Natural.the-variants as Natural
 use Rattle.text.specs.declared.Number.{Number}
@@ -25,7 +26,7 @@ natural-class most (some n) = cond (leb n most) (Natural.Value n) Natural.Large
 
 abbrev pub number-class : Option ℤ → Number
 number-class none = Number.NotANumber
-number-class (some z) = cond (leb (natAbs z) 70_000) (Number.Value z) Number.Large
+number-class (some z) = cond (leb (natAbs z) log-reach) (Number.Value z) Number.Large
 
 -- a sign before a number; 0 takes none
 abbrev pub sign-value : Bool → ℕ → Number

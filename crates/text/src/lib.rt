@@ -147,7 +147,7 @@ fn signed_number(negative: bool, n: Natural) -> Number
     }
 }
 
-// The number that a word says, up to an absolute value of 70,000.
+// The number that a word says, up to the absolute value of a log's highest variable.
 pub fn read_number(word: &[u8]) -> Number
     ensures { λ r. ⌜ r ≡ number-class (number (now (word .entry))) ⌝ }
 {
@@ -155,9 +155,9 @@ pub fn read_number(word: &[u8]) -> Number
         return Number::NotANumber;
     }
     if word[0] == 45 {
-        signed_number(true, natural_up_to(&word[1..], 70000))
+        signed_number(true, natural_up_to(&word[1..], tables::LOG_REACH))
     } else {
-        signed_number(false, natural_up_to(word, 70000))
+        signed_number(false, natural_up_to(word, tables::LOG_REACH))
     }
 }
 

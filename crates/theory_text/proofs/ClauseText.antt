@@ -111,7 +111,10 @@ module _ (p : ℕ → Bool) (outside : Outside p) (at-blank : p (code " ") ≡ f
   clause-line-free c = free-++ p (literals-text c) (bytes "0") (literals-text-free c) (zero-free p outside)
 
 -- ---- steps through the words of a clause's literals: none is 0, repeated or opposed, or has a variable above v
-pub literals-through : {S : Type 0} (step : S → Bytes → Checked S) (state : Clause → S) (v room : ℕ) → ((a : Clause) (l : ℤ) → Fit v l → (List·Memᴰ l a → ⊥) → (List·Memᴰ (negℤ l) a → ⊥) → length a < room → step (state a) (literal-text l) ≡ value (state (a ++ (l ∷ [])))) → (a c : Clause) → Proper (a ++ c) → ((x : ℤ) → List·Memᴰ x c → Fit v x) → length (a ++ c) ≤ room → through step (state a) (literal-words c) ≡ value (state (a ++ c))
+pub literals-through : {S : Type 0} (step : S → Bytes → Checked S) (state : Clause → S) (v room : ℕ) →
+    ((a : Clause) (l : ℤ) → Fit v l → (List·Memᴰ l a → ⊥) → (List·Memᴰ (negℤ l) a → ⊥) → length a < room → step (state a) (literal-text l) ≡ value (state (a ++ (l ∷ [])))) →
+    (a c : Clause) → Proper (a ++ c) → ((x : ℤ) → List·Memᴰ x c → Fit v x) → length (a ++ c) ≤ room →
+    through step (state a) (literal-words c) ≡ value (state (a ++ c))
 unfolding through literal-words for-each _>>=_
 literals-through step state v room one a [] p f h = rw (append-nil a)
 literals-through step state v room one a (l ∷ c) p f h =

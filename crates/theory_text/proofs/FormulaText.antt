@@ -58,7 +58,8 @@ header-line-no-comment : (v c : ℕ) (t : Bytes) → past-comments false (header
 unfolding header-line bytes past-comments is
 header-line-no-comment v c t = refl
 
-header-fields-read : (most : Limits) (v c : ℕ) (t : Bytes) → v ≤ most .variables → c ≤ most .clauses → read-header-fields most (bytes "p" ∷ bytes "cnf" ∷ digits v ∷ digits c ∷ []) t ≡ value (record { variables = v; clauses = c; after = words t })
+header-fields-read : (most : Limits) (v c : ℕ) (t : Bytes) → v ≤ most .variables → c ≤ most .clauses →
+    read-header-fields most (bytes "p" ∷ bytes "cnf" ∷ digits v ∷ digits c ∷ []) t ≡ value (record { variables = v; clauses = c; after = words t })
 unfolding read-header-fields refuse-if or-fault _>>=_ bytes same-bytes
 header-fields-read most v c t f g = rw (natural-digits v, natural-digits c, le-ltb (most .variables) v f, le-ltb (most .clauses) c g)
 
@@ -106,7 +107,8 @@ module _ (most : Limits) (v c : ℕ) (g : Formula) (more : length g < c) where
       )
 
 -- ---- the clauses
-clauses-read : (most : Limits) (v c : ℕ) (g f : Formula) → length g + length f ≤ c → literals-of g + literals-of f ≤ most .literals → Fits v f → Proper-all f → through (read-word most v c) (reader g []) (for-each f clause-words) ≡ value (reader (g ++ f) [])
+clauses-read : (most : Limits) (v c : ℕ) (g f : Formula) → length g + length f ≤ c → literals-of g + literals-of f ≤ most .literals → Fits v f →
+    Proper-all f → through (read-word most v c) (reader g []) (for-each f clause-words) ≡ value (reader (g ++ f) [])
 unfolding through for-each literals-of sum-of
 clauses-read most v c g [] h l f p = rw (append-nil g)
 clauses-read most v c g (d ∷ f) h l fits p =
@@ -128,7 +130,8 @@ formula-end : (f : Formula) → end-text (length f) (reader f []) ≡ value f
 unfolding end-text refuse-if
 formula-end f = rw (le-ltb (length f) (length f) (omega arith))
 
-pub formula-read-back : (most : Limits) (h : ℕ) (f : Formula) → h ≤ most .variables → length f ≤ most .clauses → literals-of f ≤ most .literals → Fits h f → Proper-all f → read-formula most (formula-text h f) ≡ value (as-read h (length f) f)
+pub formula-read-back : (most : Limits) (h : ℕ) (f : Formula) → h ≤ most .variables → length f ≤ most .clauses → literals-of f ≤ most .literals →
+    Fits h f → Proper-all f → read-formula most (formula-text h f) ≡ value (as-read h (length f) f)
 unfolding read-formula read-clauses _>>=_ literals-of sum-of
 formula-read-back most h f v c l fits p =
     rw (

@@ -234,7 +234,8 @@ fields-after most f after = go (not (header-fields f)) (natural (getD f 2 [])) (
     some-counts true v c = refl
     some-counts false v c = refl
 
-    go : (x : Bool) (a b : Option ℕ) → refuse-if x 1 (or-fault a 1 >>= λ v. or-fault b 1 >>= λ c. refuse-if (ltb (most .variables) v || ltb (most .clauses) c) 2 (value (header v c after))) ≡ (refuse-if x 1 (or-fault a 1 >>= λ v. or-fault b 1 >>= λ c. refuse-if (ltb (most .variables) v || ltb (most .clauses) c) 2 (value (header v c []))) >>= λ h. value (header (h .variables) (h .clauses) after))
+    go : (x : Bool) (a b : Option ℕ) →
+        refuse-if x 1 (or-fault a 1 >>= λ v. or-fault b 1 >>= λ c. refuse-if (ltb (most .variables) v || ltb (most .clauses) c) 2 (value (header v c after))) ≡ (refuse-if x 1 (or-fault a 1 >>= λ v. or-fault b 1 >>= λ c. refuse-if (ltb (most .variables) v || ltb (most .clauses) c) 2 (value (header v c []))) >>= λ h. value (header (h .variables) (h .clauses) after))
     go true a b = refl
     go false none b = refl
     go false (some v) none = refl

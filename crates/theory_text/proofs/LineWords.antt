@@ -129,7 +129,8 @@ module _ (at : ℕ) (c : Clause) (w : Bytes) where
     rest-last = rw (first-line w r g, only-field w f) (last-clause (same-bytes w (bytes "0")))
 
     -- with a literal before what follows
-    more-clause : (u : Bytes) (l : ℤ) (o : Option Clause) → allowed-at (at + (length (w ++ 32 ∷ u) + 1)) (after-literals c (with-literal (some l) o)) ≡ refuse-if (eqb 0 (natAbs l)) 31 (allowed-at (at + (length w + 1) + (length u + 1)) (after-literals (c ++ (l ∷ [])) o))
+    more-clause : (u : Bytes) (l : ℤ) (o : Option Clause) →
+        allowed-at (at + (length (w ++ 32 ∷ u) + 1)) (after-literals c (with-literal (some l) o)) ≡ refuse-if (eqb 0 (natAbs l)) 31 (allowed-at (at + (length w + 1) + (length u + 1)) (after-literals (c ++ (l ∷ [])) o))
     unfolding with-literal allowed-clause _>>=_ refuse-if
     more-clause u l none = by-test (eqb 0 (natAbs l)) (λ e. rw e) (λ e. rw e)
     more-clause u l (some d) =

@@ -98,7 +98,8 @@ module _ (separates : ℕ → Bool) where
   all-skipped [] h = refl
   all-skipped (b ∷ t) h = go (separates b) refl (all-skipped t) h
     where
-      go : (x : Bool) → separates b ≡ x → (letters separates (drop (leading separates t) t) ≡ 0 → drop (leading separates t) t ≡ []) → letters separates (drop (cond x (suc (leading separates t)) 0) (b ∷ t)) ≡ 0 → drop (cond x (suc (leading separates t)) 0) (b ∷ t) ≡ []
+      go : (x : Bool) → separates b ≡ x → (letters separates (drop (leading separates t) t) ≡ 0 → drop (leading separates t) t ≡ []) →
+          letters separates (drop (cond x (suc (leading separates t)) 0) (b ∷ t)) ≡ 0 → drop (cond x (suc (leading separates t)) 0) (b ∷ t) ≡ []
       go true e ih g = ih g
       go false e ih g = absurd (no (rw e at g))
         where
@@ -129,7 +130,11 @@ module _ (separates : ℕ → Bool) (t : Bytes) (at : ℕ) where
     after = omega arith;
     some = h;
     within = omega (arith, leading-within (in-run separates false) (drop start t), length-drop start t);
-    words = words-at-start ∙ words-first separates (drop start t) (omega arith) ∙ ap (λ (ws : List Bytes). take (letters separates (drop start t)) (drop start t) ∷ ws) (ap (words-by separates) (drop-drop (letters separates (drop start t)) start t)) ∙ ap (λ (n : ℕ). take n (drop start t) ∷ words-by separates (drop end t)) size;
+    words =
+        words-at-start
+        ∙ words-first separates (drop start t) (omega arith)
+        ∙ ap (λ (ws : List Bytes). take (letters separates (drop start t)) (drop start t) ∷ ws) (ap (words-by separates) (drop-drop (letters separates (drop start t)) start t))
+        ∙ ap (λ (n : ℕ). take n (drop start t) ∷ words-by separates (drop end t)) size;
   }
     where
       size : letters separates (drop start t) ≡ end - start

@@ -116,7 +116,9 @@ module _ (p t : Bytes) where
   unfolding begins-with
   begins-start = let e : length p - 0 ≡ length p = omega arith in rw e refl
 
-  pub begins-step : (i : ℕ) → i < length p → i < length t → getD t i 0 ≡ getD p i 0 → begins-with p t ≡ same-bytes (drop i p) (take (length p - i) (drop i t)) → begins-with p t ≡ same-bytes (drop (i + 1) p) (take (length p - (i + 1)) (drop (i + 1) t))
+  pub begins-step : (i : ℕ) → i < length p → i < length t → getD t i 0 ≡ getD p i 0 →
+      begins-with p t ≡ same-bytes (drop i p) (take (length p - i) (drop i t)) →
+      begins-with p t ≡ same-bytes (drop (i + 1) p) (take (length p - (i + 1)) (drop (i + 1) t))
   begins-step i h k e b = b ∙ same-step i h k ∙ (rw (eq-eqb (getD p i 0) (getD t i 0) (sym e)) refl)
 
   pub begins-differ : (i : ℕ) → i < length p → i < length t → (getD t i 0 ≡ getD p i 0 → ⊥) → begins-with p t ≡ same-bytes (drop i p) (take (length p - i) (drop i t)) → false ≡ begins-with p t

@@ -16,7 +16,9 @@ use Rattle.answer.proofs.read_values.Statement.{statement}
 use Rattle.answer.proofs.read_values.Tie as tie
 
 abbrev Inv-loop : tie.InvT-loop
-Inv-loop line x marks₀ state₀ at₀ marks state at = (length marks ≡ length marks₀) × ((c : Clause) → Table c marks₀ → Walked state marks (λ a. through (read-answer-word x) a (words-by space-or-tab (drop at line))) (through (read-answer-word x) (open-at c) (words-by space-or-tab (drop 2 line))))
+Inv-loop line x marks₀ state₀ at₀ marks state at =
+    (length marks ≡ length marks₀)
+    × ((c : Clause) → Table c marks₀ → Walked state marks (λ a. through (read-answer-word x) a (words-by space-or-tab (drop at line))) (through (read-answer-word x) (open-at c) (words-by space-or-tab (drop 2 line))))
 
 abbrev μ-loop : tie.MeasureT-loop
 μ-loop line x marks₀ state₀ at₀ marks state at = length line - at

@@ -2,6 +2,7 @@ use Rattle.theory_base.proofs.Slices.{rest-is}
 use Rattle.text.proofs.Numbers.{sign-plain, sign-minus, number-none, number-minus, number-plain}
 use Rattle.text.specs.Numbers.{natural-class, number-class, with-sign}
 use Rattle.definition.specs.Text.{natural}
+use Rattle.tables.specs.Sizes.{log-reach}
 use mathlib.Core.Path.{ap, _∙_}
 use mathlib.Core.Bool.{true, false}
 use mathlib.Core.List.{List}
@@ -47,7 +48,7 @@ returns-2 c =
     c .signed-number .ensures
     ∙ ap (with-sign true)
     (c .before .natural-up-to .ensures
-    ∙ ap (λ (s : List ℕ). natural-class 70_000 (natural s)) (rest-is (start .args .word .now) 1))
+    ∙ ap (λ (s : List ℕ). natural-class log-reach (natural s)) (rest-is (start .args .word .now) 1))
     ∙ sign-minus (natural (drop 1 (start .args .word .now)))
     ∙ ap number-class (number-minus (start .args .word .now) (if1 .left) (if2 .taken))
 

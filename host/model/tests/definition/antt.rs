@@ -109,17 +109,11 @@ pub fn row_text(row: &Row) -> String {
 
 fn call_text(call: &Call) -> String {
     match call {
-        Call::Reencode {
-            form,
-            arrangement,
-            work,
-            log_room,
-            formula_room,
-            text,
-        } => {
-            let settings = settings(*form, *arrangement);
-            let text = quoted(text);
-            format!("reencode {settings} {work} {log_room} {formula_room} (bytes {text})")
+        Call::Reencode(call) => {
+            let settings = settings(call.form, call.arrangement);
+            let (work, log, formula) = (call.work, call.log_room, call.formula_room);
+            let text = quoted(&call.text);
+            format!("reencode {settings} {work} {log} {formula} (bytes {text})")
         }
         Call::ReadBack { work, text } => format!("read-back {work} (bytes {})", quoted(text)),
         Call::WalkBack {

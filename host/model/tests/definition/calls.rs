@@ -1,6 +1,6 @@
 //! Random calls.
 
-use crate::rows::{Call, Text, PLENTY};
+use crate::rows::{Call, Reencode, Text, PLENTY};
 use model::encoding::Encoding;
 use model::generator::{answer_after, damage, damage_log, noise, planned, text_of, Random};
 use model::reading::Formula;
@@ -122,14 +122,14 @@ pub fn reencoding(
     let text = perhaps_damaged(random, text_of(&formula), damaged);
     let result = reencode(&text, form, arrangement, PLENTY as u64, PLENTY, PLENTY);
     let (log, new) = result.map_or((100, 100), |r| (r.log.len(), r.formula.len()));
-    Call::Reencode {
+    Call::Reencode(Reencode {
         form,
         arrangement,
         work: room(random, formula.workspace_needed() as usize, damaged),
         log_room: room(random, log, damaged),
         formula_room: room(random, new, damaged),
         text,
-    }
+    })
 }
 
 pub fn reading_back(formula: Formula, random: &mut Random, form: Form, damaged: usize) -> Call {

@@ -11,7 +11,7 @@ pub fn counts(rows: &[Row]) -> Counts {
     let mut counts = Counts::new();
     for row in rows {
         let (call, texts) = match &row.call {
-            Call::Reencode { text, .. } => ("reencode", vec![text]),
+            Call::Reencode(call) => ("reencode", vec![&call.text]),
             Call::ReadBack { text, .. } => ("read-back", vec![text]),
             Call::WalkBack {
                 text, log, answer, ..
@@ -32,16 +32,11 @@ fn count(counts: &mut Counts, what: impl Into<String>, times: usize) {
 }
 
 fn count_reencoding(counts: &mut Counts, row: &Row) {
-    let (
-        Call::Reencode {
-            form, arrangement, ..
-        },
-        Some(run),
-    ) = (&row.call, row.run())
-    else {
+    let (Call::Reencode(call), Some(run)) = (&row.call, row.run()) else {
         return;
     };
-    let aligned = match arrangement {
+    let form = call.form;
+    let aligned = match call.arrangement {
         Arrangement::Alignment => ", aligned",
         Arrangement::AsListed => "",
     };

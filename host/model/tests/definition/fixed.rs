@@ -1,18 +1,18 @@
 //! Rows that are not drawn: the limits, and all formulas of a small kind.
 
-use crate::rows::{Call, Row, Text, PLENTY};
+use crate::rows::{Call, Reencode, Row, Text, PLENTY};
 use model::texts::formula_text;
 use model::{Arrangement, Form};
 
 fn reencoding(text: Text) -> Row {
-    Row::of(Call::Reencode {
+    Row::of(Call::Reencode(Reencode {
         form: Form::Counter,
         arrangement: Arrangement::AsListed,
         work: PLENTY,
         log_room: PLENTY,
         formula_room: PLENTY,
         text,
-    })
+    }))
 }
 
 /// The largest V and C of both readers and the largest variable of a log, and one more.

@@ -5,7 +5,7 @@ use model::encoding::Encoding;
 use model::generator::text_of;
 use model::reading::{read_formula, Formula, INPUT_LIMITS};
 use model::texts::{answer_text, log_text, Line};
-use model::{read_back, reencode, walk_back, Arrangement, Form};
+use model::{read_back, reencode, walk_back, Arrangement, Form, Reencoded};
 
 pub type Text = Vec<u8>;
 
@@ -14,14 +14,7 @@ pub const PLENTY: usize = 1_000_000;
 
 #[derive(Clone, PartialEq)]
 pub enum Call {
-    Reencode {
-        form: Form,
-        arrangement: Arrangement,
-        work: usize,
-        log_room: usize,
-        formula_room: usize,
-        text: Text,
-    },
+    Reencode(Reencode),
     ReadBack {
         work: usize,
         text: Text,
@@ -38,6 +31,16 @@ pub enum Call {
     Choose {
         text: Text,
     },
+}
+
+#[derive(Clone, PartialEq)]
+pub struct Reencode {
+    pub form: Form,
+    pub arrangement: Arrangement,
+    pub work: usize,
+    pub log_room: usize,
+    pub formula_room: usize,
+    pub text: Text,
 }
 
 #[derive(Clone, PartialEq)]
@@ -63,6 +66,19 @@ pub struct Row {
     pub outcome: Outcome,
 }
 
+impl Reencode {
+    fn given(&self) -> Result<Reencoded, u8> {
+        reencode(
+            &self.text,
+            self.form,
+            self.arrangement,
+            self.work as u64,
+            self.log_room,
+            self.formula_room,
+        )
+    }
+}
+
 impl Row {
     /// The call, and what the model gives for it.
     pub fn of(call: Call) -> Row {
@@ -81,14 +97,9 @@ impl Row {
     /// The run of a reencoding that gives a result.
     pub fn run(&self) -> Option<Encoding> {
         match &self.call {
-            Call::Reencode {
-                form,
-                arrangement,
-                text,
-                ..
-            } if self.number() == 0 => {
-                let formula = read_formula(text, &INPUT_LIMITS).ok()?;
-                Some(Encoding::run(&formula, *form, *arrangement))
+            Call::Reencode(call) if self.number() == 0 => {
+                let formula = read_formula(&call.text, &INPUT_LIMITS).ok()?;
+                Some(Encoding::run(&formula, call.form, call.arrangement))
             }
             _ => None,
         }
@@ -97,16 +108,15 @@ impl Row {
     /// Without the arrangement, the log would be another one.
     pub fn alignment_matters(&self) -> bool {
         match (&self.call, &self.outcome) {
-            (Call::Reencode { form, text, .. }, Outcome::Reencoded { log, .. }) => {
-                let other = reencode(
-                    text,
-                    *form,
-                    Arrangement::AsListed,
-                    PLENTY as u64,
-                    PLENTY,
-                    PLENTY,
-                );
-                other.is_ok_and(|other| other.log != *log)
+            (Call::Reencode(call), Outcome::Reencoded { log, .. }) => {
+                let other = Reencode {
+                    arrangement: Arrangement::AsListed,
+                    work: PLENTY,
+                    log_room: PLENTY,
+                    formula_room: PLENTY,
+                    ..call.clone()
+                };
+                other.given().is_ok_and(|other| other.log != *log)
             }
             _ => false,
         }
@@ -137,22 +147,7 @@ impl Row {
 
 fn given(call: &Call) -> Result<Outcome, u8> {
     match call {
-        Call::Reencode {
-            form,
-            arrangement,
-            work,
-            log_room,
-            formula_room,
-            text,
-        } => reencode(
-            text,
-            *form,
-            *arrangement,
-            *work as u64,
-            *log_room,
-            *formula_room,
-        )
-        .map(reencoded),
+        Call::Reencode(call) => call.given().map(reencoded),
         Call::ReadBack { work, text } => {
             let (variables, clauses) = read_back(text, *work as u64)?;
             Ok(Outcome::Read(text_of(&Formula { variables, clauses })))
@@ -176,7 +171,7 @@ fn given(call: &Call) -> Result<Outcome, u8> {
     }
 }
 
-fn reencoded(result: model::Reencoded) -> Outcome {
+fn reencoded(result: Reencoded) -> Outcome {
     Outcome::Reencoded {
         tally: [
             result.choices,

@@ -23,6 +23,7 @@ use Rattle.theory_base.proofs.Fitting.{highest-snoc}
 use Rattle.theory_text.specs.LogLines.{first-read, begins-deletion, rest-read}
 use Rattle.theory_text.proofs.LogLines.{as-line, deletion-read, addition-read, lines-read, log-none, Line-first, line-first, line-refused}
 use Rattle.tables.specs.Stamps.{Fresh}
+use Rattle.tables.specs.Sizes.{log-size}
 use Rattle.drat.specs.Lines.{line-of}
 use Rattle.drat.specs.Loaded.{line-header, closed, line-entry, line-entries}
 use Rattle.drat.specs.Reading.{Stored-read, Clause-reads, Line-reads, Kept, Log-reads}
@@ -88,11 +89,11 @@ pub record Reading-log (log : Bytes) (kept stamp at n filled top : ℕ) (seen : 
   pub room : filled ≤ at
   pub high : top ≡ highest-in ss
   pub place : lines-read ss (kept - n) (drop at log) ≡ lines-read [] kept log
-  pub table : length seen ≡ 140_002
+  pub table : length seen ≡ log-size
   pub fresh : Fresh seen stamp
   pub stored : store ≡ sets old 0 (line-entries ss)
 
-pub log-start : (log : Bytes) (kept stamp : ℕ) (seen : List ℕ) (old : List ℤ) → length seen ≡ 140_002 → Fresh seen stamp → Reading-log log kept stamp 0 0 0 0 seen old old
+pub log-start : (log : Bytes) (kept stamp : ℕ) (seen : List ℕ) (old : List ℤ) → length seen ≡ log-size → Fresh seen stamp → Reading-log log kept stamp 0 0 0 0 seen old old
 unfolding for-each highest-in
 log-start log kept stamp seen old h f =
     let z : kept - 0 ≡ kept = omega arith in record {

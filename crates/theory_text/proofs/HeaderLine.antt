@@ -11,7 +11,7 @@ use lib.ListN.{length, getD, take, drop, drop-of-length-le, length-append, take-
 use lib.Seq.{take-length, drop-cons}
 use borrow.Author.Tests.{leb-true, eqb-true, ne-eqb}
 use Rattle.definition.specs.Lists.{all}
-use Rattle.definition.specs.Checked.{fault, value, _>>=_, refuse-if, or-fault}
+use Rattle.definition.specs.Checked.{Checked, fault, value, _>>=_, refuse-if, or-fault}
 use Rattle.definition.specs.Text.{Bytes, bytes, is, past-comments, text-lines, same-bytes, fields-from, fields, words, natural, digit}
 use Rattle.definition.specs.Reading.{Limits, Header, read-header-fields, read-header-line, read-header}
 use Rattle.definition.specs.Answer.{begins-with}
@@ -163,6 +163,13 @@ spaced-none t x xs e = go (natural t) refl
     go none q = refl
     go (some n) q = let k = sym (fields-later t (natural-free t n q)) ∙ e in absurd (let z : _≡_ {A = ℕ} 0 1 = cc in omega arith)
 
+abbrev header : ℕ → ℕ → Bytes → Header
+header v c t = record { variables = v; clauses = c; after = words t }
+
+-- the definition's words for what two numbers give
+abbrev counts-checked : Limits → Option ℕ → Option ℕ → Bytes → Checked Header
+counts-checked most a b t = or-fault a 1 >>= λ v. or-fault b 1 >>= λ c. refuse-if (ltb (most .variables) v || ltb (most .clauses) c) 2 (value (header v c t))
+
 counts-none : (most : Limits) (o : Option ℕ) (after : Bytes) → read-counts most o none after ≡ fault 1
 counts-none most none after = refl
 counts-none most (some v) after = refl
@@ -183,7 +190,7 @@ module _ (most : Limits) (after : Bytes) where
   unfolding read-header-fields refuse-if or-fault _>>=_ bytes same-bytes
   counts-fields u w = go (natural u) (natural w)
     where
-      go : (a b : Option ℕ) → (or-fault a 1 >>= λ v. or-fault b 1 >>= λ c. refuse-if (ltb (most .variables) v || ltb (most .clauses) c) 2 (value (record { variables = v; clauses = c; after = words after }))) ≡ read-counts most a b after
+      go : (a b : Option ℕ) → counts-checked most a b after ≡ read-counts most a b after
       go none b = refl
       go (some v) none = refl
       go (some v) (some c) = refl
@@ -223,9 +230,6 @@ module _ (most : Limits) (after : Bytes) (u : Bytes) where
   header-counts h = ap (λ (r : Bytes). read-header-fields most (fields (marker ++ r)) after) (split h) ∙ two-fields most after (take first u) (drop (suc first) u) (letters-free (is " ") u)
 
 -- what follows the header only goes into its words
-abbrev header : ℕ → ℕ → Bytes → Header
-header v c t = record { variables = v; clauses = c; after = words t }
-
 pub fields-after : (most : Limits) (f : List Bytes) (after : Bytes) → read-header-fields most f after ≡ (read-header-fields most f [] >>= λ h. value (header (h .variables) (h .clauses) after))
 unfolding read-header-fields refuse-if or-fault _>>=_
 fields-after most f after = go (not (header-fields f)) (natural (getD f 2 [])) (natural (getD f 3 []))
@@ -235,7 +239,7 @@ fields-after most f after = go (not (header-fields f)) (natural (getD f 2 [])) (
     some-counts false v c = refl
 
     go : (x : Bool) (a b : Option ℕ) →
-        refuse-if x 1 (or-fault a 1 >>= λ v. or-fault b 1 >>= λ c. refuse-if (ltb (most .variables) v || ltb (most .clauses) c) 2 (value (header v c after))) ≡ (refuse-if x 1 (or-fault a 1 >>= λ v. or-fault b 1 >>= λ c. refuse-if (ltb (most .variables) v || ltb (most .clauses) c) 2 (value (header v c []))) >>= λ h. value (header (h .variables) (h .clauses) after))
+        refuse-if x 1 (counts-checked most a b after) ≡ (refuse-if x 1 (counts-checked most a b []) >>= λ h. value (header (h .variables) (h .clauses) after))
     go true a b = refl
     go false none b = refl
     go false (some v) none = refl

@@ -11,6 +11,7 @@ use borrow.Author.Needs.{needs}
 use Rattle.definition.specs.Text.{blank}
 use Rattle.text.proofs.Words.{word-answer}
 use Rattle.theory_base.proofs.Slices.{rest-is}
+use Rattle.tables.specs.Sizes.{log-size}
 use Rattle.dimacs.specs.Limits.{limits-of}
 use Rattle.dimacs.proofs.Reading.{Reading, reading-start, reading-filled, reading-fresh, reading-end, reading-more, reading-fault, reading-on}
 use Rattle.dimacs.proofs.read_clauses.Statement.{statement}
@@ -18,7 +19,7 @@ use Rattle.dimacs.proofs.read_clauses.Tie as tie
 
 abbrev Inv-loop : tie.InvT-loop
 Inv-loop text variables clauses most store₀ seen₀ at₀ done₀ total₀ end₀ store seen at done total end =
-    Reading (limits-of most) variables clauses text store₀ seen store at done total end × (length seen ≡ 140_002)
+    Reading (limits-of most) variables clauses text store₀ seen store at done total end × (length seen ≡ log-size)
 
 abbrev μ-loop : tie.MeasureT-loop
 μ-loop text variables clauses most store₀ seen₀ at₀ done₀ total₀ end₀ store seen at done total end =
@@ -28,8 +29,8 @@ loop-holds : tie.Need-loop-holds Inv-loop μ-loop
 loop-holds c =
     let start = c .before in (
       reading-start (limits-of (start .args .most)) (start .args .variables) (start .args .clauses)
-          (now (start .args .text)) (now (start .args .store)) 140_002,
-      length-replicate {A = ℕ} 140_002 0,
+          (now (start .args .text)) (now (start .args .store)) log-size,
+      length-replicate {A = ℕ} log-size 0,
     )
 
 cast-room : tie.Need-cast-room Inv-loop μ-loop

@@ -5,6 +5,7 @@ use Prim.Native.Nat.{ℕ, _-_}
 use borrow.Author.Needs.{needs}
 use lib.ListN.{replicate, length-replicate}
 use Rattle.tables.proofs.Laws.{zeros-at-most, fresh-more}
+use Rattle.tables.specs.Sizes.{log-size}
 use Rattle.drat.proofs.Log.{Reading-log, log-start, log-length, log-counted, log-end, log-short, line-room, line-kept, log-fault, next-inside, next-room, log-step}
 use Rattle.drat.proofs.read_log.Statement.{statement}
 use Rattle.drat.proofs.read_log.Tie as tie
@@ -18,8 +19,8 @@ abbrev μ-loop : tie.MeasureT-loop
 loop-holds : tie.Need-loop-holds Inv-loop μ-loop
 loop-holds c =
     let start = c .before in
-    log-start (start .args .log .now) (start .args .kept) 1 (replicate 140_002 0) (start .args .store .now)
-    (length-replicate {A = ℕ} 140_002 0) (fresh-more (replicate 140_002 0) 0 (zeros-at-most 140_002 0))
+    log-start (start .args .log .now) (start .args .kept) 1 (replicate log-size 0) (start .args .store .now)
+    (length-replicate {A = ℕ} log-size 0) (fresh-more (replicate log-size 0) 0 (zeros-at-most log-size 0))
 
 same-length : tie.Need-same-length Inv-loop μ-loop
 same-length c = log-length (c .before .before .loop .inv)

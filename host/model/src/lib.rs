@@ -32,7 +32,7 @@ pub enum Form {
     Order,
 }
 
-/// Whether the caller arrangements the choices aligned.
+/// Whether the caller wishes the choices aligned.
 #[derive(Debug, Clone, Copy, PartialEq, Eq)]
 pub enum Arrangement {
     AsListed,

@@ -1,5 +1,7 @@
 //! The proved library's C functions on lent slices: one call each, the refusal's number as it comes.
 
+use std::cell::Cell;
+use std::panic::resume_unwind;
 use std::thread;
 
 #[derive(Debug, Clone, Copy, PartialEq, Eq)]
@@ -8,7 +10,7 @@ pub enum Form {
     Order,
 }
 
-/// What the caller arrangements for the order of the choices' literals.
+/// What the caller wishes for the order of the choices' literals.
 #[derive(Debug, Clone, Copy, PartialEq, Eq)]
 pub enum Arrangement {
     AsListed,
@@ -86,15 +88,26 @@ pub mod library {
 /// they fit.
 const STACK_BYTES: usize = 32 << 20;
 
-/// Runs a call on a stack that is large enough for it.
+thread_local! {
+    static HAS_LARGE_STACK: Cell<bool> = const { Cell::new(false) };
+}
+
+/// Runs a call on a stack that is large enough for it: a new thread's, or that of the caller who is in such a
+/// call already. Whoever makes many calls saves the threads by making them all in one of these.
 pub fn on_large_stack<R: Send>(call: impl FnOnce() -> R + Send) -> R {
+    if HAS_LARGE_STACK.get() {
+        return call();
+    }
+    let marked = || {
+        HAS_LARGE_STACK.set(true);
+        call()
+    };
     thread::scope(|scope| {
-        thread::Builder::new()
+        let thread = thread::Builder::new()
             .stack_size(STACK_BYTES)
-            .spawn_scoped(scope, call)
-            .expect("a thread can be started")
-            .join()
-            .expect("the call returns")
+            .spawn_scoped(scope, marked)
+            .expect("a thread can be started");
+        thread.join().unwrap_or_else(|panic| resume_unwind(panic))
     })
 }
 

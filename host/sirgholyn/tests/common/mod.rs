@@ -215,13 +215,14 @@ pub fn over_seeds<C: Default + Send>(
         let threads: Vec<_> = (0..processors)
             .map(|own| {
                 let seeds = seeds.clone();
-                scope.spawn(move || {
+                let all = move || {
                     let mut counted = C::default();
                     for seed in seeds.filter(|seed| seed % processors == own) {
                         work(seed, &mut counted);
                     }
                     counted
-                })
+                };
+                scope.spawn(|| calls::on_large_stack(all))
             })
             .collect();
         threads

@@ -1,4 +1,4 @@
--- Counts written one after the other, and number and tally from the outcome of a call.
+-- Number and tally from the outcome of a call.
 use mathlib.Core.Path.{_≡_, refl, sym, ap, _∙_}
 use mathlib.Core.List.{List, [], _∷_}
 use Prim.Native.Nat.{ℕ}
@@ -25,32 +25,9 @@ use Rattle.call_reencode.specs.declared.Reencoding as Code-outcome
 use Rattle.call_reencode.specs.declared.Reencoding.the-variants as Reencoding
 use Rattle.call_reencode.specs.Outcome.{outcome, outcome-of}
 use Rattle.exports.specs.Numbers.{form-number, arrangement-number, settings-number, number-of, reencoding}
-use Rattle.exports.specs.Counts.{overwritten, tally-after, walk-back-counts, read-back-counts, reencoding-counts, done-counts}
-
--- one count, three counts, six counts
-one-count : (t : List ℕ) (a : ℕ) → set t 0 a ≡ overwritten (a ∷ []) t
-unfolding overwritten
-one-count [] a = refl
-one-count (x ∷ t) a = refl
-
-pub three-counts : (t : List ℕ) (a b c : ℕ) → set (set (set t 0 a) 1 b) 2 c ≡ overwritten (a ∷ b ∷ c ∷ []) t
-unfolding overwritten
-three-counts [] a b c = refl
-three-counts (x ∷ []) a b c = refl
-three-counts (x ∷ y ∷ []) a b c = refl
-three-counts (x ∷ y ∷ z ∷ t) a b c = refl
-
-pub six-counts : (t : List ℕ) (a b c d e f : ℕ) → set (set (set (set (set (set t 0 a) 1 b) 2 c) 3 d) 4 e) 5 f ≡ overwritten (a ∷ b ∷ c ∷ d ∷ e ∷ f ∷ []) t
-unfolding overwritten
-six-counts [] a b c d e f = refl
-six-counts (x ∷ []) a b c d e f = refl
-six-counts (x ∷ y ∷ []) a b c d e f = refl
-six-counts (x ∷ y ∷ z ∷ []) a b c d e f = refl
-six-counts (x ∷ y ∷ z ∷ u ∷ []) a b c d e f = refl
-six-counts (x ∷ y ∷ z ∷ u ∷ v ∷ []) a b c d e f = refl
-six-counts (x ∷ y ∷ z ∷ u ∷ v ∷ w ∷ t) a b c d e f = refl
-
--- ---- number and tally from the outcome of each call
+use Rattle.counts.specs.Counts.{overwritten}
+use Rattle.counts.proofs.Laws.{one-count}
+use Rattle.exports.specs.Counts.{tally-after, walk-back-counts, read-back-counts, reencoding-counts, done-counts}
 
 pub read-counted : (o : Checked Input) (v c l : ℕ) (before after : List ℕ) → read-back-of o ≡ ReadBack.Read v c l → after ≡ overwritten (v ∷ c ∷ l ∷ []) before → (0 ≡ number-of o) × (after ≡ tally-after o read-back-counts before)
 unfolding number-of tally-after

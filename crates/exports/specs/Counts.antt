@@ -8,12 +8,7 @@ use Rattle.definition.specs.Text.{Bytes}
 use Rattle.definition.specs.Reading.{Input}
 use Rattle.definition.specs.Calls.{Reencoded, Tally}
 use Rattle.call_reencode.specs.declared.Tally as Code
-
--- as many of the counts as fit, then what lay past them
-unfoldable pub overwritten : List ℕ → List ℕ → List ℕ
-overwritten [] before = before
-overwritten (n ∷ ns) [] = []
-overwritten (n ∷ ns) (b ∷ bs) = n ∷ overwritten ns bs
+use Rattle.counts.specs.Counts.{overwritten}
 
 -- a tally after a call: all zero at a fault, else the counts
 unfoldable pub tally-after : {A : Type 0} → Checked A → (A → List ℕ) → List ℕ → List ℕ

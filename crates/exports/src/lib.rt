@@ -3,62 +3,19 @@
 ghost use mathlib.Core.Path.{_≡_};
 ghost use mathlib.Core.List.{[], _∷_};
 ghost use lib.IntN.{pos};
-ghost use lib.ListN.{length, set, replicate};
 ghost use Rattle.definition.specs.Calls.{buffer-after};
 ghost use Rattle.dimacs.specs.Entries.{entries-of};
 ghost use Rattle.run.specs.Settings.{named-form, named-arrangement, settings-of};
 ghost use Rattle.call_walk_back.specs.Outcome.{outcome as walk-back-outcome};
 ghost use Rattle.call_read_back.specs.Outcome.{outcome as read-back-outcome};
 ghost use Rattle.exports.specs.Numbers.{form-number, arrangement-number, settings-number, number-of, reencoding};
-ghost use Rattle.exports.specs.Counts.{overwritten, tally-after, reencoding-counts, done-counts, walk-back-counts, read-back-counts};
+ghost use Rattle.counts.specs.Counts.{overwritten};
+ghost use Rattle.exports.specs.Counts.{tally-after, reencoding-counts, done-counts, walk-back-counts, read-back-counts};
 use call_reencode::Reencoding;
 use call_reencode::Tally;
 use run::Arrangement;
 use run::Form;
 use run::Settings;
-
-// ---- the tally
-
-// Writes a count at a place, if the tally reaches so far.
-fn put_count(tally: &mut [u64], at: usize, n: u64)
-    ensures { λ _. ⌜ now (tally .exit) ≡ set (now (tally .entry)) at n ⌝ }
-{
-    if at < tally.len() {
-        tally[at] = n;
-    }
-}
-
-// Makes every count 0.
-fn zero_counts(tally: &mut [u64])
-    ensures { λ _. ⌜ now (tally .exit) ≡ replicate (length (now (tally .entry))) 0 ⌝ }
-{
-    let mut i = 0;
-    while i < tally.len() {
-        tally[i] = 0;
-        i += 1;
-    }
-}
-
-// Writes the counts of a reencoding.
-fn put_done(tally: &mut [u64], t: Tally)
-    ensures { λ _. ⌜ now (tally .exit) ≡ overwritten (done-counts t) (now (tally .entry)) ⌝ }
-{
-    put_count(tally, 0, t.choices as u64);
-    put_count(tally, 1, t.highest as u64);
-    put_count(tally, 2, t.clauses as u64);
-    put_count(tally, 3, t.lines as u64);
-    put_count(tally, 4, t.log_bytes as u64);
-    put_count(tally, 5, t.formula_bytes as u64);
-}
-
-// Writes the counts of a formula read back.
-fn put_read(tally: &mut [u64], variables: u32, clauses: u32, literals: u32)
-    ensures { λ _. ⌜ now (tally .exit) ≡ overwritten (variables ∷ clauses ∷ literals ∷ []) (now (tally .entry)) ⌝ }
-{
-    put_count(tally, 0, variables as u64);
-    put_count(tally, 1, clauses as u64);
-    put_count(tally, 2, literals as u64);
-}
 
 // ---- reencoding
 
@@ -94,6 +51,21 @@ fn settings_named(form: u32, arrangement: u32) -> Settings
     }
 }
 
+// Writes the counts of a reencoding.
+fn put_done(tally: &mut [u64], t: Tally)
+    ensures { λ _. ⌜ now (tally .exit) ≡ overwritten (done-counts t) (now (tally .entry)) ⌝ }
+{
+    counts::put_six(
+        tally,
+        t.choices as u64,
+        t.highest as u64,
+        t.clauses as u64,
+        t.lines as u64,
+        t.log_bytes as u64,
+        t.formula_bytes as u64,
+    );
+}
+
 // Reencodes a formula into two buffers. form is 0 for the counter form, any other number for the order form; arrangement is 0 for
 // literals as they stand, any other number for alignment. The tally gets choices, H, M, log lines, the log's bytes and the formula's.
 #[no_mangle]
@@ -118,7 +90,7 @@ pub extern "C" fn sirgholyn_reencode(
             0
         }
         Reencoding::Refused(n) => {
-            zero_counts(tally);
+            counts::zero_counts(tally);
             n as u32
         }
     }
@@ -143,11 +115,11 @@ pub extern "C" fn sirgholyn_walk_back(
 {
     match call_walk_back::walk_back(formula, log, kept, answer, work, out) {
         call_walk_back::WalkedBack::Line(n) => {
-            put_count(tally, 0, n as u64);
+            counts::put_count(tally, 0, n as u64);
             0
         }
         call_walk_back::WalkedBack::Refused(n) => {
-            zero_counts(tally);
+            counts::zero_counts(tally);
             n as u32
         }
     }
@@ -164,11 +136,11 @@ pub extern "C" fn sirgholyn_read_back(text: &[u8], store: &mut [i32], tally: &mu
 {
     match call_read_back::read_back(text, store) {
         call_read_back::ReadBack::Read(v, c, l) => {
-            put_read(tally, v, c, l);
+            counts::put_three(tally, v, c, l);
             0
         }
         call_read_back::ReadBack::Refused(n) => {
-            zero_counts(tally);
+            counts::zero_counts(tally);
             n as u32
         }
     }

@@ -13,8 +13,8 @@ read-back-requires c κs = search needs
 enum-known-v : tie.Need-enum-known-v
 enum-known-v c = search needs
 
-put-read-requires : tie.Need-put-read-requires
-put-read-requires c κs = search needs
+put-three-requires : tie.Need-put-three-requires
+put-three-requires c κs = search needs
 
 enum-known-n : tie.Need-enum-known-n
 enum-known-n c = search needs
@@ -37,7 +37,7 @@ returns c =
     let back = back .before .before .before in let the-read-back = back .read-back in
     let start = back .before .before .before .before in
     let k = read-counted (read-back (length (now (start .args .store))) (now (start .args .text))) _ _ _
-    (now (start .args .tally)) _ (sym (the-read-back .ensures .0) ∙ v .given .1) (c .before .before .put-read .ensures)
+    (now (start .args .tally)) _ (sym (the-read-back .ensures .0) ∙ v .given .1) (c .before .before .put-three .ensures)
     in
     (k .0, (the-read-back .ensures .1, k .1))
 
@@ -63,7 +63,7 @@ sirgholyn-read-back-spec =
     (tie.spec
     read-back-requires
     enum-known-v
-    put-read-requires
+    put-three-requires
     enum-known-n
     zero-counts-requires
     cast-result

@@ -116,15 +116,10 @@ fn call_text(call: &Call) -> String {
             format!("reencode {settings} {work} {log} {formula} (bytes {text})")
         }
         Call::ReadBack { work, text } => format!("read-back {work} (bytes {})", quoted(text)),
-        Call::WalkBack {
-            work,
-            room,
-            kept,
-            text,
-            log,
-            answer,
-        } => {
-            let [text, log, answer] = [text, log, answer].map(|text| quoted(text));
+        Call::WalkBack(call) => {
+            let (work, room, kept) = (call.work, call.room, call.kept);
+            let [text, log, answer] =
+                [&call.text, &call.log, &call.answer].map(|text| quoted(text));
             format!("walk-back {work} {room} {kept} (bytes {text}) (bytes {log}) (bytes {answer})")
         }
         Call::Choose { text } => format!("read-formula input-limits (bytes {})", quoted(text)),

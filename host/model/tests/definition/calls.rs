@@ -1,6 +1,6 @@
 //! Random calls.
 
-use crate::rows::{Call, Reencode, Text, PLENTY};
+use crate::rows::{Call, Reencode, Text, WalkBack, PLENTY};
 use model::encoding::Encoding;
 use model::generator::{answer_after, damage, damage_log, noise, planned, text_of, Random};
 use model::reading::Formula;
@@ -162,12 +162,12 @@ pub fn walking_back(formula: Formula, random: &mut Random, form: Form, damaged: 
     let answer = perhaps_damaged(random, answer, damaged / 2);
     let line = walk_back(&text, &log, kept, &answer, PLENTY as u64, PLENTY);
     let needed = workspace_needed(&formula, kept_lines) as usize;
-    Call::WalkBack {
+    Call::WalkBack(WalkBack {
         work: room(random, needed, damaged),
         room: room(random, line.map_or(60, |line| line.len()), damaged),
         kept,
         text,
         log,
         answer,
-    }
+    })
 }

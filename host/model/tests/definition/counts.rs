@@ -13,9 +13,7 @@ pub fn counts(rows: &[Row]) -> Counts {
         let (call, texts) = match &row.call {
             Call::Reencode(call) => ("reencode", vec![&call.text]),
             Call::ReadBack { text, .. } => ("read-back", vec![text]),
-            Call::WalkBack {
-                text, log, answer, ..
-            } => ("walk-back", vec![text, log, answer]),
+            Call::WalkBack(call) => ("walk-back", vec![&call.text, &call.log, &call.answer]),
             Call::Choose { text } => ("choose", vec![text]),
         };
         count(&mut counts, format!("{call} {:02}", row.number()), 1);
@@ -72,7 +70,7 @@ fn count_run(counts: &mut Counts, run: &Encoding) {
 }
 
 fn count_walk_back(counts: &mut Counts, row: &Row) {
-    if !matches!(row.call, Call::WalkBack { .. }) || row.number() > 0 {
+    if !matches!(row.call, Call::WalkBack(_)) || row.number() > 0 {
         return;
     }
     let log = if row.is_cut() { "cut log" } else { "whole log" };

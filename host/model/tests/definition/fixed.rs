@@ -1,6 +1,6 @@
 //! Rows that are not drawn: the limits, and all formulas of a small kind.
 
-use crate::rows::{Call, Reencode, Row, Text, PLENTY};
+use crate::rows::{Call, Reencode, Row, Text, WalkBack, PLENTY};
 use model::texts::formula_text;
 use model::{Arrangement, Form};
 
@@ -32,14 +32,14 @@ pub fn limits() -> Vec<Row> {
         }
     }
     for variable in [70_000, 70_001] {
-        rows.push(Row::of(Call::WalkBack {
+        rows.push(Row::of(Call::WalkBack(WalkBack {
             work: PLENTY,
             room: PLENTY,
             kept: 1,
             text: b"p cnf 1 0\n".to_vec(),
             log: format!("{variable} 0\n").into_bytes(),
             answer: format!("s SATISFIABLE\nv {variable} 0\n").into_bytes(),
-        }));
+        })));
     }
     rows
 }

@@ -19,14 +19,7 @@ pub enum Call {
         work: usize,
         text: Text,
     },
-    WalkBack {
-        work: usize,
-        room: usize,
-        kept: usize,
-        text: Text,
-        log: Text,
-        answer: Text,
-    },
+    WalkBack(WalkBack),
     /// Which clauses are taken as choices.
     Choose {
         text: Text,
@@ -41,6 +34,16 @@ pub struct Reencode {
     pub log_room: usize,
     pub formula_room: usize,
     pub text: Text,
+}
+
+#[derive(Clone, PartialEq)]
+pub struct WalkBack {
+    pub work: usize,
+    pub room: usize,
+    pub kept: usize,
+    pub text: Text,
+    pub log: Text,
+    pub answer: Text,
 }
 
 #[derive(Clone, PartialEq)]
@@ -75,6 +78,19 @@ impl Reencode {
             self.work as u64,
             self.log_room,
             self.formula_room,
+        )
+    }
+}
+
+impl WalkBack {
+    fn given(&self) -> Result<Text, u8> {
+        walk_back(
+            &self.text,
+            &self.log,
+            self.kept,
+            &self.answer,
+            self.work as u64,
+            self.room,
         )
     }
 }
@@ -125,16 +141,14 @@ impl Row {
     /// Some lines of the log are not kept.
     pub fn is_cut(&self) -> bool {
         match &self.call {
-            Call::WalkBack { log, kept, .. } => {
-                *kept < log.split(|&byte| byte == b'\n').count() - 1
-            }
+            Call::WalkBack(call) => call.kept < call.log.split(|&byte| byte == b'\n').count() - 1,
             _ => false,
         }
     }
 
     /// An answer is carried back to other values than it has.
     pub fn is_changed(&self) -> bool {
-        let (Call::WalkBack { answer, text, .. }, Outcome::Line(line)) =
+        let (Call::WalkBack(WalkBack { answer, text, .. }), Outcome::Line(line)) =
             (&self.call, &self.outcome)
         else {
             return false;
@@ -152,14 +166,7 @@ fn given(call: &Call) -> Result<Outcome, u8> {
             let (variables, clauses) = read_back(text, *work as u64)?;
             Ok(Outcome::Read(text_of(&Formula { variables, clauses })))
         }
-        Call::WalkBack {
-            work,
-            room,
-            kept,
-            text,
-            log,
-            answer,
-        } => walk_back(text, log, *kept, answer, *work as u64, *room).map(Outcome::Line),
+        Call::WalkBack(call) => call.given().map(Outcome::Line),
         Call::Choose { text } => {
             let formula = read_formula(text, &INPUT_LIMITS)?;
             Ok(chosen(&Encoding::run(

@@ -12,7 +12,7 @@ pub fn short_rows(rows: &[Row]) -> Vec<Row> {
         |row| matches!(&row.outcome, Outcome::Chosen(text) if !text.is_empty()),
         |row| matches!(row.call, Call::Reencode(_)) && row.number() > 0,
         |row| matches!(row.call, Call::ReadBack { .. }) && row.number() > 0,
-        |row| matches!(row.call, Call::WalkBack { .. }) && row.number() > 0,
+        |row| matches!(row.call, Call::WalkBack(_)) && row.number() > 0,
     ];
     let mut short = Vec::new();
     for is_wanted in kinds {

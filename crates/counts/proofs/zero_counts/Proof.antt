@@ -7,8 +7,8 @@ use lib.ListN.{length, drop, set, replicate, length-set}
 use lib.Seq.{drop-length}
 use denote.Ref.{now}
 use borrow.Author.Fill.{fill-none, fill-more}
-use Rattle.exports.proofs.zero_counts.Statement.{statement}
-use Rattle.exports.proofs.zero_counts.Tie as tie
+use Rattle.counts.proofs.zero_counts.Statement.{statement}
+use Rattle.counts.proofs.zero_counts.Tie as tie
 
 abbrev Inv-loop : tie.InvT-loop
 Inv-loop tally₀ i₀ tally i = (i ≤ length tally₀) × (length tally ≡ length tally₀) × (tally ≡ replicate i 0 ++ drop i tally₀)

@@ -1,14 +1,11 @@
-use Rattle.exports.proofs.Laws.{six-counts}
+use Rattle.counts.proofs.Laws.{six-counts}
 use denote.Ref.{now}
 use borrow.Author.Needs.{needs}
-use Rattle.exports.proofs.put_done.Statement.{statement}
-use Rattle.exports.proofs.put_done.Tie as tie
+use Rattle.counts.proofs.put_six.Statement.{statement}
+use Rattle.counts.proofs.put_six.Tie as tie
 
 put-count-requires : tie.Need-put-count-requires
 put-count-requires c κs = search needs
-
-cast-put-count : tie.Need-cast-put-count
-cast-put-count c = search needs
 
 put-count-requires-2 : tie.Need-put-count-requires-2
 put-count-requires-2 c κs = search needs
@@ -34,7 +31,7 @@ returns c =
     let back = back .before .before .before .before in let put-count4 = back .put-count4 in
     let back = back .before .before .before .before in let put-count3 = back .put-count3 in
     let back = back .before .before .before .before in let put-count2 = back .put-count2 in
-    let back = back .before .before .before .before .before in let put-count = back .put-count in
+    let back = back .before .before .before .before in let put-count = back .put-count in
     let start = back .before .before .before in
     rw (
       c .before .before .put-count6 .ensures,
@@ -45,12 +42,11 @@ returns c =
       put-count .ensures,
     ) (six-counts (now (start .args .tally)) _ _ _ _ _ _)
 
-pub put-done-spec : {M : Type 1} → statement M
-put-done-spec =
+pub put-six-spec : {M : Type 1} → statement M
+put-six-spec =
     tie.close
     (tie.spec
     put-count-requires
-    cast-put-count
     put-count-requires-2
     put-count-requires-3
     put-count-requires-4

@@ -2,8 +2,8 @@ use mathlib.Core.Path.{sym}
 use lib.Seq.{set-out}
 use denote.Ref.{now}
 use borrow.Author.Needs.{needs}
-use Rattle.exports.proofs.put_count.Statement.{statement}
-use Rattle.exports.proofs.put_count.Tie as tie
+use Rattle.counts.proofs.put_count.Statement.{statement}
+use Rattle.counts.proofs.put_count.Tie as tie
 
 mul-tally : tie.Need-mul-tally
 mul-tally c = search needs

@@ -1,8 +1,8 @@
-use Rattle.exports.proofs.Laws.{three-counts}
+use Rattle.counts.proofs.Laws.{three-counts}
 use denote.Ref.{now}
 use borrow.Author.Needs.{needs}
-use Rattle.exports.proofs.put_read.Statement.{statement}
-use Rattle.exports.proofs.put_read.Tie as tie
+use Rattle.counts.proofs.put_three.Statement.{statement}
+use Rattle.counts.proofs.put_three.Tie as tie
 
 put-count-requires : tie.Need-put-count-requires
 put-count-requires c κs = search needs
@@ -24,7 +24,7 @@ returns c =
     rw (c .before .before .put-count3 .ensures, put-count2 .ensures, put-count .ensures)
     (three-counts (now (start .args .tally)) _ _ _)
 
-pub put-read-spec : {M : Type 1} → statement M
-put-read-spec =
+pub put-three-spec : {M : Type 1} → statement M
+put-three-spec =
     tie.close
     (tie.spec put-count-requires put-count-requires-2 put-count-requires-3 same-length returns)

@@ -8,6 +8,7 @@ use lib.Dec.{eqb}
 use lib.IntN.{ℤ, pos, negsuc}
 use lib.ListN.{length, getD, take, drop, replicate}
 use Rattle.definition.specs.Literals.{Clause}
+use Rattle.tables.specs.Sizes.{log-size}
 use Rattle.literals.specs.Literal.{largest, index-of, header-literals}
 use Rattle.store.specs.Store.{Formed, header-at, clause-at, Place}
 use Rattle.replay.specs.declared.Replayed.{Replayed}
@@ -16,10 +17,10 @@ use Rattle.theory_base.specs.Slices.{between}
 
 -- the greatest index that counts, and how many keys there are
 abbrev pub last-index : ℕ
-last-index = 140001
+last-index = log-size - 1
 
 abbrev pub keys : ℕ
-keys = 140002
+keys = log-size
 
 -- the lowest and the greatest index of a clause's literals
 unfoldable pub lowest-index : Clause → ℕ

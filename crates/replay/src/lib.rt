@@ -16,14 +16,16 @@ ghost use Rattle.replay.specs.Replayed.{Replayable, Laid-out, Clause-add
 
 // ---- an index of the clauses by key: a table of the last entry of each key, and a link from each entry to the one before it with the same key
 
-// How many keys there are.
-const KEYS: usize = 140002;
+// How many keys there are, and the greatest index that counts.
+const KEYS: usize = tables::LOG_SIZE;
 
-// The lowest index of a clause's literals, no more than 140,001.
+const LAST: usize = tables::LOG_SIZE - 1;
+
+// The lowest index of a clause's literals, no more than the last that counts.
 fn lowest(clause: &[i32]) -> usize
     ensures { λ r. ⌜ r ≡ lowest-index (now (clause .entry)) ⌝ }
 {
-    let mut low = 140001;
+    let mut low = LAST;
     let mut i = 0;
     while i < clause.len() {
         low = literals::lower(low, literals::literal_index(clause[i]));
@@ -32,7 +34,7 @@ fn lowest(clause: &[i32]) -> usize
     low
 }
 
-// The greatest index of a clause's literals, counted up to 140,001.
+// The greatest index of a clause's literals, counted up to the last that counts.
 fn greatest(clause: &[i32]) -> usize
     ensures { λ r. ⌜ r ≡ greatest-index (now (clause .entry)) ⌝ }
 {
@@ -41,7 +43,7 @@ fn greatest(clause: &[i32]) -> usize
     while i < clause.len() {
         top = literals::higher(
             top,
-            literals::lower(140001, literals::literal_index(clause[i])),
+            literals::lower(LAST, literals::literal_index(clause[i])),
         );
         i += 1;
     }

@@ -21,6 +21,17 @@ fn main() {
         );
         std::process::exit(1);
     };
+    let identity = fs::read_to_string(folder.join("identity.txt")).unwrap_or_default();
+    for (name, key) in [
+        ("SIRGHOLYN_TOOLCHAIN_ID", "toolchain "),
+        ("SIRGHOLYN_LIBRARY_ID", "library "),
+    ] {
+        let found = identity
+            .lines()
+            .find_map(|line| line.strip_prefix(key))
+            .unwrap_or("unknown");
+        println!("cargo:rustc-env={name}={found}");
+    }
     println!("cargo:rustc-link-search=native={}", folder.display());
     println!("cargo:rustc-link-lib=static=exports");
 }

@@ -1,8 +1,9 @@
 //! The proved library's C functions on lent slices: one call each, the refusal's number as it comes.
 
+use crate::limits::STACK_BYTES;
 use std::cell::Cell;
 use std::panic::resume_unwind;
-use std::thread;
+use std::{io, thread};
 
 #[derive(Debug, Clone, Copy, PartialEq, Eq)]
 pub enum Form {
@@ -84,19 +85,16 @@ pub mod library {
     }
 }
 
-/// The library holds its tables on the stack, more than a small thread has, and does not ask whether
-/// they fit.
-const STACK_BYTES: usize = 32 << 20;
-
 thread_local! {
     static HAS_LARGE_STACK: Cell<bool> = const { Cell::new(false) };
 }
 
 /// Runs a call on a stack that is large enough for it: a new thread's, or that of the caller who is in such a
-/// call already. Whoever makes many calls saves the threads by making them all in one of these.
-pub fn on_large_stack<R: Send>(call: impl FnOnce() -> R + Send) -> R {
+/// call already. Whoever makes many calls saves the threads by making them all in one of these. Fails where no
+/// thread can be started.
+pub fn on_large_stack<R: Send>(call: impl FnOnce() -> R + Send) -> io::Result<R> {
     if HAS_LARGE_STACK.get() {
-        return call();
+        return Ok(call());
     }
     let marked = || {
         HAS_LARGE_STACK.set(true);
@@ -105,10 +103,14 @@ pub fn on_large_stack<R: Send>(call: impl FnOnce() -> R + Send) -> R {
     thread::scope(|scope| {
         let thread = thread::Builder::new()
             .stack_size(STACK_BYTES)
-            .spawn_scoped(scope, marked)
-            .expect("a thread can be started");
-        thread.join().unwrap_or_else(|panic| resume_unwind(panic))
+            .spawn_scoped(scope, marked)?;
+        Ok(thread.join().unwrap_or_else(|panic| resume_unwind(panic)))
     })
+}
+
+/// The same for the calls below. Panics where no thread can be started, as `std::thread::spawn` does.
+fn on_own_stack<R: Send>(call: impl FnOnce() -> R + Send) -> R {
+    on_large_stack(call).expect("a thread can be started")
 }
 
 /// A result, or the number of a refusal.
@@ -139,7 +141,7 @@ pub fn reencode(
     let mut tally = [0u64; 6];
     let lent = &mut tally;
     // SAFETY: each pointer and length are those of one slice, lent to the call alone while it runs.
-    let number = on_large_stack(move || unsafe {
+    let number = on_own_stack(move || unsafe {
         library::sirgholyn_reencode(
             text.as_ptr(),
             text.len(),
@@ -180,7 +182,7 @@ pub fn walk_back(
     let mut tally = [0u64; 1];
     let lent = &mut tally;
     // SAFETY: as in `reencode`.
-    let number = on_large_stack(move || unsafe {
+    let number = on_own_stack(move || unsafe {
         library::sirgholyn_walk_back(
             formula.as_ptr(),
             formula.len(),
@@ -206,7 +208,7 @@ pub fn read_back(text: &[u8], store: &mut [i32]) -> Result<Counts, u32> {
     let mut tally = [0u64; 3];
     let lent = &mut tally;
     // SAFETY: as in `reencode`.
-    let number = on_large_stack(move || unsafe {
+    let number = on_own_stack(move || unsafe {
         library::sirgholyn_read_back(
             text.as_ptr(),
             text.len(),

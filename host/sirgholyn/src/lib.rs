@@ -1,12 +1,17 @@
 //! Safe bindings to the proved library.
 //!
 //! [`reencode`], [`walk_back`] and [`read_back`] bring their own buffers; [`calls`] has the same calls
-//! on slices that the caller lends. [`plan`] tests a plan by plain code that is not part of the library.
+//! on slices that the caller lends. Plain code that is no part of the library: [`plan`] tests a plan, [`drat`]
+//! checks a proof, [`location`] tells where in a text a fault is.
 
 pub mod buffers;
 pub mod calls;
+pub mod drat;
+pub mod limits;
+pub mod location;
 pub mod plan;
 pub mod refusals;
+pub mod shown;
 
 pub use buffers::{
     read_back, reencode, walk_back, Error, ReadBack, ReencodeRoom, Reencoded, WalkBackRoom,

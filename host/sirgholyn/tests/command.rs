@@ -1,70 +1,15 @@
-//! The command itself: its results, and what it does where files or solvers are not as they should be.
+//! The command itself: its results, its words, and the texts that it refuses.
 
 mod common;
 
-use common::drat;
+use common::command::{example, expect_failure, run, run_with};
 use common::solvers::Folder;
 use model::generator::{text_of, Random};
 use model::sessions::F;
 use model::valleys::Valley;
-use sirgholyn::plan;
 use std::fs;
-use std::io::Write;
-use std::os::unix::fs::PermissionsExt;
-use std::path::Path;
-use std::process::{Command, Stdio};
 
 const ANSWER: &str = "s SATISFIABLE\nv 1 2 3 4 5 -6 -7 -8 -9 10 0\n";
-
-struct Ran {
-    status: i32,
-    out: String,
-    err: String,
-}
-
-fn run_with(words: &[&str], input: &[u8]) -> Ran {
-    let mut child = Command::new(env!("CARGO_BIN_EXE_sirgholyn"))
-        .args(words)
-        .stdin(Stdio::piped())
-        .stdout(Stdio::piped())
-        .stderr(Stdio::piped())
-        .spawn()
-        .unwrap();
-    // The command may end without reading.
-    let _ = child.stdin.take().unwrap().write_all(input);
-    let output = child.wait_with_output().unwrap();
-    Ran {
-        status: output.status.code().unwrap_or(-1),
-        out: String::from_utf8(output.stdout).unwrap(),
-        err: String::from_utf8(output.stderr).unwrap(),
-    }
-}
-
-fn run(words: &[&str]) -> Ran {
-    run_with(words, b"")
-}
-
-#[track_caller]
-fn expect_failure(ran: &Ran, status: i32, said: &str) {
-    assert_eq!(ran.status, status, "{}", ran.err);
-    assert!(
-        ran.err.starts_with("sirgholyn: ") && ran.err.contains(said),
-        "{}",
-        ran.err
-    );
-    assert_eq!(ran.out, "");
-}
-
-/// A solver that is a shell script.
-fn solver(folder: &Folder, script: &str) -> String {
-    let path = folder.write("solver", format!("#!/bin/sh\n{script}\n").as_bytes());
-    fs::set_permissions(&path, fs::Permissions::from_mode(0o755)).unwrap();
-    path
-}
-
-fn example(name: &str) -> String {
-    format!("{}/../../examples/{name}", env!("CARGO_MANIFEST_DIR"))
-}
 
 #[test]
 fn reencode_and_back() {
@@ -132,48 +77,153 @@ fn standard_input_and_output() {
     assert!(ran.err.starts_with("choices 1 "));
     let ran = run_with(&["reencode", "-", "--log", "-"], b"p cnf 1 2\n1 0\n-1 0\n");
     assert_eq!(ran.out, "0\nd 1 0\nd -1 0\n");
-    expect_failure(&run(&["walk-back", "-", "-", "x"]), 64, "once only");
-    expect_failure(
-        &run(&["reencode", "-", "--log", "-", "--formula", "-"]),
-        64,
-        "two files",
-    );
 }
 
 #[test]
-fn help() {
+fn help_and_version() {
     let ran = run(&["--help"]);
-    assert_eq!(ran.status, 0);
+    assert_eq!((ran.status, ran.err.as_str()), (0, ""));
+    assert_eq!(run(&["help"]).out, ran.out);
+    assert_eq!(run(&["-h"]).out, ran.out);
+    assert_eq!(run(&["help", "nothing"]).out, ran.out);
     for command in ["reencode", "walk-back", "read-back", "solve"] {
-        assert!(ran.out.contains(&format!("sirgholyn {command} ")));
-        for words in [[command, "--help"], ["help", command], [command, "-h"]] {
-            let own = run(&words);
-            assert_eq!(own.status, 0);
-            assert!(own.out.contains("Example:\n") && own.err.is_empty());
+        assert!(ran.out.contains(&format!("  sirgholyn {command} ")));
+        let own = run(&[command, "--help"]);
+        assert_eq!((own.status, own.err.as_str()), (0, ""));
+        assert!(own.out.starts_with(&format!("sirgholyn {command} ")));
+        assert!(own.out.contains("Example:\n"));
+        for words in [
+            &["help", command][..],
+            &[command, "-h"],
+            &[command, "a", "b", "--help", "--nonsense"],
+        ] {
+            assert_eq!(run(words).out, own.out);
         }
     }
+    let ran = run(&["--version"]);
+    let lines: Vec<&str> = ran.out.lines().collect();
+    assert_eq!((ran.status, lines.len()), (0, 3));
+    assert_eq!(lines[0], concat!("sirgholyn ", env!("CARGO_PKG_VERSION")));
+    assert!(lines[1].starts_with("toolchain ") && lines[2].starts_with("library "));
 }
 
+/// Every option of the table stands in its command's help, and in the page of all commands.
+#[test]
+fn help_tells_every_option() {
+    let table = include_str!("../words/commands.txt");
+    let all = run(&["--help"]).out;
+    let mut own = String::new();
+    let mut options = 0;
+    for line in table.lines().filter(|line| !line.starts_with('#')) {
+        match line.strip_prefix("  ") {
+            None => own = run(&["help", line.split(' ').next().unwrap()]).out,
+            Some(option) => {
+                let name = option.split(' ').next().unwrap();
+                assert!(own.contains(name), "{name}");
+                assert!(
+                    all.contains(option.trim_start_matches("--")) || name == "--align",
+                    "{option}"
+                );
+                options += 1;
+            }
+        }
+    }
+    assert_eq!(options, 18);
+}
+
+/// Words that are wrong: the message says which, and no file is looked at.
 #[test]
 fn wrong_words() {
-    for words in [
-        &[][..],
-        &["encode"],
-        &["reencode"],
-        &["reencode", "a", "b"],
-        &["reencode", "a", "--from", "order"],
-        &["reencode", "a", "--form"],
-        &["reencode", "a", "--form", "orders"],
-        &["reencode", "a", "--align=yes"],
-        &["reencode", "a", "--align", "--align"],
-        &["reencode", "a", "--work", "-1"],
-        &["reencode", "a", "--work", "many"],
-        &["walk-back", "a", "b"],
-        &["read-back"],
-        &["solve", "a", "--log", "b"],
-        &["solve", "/dev/null", "--solver", " "],
+    for (words, said) in [
+        (&[][..], "which command?"),
+        (&["encode"], "there is no command `encode`"),
+        (&["--encode"], "there is no command `--encode`"),
+        (&[""], "there is no command ``"),
+        (&["reencode"], "wanted: IN.cnf; found 0 file names"),
+        (
+            &["reencode", "a", "b"],
+            "wanted: IN.cnf; found 2 file names",
+        ),
+        (&["reencode", "--", "a", "--align"], "found 2 file names"),
+        (
+            &["reencode", "a", "--from", "order"],
+            "no option `--from` here",
+        ),
+        (
+            &["reencode", "a", "-form", "order"],
+            "no option `-form` here",
+        ),
+        (
+            &["reencode", "a", "--no-align"],
+            "no option `--no-align` here",
+        ),
+        (&["reencode", "a", "--form"], "`--form` wants a value"),
+        (
+            &["reencode", "a", "--form", "orders"],
+            "`--form` wants `counter` or `order`",
+        ),
+        (
+            &["reencode", "a", "--form="],
+            "`--form` wants `counter` or `order`",
+        ),
+        (
+            &["reencode", "a", "--align=yes"],
+            "`--align` takes no value",
+        ),
+        (
+            &["reencode", "a", "--align", "--align"],
+            "`--align` stands twice",
+        ),
+        (
+            &["reencode", "a", "--work", "-1"],
+            "`--work` wants a number",
+        ),
+        (
+            &["reencode", "a", "--work", "+1"],
+            "`--work` wants a number",
+        ),
+        (
+            &["reencode", "a", "--work", "many"],
+            "`--work` wants a number",
+        ),
+        (&["reencode", "a", "--work="], "`--work` wants a number"),
+        (
+            &["reencode", "a", "--work", "18446744073709551616"],
+            "`--work` wants a number",
+        ),
+        (
+            &["walk-back", "a", "b"],
+            "wanted: IN.cnf LOG.drat ANSWER; found 2",
+        ),
+        (
+            &["walk-back", "-", "-", "a"],
+            "standard input can be read once only",
+        ),
+        (&["read-back"], "wanted: NEW.cnf; found 0"),
+        (&["solve", "a", "--log", "b"], "no option `--log` here"),
+        (
+            &["solve", "a", "--align", "--no-align"],
+            "exclude each other",
+        ),
+        (
+            &["solve", "a", "--no-check"],
+            "`--no-check` wants `--proof`",
+        ),
+        (
+            &["solve", "a", "--timeout", "0"],
+            "`--timeout` wants a number of seconds",
+        ),
+        (
+            &["solve", "a", "--timeout", "1.5"],
+            "`--timeout` wants a number of seconds",
+        ),
+        (
+            &["solve", "a", "--solver", " "],
+            "`--solver` wants a command",
+        ),
+        (&["solve", "a", "--solver="], "`--solver` wants a command"),
     ] {
-        expect_failure(&run(words), 64, "");
+        expect_failure(&run(words), 64, said);
     }
 }
 
@@ -250,6 +300,63 @@ fn refusals_are_the_exit_status() {
     assert_eq!(run(&["reencode", &input, "--work", "8582"]).status, 0);
 }
 
+/// A refused text: the line, the byte and the word where the fault was found.
+#[test]
+fn refusals_tell_where() {
+    for (text, number, place) in [
+        (&b""[..], 1, "(line 1, byte 1, where the text ends)"),
+        (b"c\np cnf 9000 1\n", 2, "(line 2, byte 7: `9000`)"),
+        (
+            b"p cnf 2 1\r\n1 \x1b[31m 0\n",
+            3,
+            "(line 2, byte 3: `\\x1b[31m`)",
+        ),
+        (b"p cnf 2 1\n1\n\t3 0\n", 4, "(line 3, byte 2: `3`)"),
+        (b"p cnf 2 1\n1 1 0\n", 5, "(line 2, byte 3: `1`)"),
+        (b"p cnf 2 1\n1 -1 0\n", 6, "(line 2, byte 3: `-1`)"),
+        (b"p cnf 2 1\n1", 7, "(line 2, byte 2, where the text ends)"),
+        (b"p cnf 2 1\n1 0 2 0\n", 8, "(line 2, byte 5: `2`)"),
+    ] {
+        for command in ["reencode", "solve"] {
+            expect_failure(&run_with(&[command, "-"], text), number, place);
+        }
+    }
+    let new = run_with(&["read-back", "-"], b"p cnf 70001 1\n");
+    expect_failure(&new, 2, "(line 1, byte 7: `70001`)");
+    let folder = Folder::new();
+    let input = folder.write("in.cnf", F.as_bytes());
+    let good = folder.write("good", b"s SATISFIABLE\nv 4 0\n");
+    for (log, answer, number, place) in [
+        (&b"1 0\n1  0\n"[..], &b""[..], 31, "(line 2, byte "),
+        (b"1 0\nd 6 5 0\n", b"", 32, "(line 2, byte "),
+        (
+            b"1 0\n",
+            b"s SATISFIABLE\nv 4 x 0\n",
+            41,
+            "(line 2, byte 5: `x`)",
+        ),
+        (
+            b"1 0\n",
+            b"s SATISFIABLE\nv 4 7 0\n",
+            42,
+            "(line 2, byte 5: `7`)",
+        ),
+        (
+            b"1 0\n",
+            b"s SATISFIABLE\nv 4 4 0\n",
+            43,
+            "(line 2, byte 5: `4`)",
+        ),
+    ] {
+        let log = folder.write("log", log);
+        let answer = match answer {
+            b"" => good.clone(),
+            _ => folder.write("answer", answer),
+        };
+        expect_failure(&run(&["walk-back", &input, &log, &answer]), number, place);
+    }
+}
+
 #[test]
 fn inputs_that_cannot_be_read() {
     let folder = Folder::new();
@@ -289,244 +396,6 @@ fn enormous_inputs() {
     }
 }
 
-#[test]
-fn outputs_that_cannot_be_written() {
-    let folder = Folder::new();
-    let input = folder.write("in.cnf", F.as_bytes());
-    let kept = folder.write("kept", b"as it was");
-    fs::create_dir(folder.path("folder")).unwrap();
-    let before = folder.names();
-    for target in [
-        folder.path("missing/new.cnf"),
-        folder.path("folder"),
-        "/dev/full".into(),
-        String::new(),
-    ] {
-        expect_failure(
-            &run(&["reencode", &input, "--log", &kept, "--formula", &target]),
-            73,
-            "cannot be written",
-        );
-        expect_failure(
-            &run(&["reencode", &input, "--log", &target, "--formula", &kept]),
-            73,
-            "cannot be written",
-        );
-        expect_failure(
-            &run(&["solve", &example("no_plan.cnf"), "--proof", &target]),
-            73,
-            "cannot be written",
-        );
-        assert_eq!(fs::read(&kept).unwrap(), b"as it was");
-    }
-    expect_failure(
-        &run(&["reencode", &input, "--formula", &input]),
-        64,
-        "is the input",
-    );
-    expect_failure(
-        &run(&["reencode", &input, "--formula", &kept, "--log", &kept]),
-        64,
-        "two files",
-    );
-    assert_eq!(fs::read_to_string(&input).unwrap(), F);
-    assert_eq!(folder.names(), before);
-}
-
-#[test]
-fn a_refusal_leaves_files_as_they_were() {
-    let folder = Folder::new();
-    let formula = folder.write("new.cnf", b"as it was");
-    let wrong = folder.write("wrong.cnf", b"p cnf 1 1\n1");
-    let log = folder.path("new.drat");
-    expect_failure(
-        &run(&["reencode", &wrong, "--formula", &formula, "--log", &log]),
-        7,
-        "refused 7",
-    );
-    assert_eq!(fs::read(&formula).unwrap(), b"as it was");
-    assert_eq!(folder.names(), ["new.cnf", "wrong.cnf"]);
-
-    let input = folder.write("in.cnf", F.as_bytes());
-    assert_eq!(run(&["reencode", &input, "--formula", &formula]).status, 0);
-    assert!(fs::read(&formula).unwrap().starts_with(b"p cnf 10 21\n"));
-}
-
-#[test]
-fn links_and_devices_are_written_through() {
-    let folder = Folder::new();
-    let input = folder.write("in.cnf", F.as_bytes());
-    let target = folder.write("target", b"");
-    let link = folder.path("link");
-    std::os::unix::fs::symlink(&target, &link).unwrap();
-    assert_eq!(
-        run(&["reencode", &input, "--formula", &link, "--log", "/dev/null"]).status,
-        0
-    );
-    assert!(fs::symlink_metadata(&link).unwrap().is_symlink());
-    assert!(fs::read(&target).unwrap().starts_with(b"p cnf"));
-    assert!(!fs::metadata("/dev/null").unwrap().is_file());
-}
-
-#[test]
-fn full_standard_output() {
-    for words in [&["solve", &example("valley.cnf")][..], &["--help"]] {
-        let full = fs::File::options().write(true).open("/dev/full").unwrap();
-        let output = Command::new(env!("CARGO_BIN_EXE_sirgholyn"))
-            .args(words)
-            .stdout(full)
-            .output()
-            .unwrap();
-        assert_eq!(output.status.code(), Some(73));
-    }
-}
-
-#[test]
-fn solve_gives_a_plan() {
-    for name in ["valley.cnf", "free_lure.cnf"] {
-        let input = example(name);
-        let text = fs::read_to_string(&input).unwrap();
-        for words in [
-            &["solve", &input][..],
-            &["solve", &input, "--form", "order", "--align"],
-        ] {
-            let ran = run(words);
-            assert_eq!((ran.status, ran.err.as_str()), (10, ""));
-            let line = ran.out.strip_prefix("s SATISFIABLE\n").unwrap();
-            assert!(plan::satisfies(&text, line));
-        }
-    }
-    let empty = run_with(&["solve", "-"], b"p cnf 0 0\n");
-    assert_eq!(
-        (empty.status, empty.out.as_str()),
-        (10, "s SATISFIABLE\nv 0\n")
-    );
-}
-
-#[test]
-fn solve_proves_that_there_is_no_plan() {
-    let folder = Folder::new();
-    let input = example("no_plan.cnf");
-    let text = fs::read_to_string(&input).unwrap();
-    let proof = folder.path("proof.drat");
-    for form in ["counter", "order"] {
-        let ran = run(&["solve", &input, "--form", form, "--proof", &proof]);
-        assert_eq!(
-            (ran.status, ran.out.as_str(), ran.err.as_str()),
-            (20, "s UNSATISFIABLE\n", "")
-        );
-        let lines = fs::read_to_string(&proof).unwrap();
-        assert_eq!(drat::check(&text, &lines), Ok(()));
-        let printed = run(&["solve", &input, "--form", form, "--proof", "-"]);
-        assert_eq!((printed.status, printed.out), (20, lines));
-    }
-    assert_eq!(folder.names(), ["proof.drat"]);
-    let ran = run(&["solve", &input]);
-    assert_eq!((ran.status, ran.out.as_str()), (20, "s UNSATISFIABLE\n"));
-    for small in [
-        "p cnf 1 2\n1 0\n-1 0\n",
-        "p cnf 0 1\n0\n",
-        "p cnf 1 4\n1 0\n1 0\n-1 0\n-1 0\n",
-    ] {
-        let ran = run_with(&["solve", "-", "--proof", &proof], small.as_bytes());
-        assert_eq!((ran.status, ran.err.as_str()), (20, ""));
-        assert_eq!(
-            drat::check(small, &fs::read_to_string(&proof).unwrap()),
-            Ok(())
-        );
-    }
-}
-
-#[test]
-fn solvers_that_fail() {
-    let folder = Folder::new();
-    let input = folder.write("in.cnf", F.as_bytes());
-    let proof = folder.path("proof.drat");
-    let solve = |script: &str| {
-        run(&[
-            "solve",
-            &input,
-            "--solver",
-            &solver(&folder, script),
-            "--proof",
-            &proof,
-        ])
-    };
-    let missing = folder.path("missing");
-    expect_failure(
-        &run(&["solve", &input, "--solver", &missing]),
-        69,
-        "cannot be run",
-    );
-    expect_failure(&solve("kill -9 $$"), 69, "killed by signal 9");
-    expect_failure(
-        &solve("printf 's SATISFIABLE\\nv 1 6 7 8 9 10 0\\n'; kill -15 $$"),
-        69,
-        "killed by signal 15",
-    );
-    expect_failure(&solve("exit 3"), 69, "the status 3");
-    expect_failure(&solve("exit 20"), 69, "does not say so");
-    expect_failure(
-        &solve("echo s UNSATISFIABLE; exit 10"),
-        69,
-        "says unsatisfiable",
-    );
-    expect_failure(&solve("yes"), 69, "printed more than");
-    expect_failure(&solve("exit 0"), 41, "refused 41");
-    expect_failure(&solve("echo s UNKNOWN"), 41, "refused 41");
-    expect_failure(&solve("echo nonsense"), 41, "the solver can mend it");
-    expect_failure(
-        &solve("printf 's SATISFIABLE\\n'; exit 10"),
-        41,
-        "refused 41",
-    );
-    expect_failure(
-        &solve("printf 's SATISFIABLE\\nv 1 2 '; exit 10"),
-        41,
-        "refused 41",
-    );
-    expect_failure(
-        &solve("echo s UNSATISFIABLE; echo s SATISFIABLE"),
-        41,
-        "refused 41",
-    );
-    expect_failure(
-        &solve("printf 's SATISFIABLE\\nv 1 11 0\\n'; exit 10"),
-        42,
-        "refused 42",
-    );
-    expect_failure(
-        &solve("printf 's SATISFIABLE\\nv 1 -1 0\\n'; exit 10"),
-        43,
-        "refused 43",
-    );
-    expect_failure(
-        &solve("printf 's SATISFIABLE\\nv 1 -7 0\\n'; exit 10"),
-        44,
-        "refused 44",
-    );
-    expect_failure(
-        &solve("echo s UNSATISFIABLE; exit 20"),
-        69,
-        "cannot be read",
-    );
-    expect_failure(
-        &solve("printf 'a\\001\\002\\000' >$2; echo s UNSATISFIABLE; exit 20"),
-        69,
-        "not DRAT in text",
-    );
-    assert_eq!(folder.names(), ["in.cnf", "solver"]);
-
-    let good = solve("printf 'c hello\\ns SATISFIABLE\\nv 1 6 7 8 9 10 0\\n'");
-    assert_eq!(
-        (good.status, good.out.as_str()),
-        (10, "s SATISFIABLE\nv 1 -2 -3 -4 -5 6 0\n")
-    );
-    let word = solve("echo 0 >$2; echo s UNSATISFIABLE");
-    assert_eq!((word.status, word.out.as_str()), (20, "s UNSATISFIABLE\n"));
-    assert!(fs::read_to_string(&proof).unwrap().ends_with("\n0\n"));
-}
-
 /// The examples are those that `examples/valley.rs` of this package tells to write.
 #[test]
 fn examples_are_as_written() {
@@ -541,40 +410,4 @@ fn examples_are_as_written() {
         assert!(text.starts_with(b"c 20 traps, 6 lures, "));
         assert!(text.ends_with(&text_of(&valley.formula())));
     }
-}
-
-#[test]
-fn nothing_is_left_in_the_temporary_folder() {
-    let folder = Folder::new();
-    for solver in ["cadical", "false", "/missing"] {
-        let status = Command::new(env!("CARGO_BIN_EXE_sirgholyn"))
-            .args(["solve", &example("valley.cnf"), "--solver", solver])
-            .env("TMPDIR", folder.path(""))
-            .output()
-            .unwrap()
-            .status;
-        assert!(status.code().is_some());
-        assert_eq!(folder.names(), Vec::<String>::new());
-    }
-}
-
-/// The script at the root, from another folder and through a link.
-#[test]
-fn the_script_runs_from_anywhere() {
-    let script = Path::new(env!("CARGO_MANIFEST_DIR")).join("../../sirgholyn");
-    let folder = Folder::new();
-    let link = folder.path("link");
-    std::os::unix::fs::symlink(fs::canonicalize(script).unwrap(), &link).unwrap();
-    let output = Command::new(link)
-        .current_dir("/")
-        .arg("--help")
-        .output()
-        .unwrap();
-    assert_eq!(
-        output.status.code(),
-        Some(0),
-        "{}",
-        String::from_utf8_lossy(&output.stderr)
-    );
-    assert!(output.stdout.starts_with(b"sirgholyn: "));
 }

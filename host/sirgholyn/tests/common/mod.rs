@@ -1,6 +1,7 @@
 //! What the tests share: each call beside the model's, on buffers filled with a pattern first.
 #![allow(dead_code)]
 
+pub mod command;
 pub mod drat;
 pub mod formulas;
 pub mod solvers;
@@ -222,7 +223,7 @@ pub fn over_seeds<C: Default + Send>(
                     }
                     counted
                 };
-                scope.spawn(|| calls::on_large_stack(all))
+                scope.spawn(|| calls::on_large_stack(all).unwrap())
             })
             .collect();
         threads

@@ -1,8 +1,12 @@
-//! The words after a command: its files and its options.
+//! The words after a command: its files and its options, held to the table of `words`.
 
 use crate::failure::Failure;
-use sirgholyn::{Arrangement, Form};
+use crate::words::{CommandWords, Follows};
+use sirgholyn::limits::MOST_NAME_SHOWN;
+use sirgholyn::shown::shown;
+use sirgholyn::Form;
 use std::ffi::{OsStr, OsString};
+use std::os::unix::ffi::{OsStrExt, OsStringExt};
 
 pub struct Args {
     files: Vec<OsString>,
@@ -10,44 +14,55 @@ pub struct Args {
 }
 
 impl Args {
-    /// Reads the words. `files` names the files that the command wants, in order; `known` its options,
-    /// each with whether a value follows it.
-    pub fn read(
-        words: &[OsString],
-        files: &[&str],
-        known: &[(&'static str, bool)],
-    ) -> Result<Args, Failure> {
+    /// Reads the words; the first that is wrong decides.
+    pub fn read(words: &[OsString], known: &CommandWords) -> Result<Args, Failure> {
         let mut args = Args {
             files: Vec::new(),
             options: Vec::new(),
         };
         let mut words = words.iter();
         while let Some(word) = words.next() {
-            if word.as_encoded_bytes().starts_with(b"--") {
+            if word == "--" {
+                args.files.extend(words.by_ref().cloned());
+            } else if word.as_bytes().starts_with(b"-") && word != "-" {
                 let (name, value) = read_option(word, &mut words, known)?;
-                if args.value(name).is_some() {
-                    return Err(Failure::usage(format!("`{name}` stands twice")));
-                }
-                args.options.push((name, value));
+                args.add_option(name, value)?;
             } else {
                 args.files.push(word.clone());
             }
         }
-        if args.files.len() != files.len() {
-            let wanted = files.join(" ");
-            let found = args.files.len();
+        args.expect_files(&known.files)?;
+        Ok(args)
+    }
+
+    fn add_option(&mut self, name: &'static str, value: OsString) -> Result<(), Failure> {
+        if self.has(name) {
+            return Err(Failure::usage(format!("`{name}` stands twice")));
+        }
+        self.options.push((name, value));
+        Ok(())
+    }
+
+    fn expect_files(&self, wanted: &[&str]) -> Result<(), Failure> {
+        if self.files.len() != wanted.len() {
             return Err(Failure::usage(format!(
-                "wanted: {wanted}; found {found} file names"
+                "wanted: {}; found {} file names",
+                wanted.join(" "),
+                self.files.len()
             )));
         }
-        if args.files.iter().filter(|name| *name == "-").count() > 1 {
+        if self.files.iter().filter(|name| *name == "-").count() > 1 {
             return Err(Failure::usage("standard input can be read once only"));
         }
-        Ok(args)
+        Ok(())
     }
 
     pub fn file(&self, index: usize) -> &OsStr {
         &self.files[index]
+    }
+
+    pub fn has(&self, name: &str) -> bool {
+        self.value(name).is_some()
     }
 
     pub fn value(&self, name: &str) -> Option<&OsStr> {
@@ -57,29 +72,17 @@ impl Args {
             .map(|(_, value)| value.as_os_str())
     }
 
-    pub fn number(&self, name: &str) -> Result<Option<usize>, Failure> {
-        let Some(value) = self.value(name) else {
-            return Ok(None);
-        };
-        let number = value.to_str().and_then(|digits| digits.parse().ok());
-        match number {
-            Some(number) => Ok(Some(number)),
-            None => Err(Failure::usage(format!("`{name}` wants a number"))),
-        }
+    /// The number after an option; all were read as numbers.
+    pub fn number(&self, name: &str) -> Option<usize> {
+        self.value(name).and_then(number)
     }
 
-    pub fn form(&self) -> Result<Form, Failure> {
-        match self.value("--form").map(OsStr::to_string_lossy).as_deref() {
-            None | Some("counter") => Ok(Form::Counter),
-            Some("order") => Ok(Form::Order),
-            Some(_) => Err(Failure::usage("`--form` wants `counter` or `order`")),
-        }
-    }
-
-    pub fn arrangement(&self) -> Arrangement {
-        match self.value("--align") {
-            Some(_) => Arrangement::Alignment,
-            None => Arrangement::AsListed,
+    /// The form that is named, or else the other.
+    pub fn form_or(&self, unnamed: Form) -> Form {
+        match self.value("--form").and_then(OsStr::to_str) {
+            Some("counter") => Form::Counter,
+            Some(_) => Form::Order,
+            None => unnamed,
         }
     }
 }
@@ -88,25 +91,59 @@ impl Args {
 fn read_option<'a>(
     word: &OsStr,
     words: &mut impl Iterator<Item = &'a OsString>,
-    known: &[(&'static str, bool)],
+    known: &CommandWords,
 ) -> Result<(&'static str, OsString), Failure> {
-    let text = word.to_string_lossy();
-    let (name, joined) = match text.split_once('=') {
-        Some((name, value)) => (name, Some(OsString::from(value))),
-        None => (text.as_ref(), None),
+    let bytes = word.as_bytes();
+    let (name, joined) = match bytes.iter().position(|&byte| byte == b'=') {
+        Some(at) => (
+            &bytes[..at],
+            Some(OsString::from_vec(bytes[at + 1..].to_vec())),
+        ),
+        None => (bytes, None),
     };
-    let &(name, has_value) = known
+    let &(name, follows) = known
+        .options
         .iter()
-        .find(|(known, _)| *known == name)
-        .ok_or_else(|| Failure::usage(format!("there is no option `{name}` here")))?;
-    let value = match (has_value, joined) {
-        (true, Some(value)) => value,
-        (true, None) => match words.next() {
+        .find(|(known, _)| known.as_bytes() == name)
+        .ok_or_else(|| {
+            Failure::usage(format!(
+                "there is no option `{}` here",
+                shown(name, MOST_NAME_SHOWN)
+            ))
+        })?;
+    let value = match (follows, joined) {
+        (Follows::Nothing, None) => return Ok((name, OsString::new())),
+        (Follows::Nothing, Some(_)) => {
+            return Err(Failure::usage(format!("`{name}` takes no value")))
+        }
+        (_, Some(value)) => value,
+        (_, None) => match words.next() {
             Some(value) => value.clone(),
             None => return Err(Failure::usage(format!("`{name}` wants a value"))),
         },
-        (false, None) => OsString::new(),
-        (false, Some(_)) => return Err(Failure::usage(format!("`{name}` takes no value"))),
     };
-    Ok((name, value))
+    match complaint(&value, follows) {
+        Some(wanted) => Err(Failure::usage(format!("`{name}` wants {wanted}"))),
+        None => Ok((name, value)),
+    }
+}
+
+/// What an option wants, where its value is something else.
+fn complaint(value: &OsStr, follows: Follows) -> Option<String> {
+    match follows {
+        Follows::Number if number(value).is_none() => Some("a number".into()),
+        Follows::Seconds if number(value).is_none_or(|seconds| seconds == 0) => {
+            Some("a number of seconds".into())
+        }
+        Follows::OneOf(words) if !words.split('|').any(|word| value == word) => {
+            Some(format!("`{}`", words.replace('|', "` or `")))
+        }
+        _ => None,
+    }
+}
+
+fn number(value: &OsStr) -> Option<usize> {
+    let digits = value.to_str()?;
+    let plain = digits.bytes().all(|byte| byte.is_ascii_digit());
+    digits.parse().ok().filter(|_| plain)
 }

@@ -2,51 +2,50 @@
 
 use crate::args::Args;
 use crate::failure::Failure;
-use crate::files::{self, Output};
-use sirgholyn::{ReencodeRoom, WalkBackRoom};
-use std::ffi::OsString;
+use crate::files::{self, say};
+use crate::outputs::{self, Output, Taken};
+use sirgholyn::location::{self, Limits};
+use sirgholyn::{Arrangement, Error, Form, ReencodeRoom, Tally, WalkBackRoom};
+use std::io::Cursor;
 
-pub fn reencode(words: &[OsString]) -> Result<u8, Failure> {
-    let options = [
-        ("--form", true),
-        ("--align", false),
-        ("--formula", true),
-        ("--log", true),
-        ("--work", true),
-        ("--log-room", true),
-        ("--formula-room", true),
-    ];
-    let args = Args::read(words, &["IN.cnf"], &options)?;
+pub fn reencode(args: &Args) -> Result<u8, Failure> {
     let room = ReencodeRoom {
-        work: args.number("--work")?,
-        log: args.number("--log-room")?,
-        formula: args.number("--formula-room")?,
+        work: args.number("--work"),
+        log: args.number("--log-room"),
+        formula: args.number("--formula-room"),
     };
-    let form = args.form()?;
-    if args.value("--formula").is_some() && args.value("--formula") == args.value("--log") {
-        return Err(Failure::usage("formula and log want two files"));
-    }
-    let text = files::read(args.file(0))?;
-    let open = |name| {
+    let input = files::read(args.file(0))?;
+    let mut taken = Taken::new(&[&input])?;
+    let mut open = |name| {
         args.value(name)
-            .map(|file| Output::open(file, args.file(0)))
+            .map(|file| Output::open(file, &mut taken))
             .transpose()
     };
     let (formula, log) = (open("--formula")?, open("--log")?);
 
-    let new = sirgholyn::reencode(&text, form, args.arrangement(), room)?;
-    let mut outputs = Vec::new();
-    for (output, bytes) in [(formula, &new.formula), (log, &new.log)] {
+    let arrangement = match args.has("--align") {
+        true => Arrangement::Alignment,
+        false => Arrangement::AsListed,
+    };
+    let new = sirgholyn::reencode(&input.text, args.form_or(Form::Counter), arrangement, room)
+        .map_err(|error| refused_formula(error, &input.text, &Limits::INPUT))?;
+    let mut all = Vec::new();
+    for (output, bytes) in [(formula, new.formula), (log, new.log)] {
         if let Some(mut output) = output {
-            output.write(bytes)?;
-            outputs.push(output);
+            output.write(Cursor::new(bytes))?;
+            all.push(output);
         }
     }
-    let taken = outputs.iter().any(Output::is_standard);
-    files::finish(outputs)?;
-    let tally = new.tally;
+    let on_standard = all.iter().any(Output::is_standard);
+    outputs::finish(all)?;
+    tell(&new.tally, on_standard)?;
+    Ok(0)
+}
+
+/// Prints the tally, on standard error where a text went to standard output.
+fn tell(tally: &Tally, on_error: bool) -> Result<(), Failure> {
     let line = format!(
-        "choices {} highest {} clauses {} lines {} log-bytes {} formula-bytes {}\n",
+        "choices {} highest {} clauses {} lines {} log-bytes {} formula-bytes {}",
         tally.choices,
         tally.highest,
         tally.clauses,
@@ -54,36 +53,37 @@ pub fn reencode(words: &[OsString]) -> Result<u8, Failure> {
         tally.log_bytes,
         tally.formula_bytes
     );
-    if taken {
-        eprint!("{line}");
-    } else {
-        files::print(line.as_bytes())?;
+    match on_error {
+        true => {
+            say(line);
+            Ok(())
+        }
+        false => files::print((line + "\n").as_bytes()),
     }
-    Ok(0)
 }
 
-pub fn walk_back(words: &[OsString]) -> Result<u8, Failure> {
-    let options = [("--keep", true), ("--work", true), ("--room", true)];
-    let args = Args::read(words, &["IN.cnf", "LOG.drat", "ANSWER"], &options)?;
+pub fn walk_back(args: &Args) -> Result<u8, Failure> {
     let room = WalkBackRoom {
-        work: args.number("--work")?,
-        line: args.number("--room")?,
+        work: args.number("--work"),
+        line: args.number("--room"),
     };
-    let kept = args.number("--keep")?;
     let formula = files::read(args.file(0))?;
     let log = files::read(args.file(1))?;
     let answer = files::read(args.file(2))?;
-    let kept = kept.unwrap_or_else(|| lines(&log));
-    let line = sirgholyn::walk_back(&formula, &log, kept, &answer, room)?;
+    Taken::new(&[&formula, &log, &answer])?;
+    let kept = args.number("--keep").unwrap_or_else(|| lines(&log.text));
+    let line = sirgholyn::walk_back(&formula.text, &log.text, kept, &answer.text, room)
+        .map_err(|error| refused_walk_back(error, &formula.text, &log.text, kept, &answer.text))?;
     files::print(&line)?;
     Ok(0)
 }
 
-pub fn read_back(words: &[OsString]) -> Result<u8, Failure> {
-    let args = Args::read(words, &["NEW.cnf"], &[("--work", true)])?;
-    let store = args.number("--work")?;
-    let text = files::read(args.file(0))?;
-    let counts = sirgholyn::read_back(&text, store)?.counts;
+pub fn read_back(args: &Args) -> Result<u8, Failure> {
+    let input = files::read(args.file(0))?;
+    Taken::new(&[&input])?;
+    let counts = sirgholyn::read_back(&input.text, args.number("--work"))
+        .map_err(|error| refused_formula(error, &input.text, &Limits::NEW_FORMULA))?
+        .counts;
     let line = format!(
         "variables {} clauses {} literals {}\n",
         counts.variables, counts.clauses, counts.literals
@@ -95,4 +95,33 @@ pub fn read_back(words: &[OsString]) -> Result<u8, Failure> {
 /// All lines of a log, a last one without LF included.
 fn lines(log: &[u8]) -> usize {
     log.split_inclusive(|&byte| byte == b'\n').count()
+}
+
+/// A refusal, with where in the formula the fault was found.
+pub fn refused_formula(error: Error, text: &[u8], limits: &Limits) -> Failure {
+    let found = match error {
+        Error::Refused(refusal) => location::in_formula(text, limits, refusal.0),
+        Error::NoMemory(_) => None,
+    };
+    Failure::from(error).at(found)
+}
+
+/// A refusal of walk-back, with where the fault was found, in the text that it is a fault of.
+pub fn refused_walk_back(
+    error: Error,
+    formula: &[u8],
+    log: &[u8],
+    kept: usize,
+    answer: &[u8],
+) -> Failure {
+    let found = match error {
+        Error::Refused(refusal) => match refusal.0 {
+            1..=9 => location::in_formula(formula, &Limits::INPUT, refusal.0),
+            31..=34 => location::in_log(formula, log, kept, refusal.0),
+            41..=44 => location::in_answer(formula, log, kept, answer, refusal.0),
+            _ => None,
+        },
+        Error::NoMemory(_) => None,
+    };
+    Failure::from(error).at(found)
 }

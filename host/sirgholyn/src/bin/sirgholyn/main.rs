@@ -1,22 +1,31 @@
 //! The command: `reencode`, `walk-back`, `read-back` and `solve` over files.
 
 mod args;
+mod cleanup;
 mod commands;
 mod failure;
 mod files;
-mod help;
+mod lock;
+mod outputs;
 mod solve;
+mod solver;
+mod system;
+mod words;
 
+use args::Args;
 use failure::Failure;
+use sirgholyn::calls;
 use std::ffi::OsString;
 use std::process::ExitCode;
 
 fn main() -> ExitCode {
+    cleanup::prepare();
     let words: Vec<OsString> = std::env::args_os().skip(1).collect();
-    match run(&words) {
+    let ended = calls::on_large_stack(|| run(&words));
+    match ended.unwrap_or_else(|error| Err(Failure::no_process(error))) {
         Ok(status) => ExitCode::from(status),
         Err(failure) => {
-            eprintln!("sirgholyn: {}", failure.message);
+            files::say(format!("sirgholyn: {}", failure.message));
             ExitCode::from(failure.status)
         }
     }
@@ -24,25 +33,44 @@ fn main() -> ExitCode {
 
 /// Runs one command; the answer is its exit status.
 fn run(words: &[OsString]) -> Result<u8, Failure> {
-    let (command, rest) = match words.split_first() {
-        Some((command, rest)) => (command.to_string_lossy(), rest),
-        None => {
-            return Err(Failure::usage(
-                "which command? `sirgholyn --help` lists them",
-            ))
-        }
+    let Some((command, rest)) = words.split_first() else {
+        return Err(Failure::usage(
+            "which command? `sirgholyn --help` lists them",
+        ));
     };
-    if let Some(text) = help::asked_for(&command, rest) {
-        files::print(text.as_bytes())?;
-        return Ok(0);
+    let command = files::shown_name(command);
+    if let Some(text) = words::help(&command, rest) {
+        return print(text);
     }
-    match command.as_ref() {
-        "reencode" => commands::reencode(rest),
-        "walk-back" => commands::walk_back(rest),
-        "read-back" => commands::read_back(rest),
-        "solve" => solve::solve(rest),
-        _ => Err(Failure::usage(format!(
+    if command == "--version" {
+        return print(VERSION);
+    }
+    let Some(known) = words::of_command(&command) else {
+        return Err(Failure::usage(format!(
             "there is no command `{command}`; `sirgholyn --help` lists them"
-        ))),
+        )));
+    };
+    let args = Args::read(rest, &known)?;
+    match command.as_str() {
+        "solve" => solve::solve(&args),
+        "reencode" => commands::reencode(&args),
+        "walk-back" => commands::walk_back(&args),
+        _ => commands::read_back(&args),
     }
 }
+
+fn print(text: &str) -> Result<u8, Failure> {
+    files::print(text.as_bytes())?;
+    Ok(0)
+}
+
+/// The version, and the identities of the toolchain and of the library that the command was built with.
+const VERSION: &str = concat!(
+    "sirgholyn ",
+    env!("CARGO_PKG_VERSION"),
+    "\ntoolchain ",
+    env!("SIRGHOLYN_TOOLCHAIN_ID"),
+    "\nlibrary ",
+    env!("SIRGHOLYN_LIBRARY_ID"),
+    "\n"
+);

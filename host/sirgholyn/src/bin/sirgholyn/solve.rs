@@ -1,169 +1,190 @@
-//! `solve`: reencode, run a solver, carry its answer back, test the plan.
+//! `solve`: reencode, run a solver, carry its answer back and test the plan, or check the proof.
 
 use crate::args::Args;
+use crate::cleanup::Temporary;
+use crate::commands::{refused_formula, refused_walk_back};
 use crate::failure::Failure;
-use crate::files::{self, Output, Scratch};
-use sirgholyn::{plan, ReencodeRoom, Reencoded, WalkBackRoom};
-use std::ffi::{OsStr, OsString};
-use std::io::Read;
-use std::os::unix::process::ExitStatusExt;
+use crate::files::{self, say, shown_name};
+use crate::outputs::{self, Output, Taken};
+use crate::solver::{Answer, Solver};
+use sirgholyn::limits::QUIET_FOR;
+use sirgholyn::location::Limits;
+use sirgholyn::{drat, plan, Arrangement, Form, ReencodeRoom, Reencoded, WalkBackRoom};
+use std::fs::{self, DirBuilder, File};
+use std::io::{self, BufReader, Cursor, Read};
+use std::os::unix::fs::DirBuilderExt;
 use std::path::Path;
-use std::process::{Command, ExitStatus, Stdio};
+use std::time::Instant;
 
 const SATISFIABLE: u8 = 10;
 const UNSATISFIABLE: u8 = 20;
 
-/// The solver where none is named, with text proofs.
-const CADICAL: &str = "cadical -q --no-binary";
-
-/// A solver that prints more than this is stopped.
-const MOST_PRINTED: u64 = 256 << 20;
-
-pub fn solve(words: &[OsString]) -> Result<u8, Failure> {
-    let options = [
-        ("--form", true),
-        ("--align", false),
-        ("--solver", true),
-        ("--proof", true),
-    ];
-    let args = Args::read(words, &["IN.cnf"], &options)?;
-    let solver = args.value("--solver").unwrap_or(OsStr::new(CADICAL));
-    let mut command = command(solver)?;
-    let form = args.form()?;
+pub fn solve(args: &Args) -> Result<u8, Failure> {
+    let solver = Solver::new(args.value("--solver"))?;
+    let arrangement = arrangement(args)?;
+    if args.has("--no-check") && !args.has("--proof") {
+        return Err(Failure::usage("`--no-check` wants `--proof`"));
+    }
     let text = files::read(args.file(0))?;
-    let proof = args
-        .value("--proof")
-        .map(|file| Output::open(file, args.file(0)))
-        .transpose()?;
-
-    let new = sirgholyn::reencode(&text, form, args.arrangement(), ReencodeRoom::default())?;
-    let scratch = Scratch::new()?;
-    let formula_file = scratch.path("formula.cnf");
-    let proof_file = scratch.path("proof.drat");
-    files::write_scratch(&formula_file, &new.formula)?;
-    command.arg(&formula_file);
-    if proof.is_some() {
-        command.arg(&proof_file);
-    }
-    let printed = run(command, solver)?;
-
-    if says_unsatisfiable(&printed) {
-        match proof {
-            Some(output) => no_plan_proved(output, &new, &proof_file)?,
-            None => files::print(b"s UNSATISFIABLE\n")?,
-        }
-        return Ok(UNSATISFIABLE);
-    }
-    let line = walk_back(&text, &new, &printed)?;
-    files::print(format!("s SATISFIABLE\n{line}").as_bytes())?;
-    Ok(SATISFIABLE)
-}
-
-/// The solver's name and its own words, split at blanks.
-fn command(solver: &OsStr) -> Result<Command, Failure> {
-    let words = solver.to_string_lossy();
-    let mut words = words.split_whitespace();
-    let name = words
-        .next()
-        .ok_or_else(|| Failure::usage("`--solver` wants a command"))?;
-    let mut command = Command::new(name);
-    command.args(words);
-    Ok(command)
-}
-
-/// What the solver prints, if it ends as a solver does.
-fn run(mut command: Command, solver: &OsStr) -> Result<Vec<u8>, Failure> {
-    let solver = solver.to_string_lossy();
-    let failed = |why: String| Failure::solver(format!("the solver `{solver}` {why}; no plan"));
-    let mut child = command
-        .stdin(Stdio::null())
-        .stdout(Stdio::piped())
-        .spawn()
-        .map_err(|error| failed(format!("cannot be run: {error}")))?;
-    let mut printed = Vec::new();
-    let read = match child.stdout.take() {
-        Some(pipe) => pipe.take(MOST_PRINTED + 1).read_to_end(&mut printed),
-        None => Ok(0),
+    let mut taken = Taken::new(&[&text])?;
+    let proof = match args.value("--proof") {
+        Some(name) => Some(Output::open(name, &mut taken)?),
+        None => None,
     };
-    let endless = printed.len() as u64 > MOST_PRINTED;
-    if endless || read.is_err() {
-        let _ = child.kill();
-    }
-    let status = child.wait().map_err(|error| failed(error.to_string()))?;
-    if endless {
-        return Err(failed(format!("printed more than {MOST_PRINTED} bytes")));
-    }
-    read.map_err(|error| failed(format!("cannot be heard: {error}")))?;
-    match complaint(status, says_unsatisfiable(&printed)) {
-        Some(why) => Err(failed(why)),
-        None => Ok(printed),
+    let text = text.text;
+
+    let form = args.form_or(Form::Order);
+    let new = sirgholyn::reencode(&text, form, arrangement, ReencodeRoom::default())
+        .map_err(|error| refused_formula(error, &text, &Limits::INPUT))?;
+    let scratch = Scratch::new(&new.formula)?;
+    let mut files = vec![scratch.formula.path.as_path()];
+    files.extend(proof.iter().map(|_| scratch.proof.path.as_path()));
+    match solver.run(&files, args.number("--timeout"))? {
+        Answer::Printed(printed) => plan(&text, &new, &printed, proof),
+        Answer::Unsatisfiable => match proof {
+            Some(output) => {
+                let check = !args.has("--no-check");
+                proved(output, &text, new, &scratch.proof.path, check)
+            }
+            None => ended("s UNSATISFIABLE\n", UNSATISFIABLE),
+        },
+        Answer::Unknown(why) => {
+            files::print(b"s UNKNOWN\n")?;
+            Err(Failure::undecided(why))
+        }
     }
 }
 
-/// What is wrong with the way the solver ended. Solvers end with 10 or 20, as they answer, or with 0.
-fn complaint(status: ExitStatus, unsatisfiable: bool) -> Option<String> {
-    match (status.code(), unsatisfiable) {
-        (Some(0), _) | (Some(10), false) | (Some(20), true) => None,
-        (Some(10), true) => {
-            Some("says unsatisfiable, and ended with the status 10 of satisfiable".into())
-        }
-        (Some(20), false) => {
-            Some("ended with the status 20 of unsatisfiable, and does not say so".into())
-        }
-        (Some(code), _) => Some(format!("failed with the status {code}")),
-        (None, _) => Some(format!(
-            "was killed by signal {}",
-            status.signal().unwrap_or(0)
+fn ended(printed: &str, status: u8) -> Result<u8, Failure> {
+    files::print(printed.as_bytes())?;
+    Ok(status)
+}
+
+/// Alignment, unless it is not wished.
+fn arrangement(args: &Args) -> Result<Arrangement, Failure> {
+    match (args.has("--align"), args.has("--no-align")) {
+        (true, true) => Err(Failure::usage(
+            "`--align` and `--no-align` exclude each other",
         )),
+        (false, true) => Ok(Arrangement::AsListed),
+        _ => Ok(Arrangement::Alignment),
     }
 }
 
-/// Whether the one status line is `s UNSATISFIABLE`.
-fn says_unsatisfiable(printed: &[u8]) -> bool {
-    let mut status_lines = printed
-        .split(|&byte| byte == b'\n')
-        .map(|line| line.strip_suffix(b"\r").unwrap_or(line))
-        .filter(|line| line.starts_with(b"s "));
-    status_lines.next() == Some(b"s UNSATISFIABLE") && status_lines.next().is_none()
+/// The solver's files, in a folder of their own; removed in the end.
+struct Scratch {
+    formula: Temporary,
+    proof: Temporary,
+    _folder: Temporary,
 }
 
-/// The plan for the formula that was handed in.
-fn walk_back(text: &[u8], new: &Reencoded, answer: &[u8]) -> Result<String, Failure> {
+impl Scratch {
+    fn new(formula: &[u8]) -> Result<Scratch, Failure> {
+        let within = std::env::temp_dir();
+        Scratch::within(&within, formula).map_err(|error| {
+            let within = shown_name(within.as_os_str());
+            Failure::output(format!(
+                "the solver's files cannot be written in {within}: {error}"
+            ))
+        })
+    }
+
+    fn within(folder: &Path, formula: &[u8]) -> io::Result<Scratch> {
+        let own = |path: &Path| DirBuilder::new().mode(0o700).create(path);
+        let (folder, ()) = Temporary::make(folder, own)?;
+        let scratch = Scratch {
+            formula: Temporary::named(folder.path.join("formula.cnf"))?,
+            proof: Temporary::named(folder.path.join("proof.drat"))?,
+            _folder: folder,
+        };
+        fs::write(&scratch.formula.path, formula)?;
+        Ok(scratch)
+    }
+}
+
+/// Prints the plan for the formula that was handed in. An older proof that there is none is removed.
+fn plan(text: &[u8], new: &Reencoded, answer: &[u8], proof: Option<Output>) -> Result<u8, Failure> {
     let lines = new.tally.lines as usize;
-    let line = sirgholyn::walk_back(text, &new.log, lines, answer, WalkBackRoom::default())?;
-    let line = String::from_utf8_lossy(&line).into_owned();
+    let line = sirgholyn::walk_back(text, &new.log, lines, answer, WalkBackRoom::default())
+        .map_err(|error| refused_walk_back(error, text, &new.log, lines, answer))?;
+    let line = String::from_utf8_lossy(&line);
     if !plan::satisfies(&String::from_utf8_lossy(text), &line) {
         return Err(Failure::internal(
-            "the plan carried back does not satisfy the formula; no plan",
+            "the plan carried back does not satisfy the formula",
         ));
     }
-    Ok(line)
+    if let Some(output) = proof {
+        output.remove_older()?;
+    }
+    ended(&format!("s SATISFIABLE\n{line}"), SATISFIABLE)
 }
 
-/// Writes our log and the solver's proof after it: a proof of the formula that was handed in. On
-/// standard output it stands alone, and the exit status is the verdict.
-fn no_plan_proved(mut output: Output, new: &Reencoded, proof_file: &Path) -> Result<(), Failure> {
-    let proof = std::fs::read(proof_file).map_err(|error| {
-        Failure::solver(format!(
-            "the solver says unsatisfiable, and its proof cannot be read: {error}"
-        ))
-    })?;
-    if !is_text_proof(&proof) {
-        return Err(Failure::solver(
-            "the solver says unsatisfiable, and its proof is not DRAT in text",
-        ));
+/// Writes our log and the solver's proof after it: a proof of the formula that was handed in. On standard output it stands
+/// alone, and the exit status is the verdict.
+fn proved(
+    mut output: Output,
+    text: &[u8],
+    new: Reencoded,
+    solvers: &Path,
+    check: bool,
+) -> Result<u8, Failure> {
+    if check {
+        check_proof(text, &new, solvers)?;
     }
-    output.write(&new.log)?;
-    output.write(&proof)?;
+    let comment = if check { "" } else { "c proof not checked\n" };
+    output.write(Cursor::new(new.log))?;
+    output.write(open_proof(solvers)?)?;
     let alone = output.is_standard();
-    files::finish(vec![output])?;
+    outputs::finish(vec![output])?;
     if alone {
-        return Ok(());
+        comment.lines().for_each(say);
+        return Ok(UNSATISFIABLE);
     }
-    files::print(b"s UNSATISFIABLE\n")
+    ended(&format!("{comment}s UNSATISFIABLE\n"), UNSATISFIABLE)
 }
 
-fn is_text_proof(proof: &[u8]) -> bool {
-    proof.iter().all(|byte| b"0123456789- d\n".contains(byte))
-        && proof.last().is_none_or(|&last| last == b'\n')
+/// Opens the solver's proof, which has to be a file: opening a pipe might never end.
+fn open_proof(solvers: &Path) -> Result<File, Failure> {
+    let opened = match fs::symlink_metadata(solvers) {
+        Ok(known) if !known.is_file() => Err(io::Error::other("it is not a file")),
+        found => found.and_then(|_| File::open(solvers)),
+    };
+    opened.map_err(unreadable)
+}
+
+fn unreadable(error: io::Error) -> Failure {
+    not_proved(format!("its proof cannot be read: {error}"))
+}
+
+fn not_proved(why: String) -> Failure {
+    Failure::solver(format!(
+        "the solver says unsatisfiable, and {why}; whether there is a plan stays open"
+    ))
+}
+
+/// Checks the whole proof against the formula that was handed in.
+fn check_proof(text: &[u8], new: &Reencoded, solvers: &Path) -> Result<(), Failure> {
+    let proof = new
+        .log
+        .as_slice()
+        .chain(BufReader::new(open_proof(solvers)?));
+    let mut tell_at = Instant::now() + QUIET_FOR;
+    let mut progress = |lines: u64| {
+        if Instant::now() >= tell_at {
+            say(format!("c checking the proof: {lines} lines"));
+            tell_at = Instant::now() + QUIET_FOR;
+        }
+    };
+    let ours = new.tally.lines;
+    match drat::check(text, proof, &mut progress) {
+        Ok(_) => Ok(()),
+        Err(drat::Error::Unreadable(error)) => Err(unreadable(error)),
+        Err(drat::Error::Faulty { line, fault, text }) if line > ours => Err(not_proved(format!(
+            "line {} of its proof {fault}: `{text}`",
+            line - ours
+        ))),
+        Err(drat::Error::Faulty { line, fault, text }) => Err(Failure::internal(format!(
+            "line {line} of the log {fault}: `{text}`"
+        ))),
+    }
 }

@@ -1,0 +1,24 @@
+//! The limits of the host, and those of the specification that it counts with, in one place.
+
+use std::time::Duration;
+
+/// No text that is read is longer; logs of accepted formulas stay well below.
+pub const MOST_TEXT_BYTES: u64 = 4 << 30;
+
+/// No buffer grows beyond this; a call that wants more is refused.
+pub const MOST_BUFFER_BYTES: usize = 16 << 30;
+
+/// A solver that prints more is stopped.
+pub const MOST_PRINTED_BYTES: usize = 256 << 20;
+
+/// The library holds its tables on the stack, about 1.3 MB, and does not ask whether they fit.
+pub const STACK_BYTES: usize = 32 << 20;
+
+/// Work that takes longer is told of on standard error.
+pub const QUIET_FOR: Duration = Duration::from_secs(2);
+
+/// How long another run may take to give its files their names.
+pub const LOCK_WAIT: Duration = Duration::from_secs(10);
+
+/// So much of a file's name is shown in a message.
+pub const MOST_NAME_SHOWN: usize = 300;

@@ -1,0 +1,534 @@
+//! `solve`: plans, proofs that there is none, and solvers that fail, lie or do not end.
+
+mod common;
+
+use common::command::{
+    example, expect_failure, expect_message, run, run_with, script, wait_for, Ran, COMMAND,
+};
+use common::solvers::Folder;
+use model::sessions::F;
+use sirgholyn::{drat, plan};
+use std::fs;
+use std::os::unix::process::{CommandExt, ExitStatusExt};
+use std::process::{Child, Command, Stdio};
+use std::thread::sleep;
+use std::time::{Duration, Instant};
+
+fn check(formula: &str, proof: &str) {
+    drat::check(formula.as_bytes(), proof.as_bytes(), &mut |_| ()).unwrap();
+}
+
+#[test]
+fn a_plan() {
+    for name in ["valley.cnf", "free_lure.cnf"] {
+        let input = example(name);
+        let text = fs::read_to_string(&input).unwrap();
+        for words in [
+            &["solve", &input][..],
+            &["solve", &input, "--no-align"],
+            &[
+                "solve",
+                &input,
+                "--form",
+                "counter",
+                "--align",
+                "--timeout",
+                "60",
+            ],
+        ] {
+            let ran = run(words);
+            assert_eq!((ran.status, ran.err.as_str()), (10, ""));
+            let line = ran.out.strip_prefix("s SATISFIABLE\n").unwrap();
+            assert!(plan::satisfies(&text, line));
+        }
+    }
+    let empty = run_with(&["solve", "-"], b"p cnf 0 0\n");
+    assert_eq!(
+        (empty.status, empty.out.as_str()),
+        (10, "s SATISFIABLE\nv 0\n")
+    );
+}
+
+#[test]
+fn a_proof_that_there_is_no_plan() {
+    let folder = Folder::new();
+    let input = example("no_plan.cnf");
+    let text = fs::read_to_string(&input).unwrap();
+    let proof = folder.path("proof.drat");
+    for form in ["counter", "order"] {
+        let ran = run(&["solve", &input, "--form", form, "--proof", &proof]);
+        assert_eq!(
+            (ran.status, ran.out.as_str(), ran.err.as_str()),
+            (20, "s UNSATISFIABLE\n", "")
+        );
+        let lines = fs::read_to_string(&proof).unwrap();
+        check(&text, &lines);
+        let log = run(&["reencode", &input, "--form", form, "--align", "--log", "-"]).out;
+        assert!(lines.starts_with(&log) && lines.ends_with("\n0\n"));
+        let printed = run(&["solve", &input, "--form", form, "--proof", "-"]);
+        assert_eq!((printed.status, printed.out.as_str()), (20, lines.as_str()));
+
+        let unchecked = run(&[
+            "solve",
+            &input,
+            "--form",
+            form,
+            "--proof",
+            &proof,
+            "--no-check",
+        ]);
+        assert_eq!(
+            (unchecked.status, unchecked.out.as_str()),
+            (20, "c proof not checked\ns UNSATISFIABLE\n")
+        );
+        assert_eq!(fs::read_to_string(&proof).unwrap(), lines);
+        let printed = run(&[
+            "solve",
+            &input,
+            "--form",
+            form,
+            "--proof",
+            "-",
+            "--no-check",
+        ]);
+        assert_eq!(
+            (printed.out, printed.err.as_str()),
+            (lines, "c proof not checked\n")
+        );
+    }
+    assert_eq!(folder.names(), ["proof.drat"]);
+    let ran = run(&["solve", &input]);
+    assert_eq!((ran.status, ran.out.as_str()), (20, "s UNSATISFIABLE\n"));
+    for small in [
+        "p cnf 1 2\n1 0\n-1 0\n",
+        "p cnf 0 1\n0\n",
+        "p cnf 1 4\n1 0\n1 0\n-1 0\n-1 0\n",
+    ] {
+        let ran = run_with(&["solve", "-", "--proof", &proof], small.as_bytes());
+        assert_eq!((ran.status, ran.err.as_str()), (20, ""));
+        check(small, &fs::read_to_string(&proof).unwrap());
+    }
+}
+
+/// The solver gets the formula in order form and aligned, unless told otherwise.
+#[test]
+fn the_form_that_solve_chooses() {
+    let folder = Folder::new();
+    let seen = folder.path("seen");
+    let solver = script(
+        &folder,
+        "solver",
+        &format!("cp \"$1\" {seen}; exec cadical -q \"$1\""),
+    );
+    // the second trap's literals in another order
+    let valley = fs::read_to_string(example("valley.cnf")).unwrap();
+    let turned = valley.replace("\n7 8 9 10 11 12 0\n", "\n12 11 10 9 8 7 0\n");
+    let input = folder.write("in.cnf", turned.as_bytes());
+    let formula = |words: &[&str]| {
+        let own = [&["reencode", &input, "--formula", "-"], words].concat();
+        run(&own).out
+    };
+    let (best, order) = (
+        formula(&["--form=order", "--align"]),
+        formula(&["--form=order"]),
+    );
+    let (aligned, counter) = (formula(&["--align"]), formula(&[]));
+    assert!(best != order && aligned != counter && best != aligned && order != counter);
+    for (words, expected) in [
+        (&[][..], &best),
+        (&["--align"], &best),
+        (&["--form", "order"], &best),
+        (&["--no-align"], &order),
+        (&["--form", "counter"], &aligned),
+        (&["--form", "counter", "--no-align"], &counter),
+    ] {
+        let ran = run(&[&["solve", &input, "--solver", &solver], words].concat());
+        assert_eq!(ran.status, 10, "{}", ran.err);
+        assert_eq!(&fs::read_to_string(&seen).unwrap(), expected, "{words:?}");
+    }
+}
+
+/// A solver that is a script, run on session F; `proof` has an older file.
+struct Scripted {
+    folder: Folder,
+    input: String,
+    proof: String,
+}
+
+impl Scripted {
+    fn new(input: &[u8]) -> Scripted {
+        let folder = Folder::new();
+        fs::create_dir(folder.path("scratch")).unwrap();
+        let input = folder.write("in.cnf", input);
+        let proof = folder.write("proof", b"older");
+        Scripted {
+            folder,
+            input,
+            proof,
+        }
+    }
+
+    fn command(&self, lines: &str) -> Command {
+        let solver = script(&self.folder, "solver", lines);
+        let mut command = Command::new(COMMAND);
+        command
+            .args(["solve", &self.input, "--form", "counter", "--no-align"])
+            .args(["--solver", &solver, "--proof", &self.proof])
+            .env("TMPDIR", self.folder.path("scratch"))
+            .stdin(Stdio::null());
+        command
+    }
+
+    fn solve(&self, lines: &str) -> Ran {
+        self.command(lines).output().unwrap().into()
+    }
+
+    /// Nothing is left of a run, and the older proof is as it was.
+    #[track_caller]
+    fn expect_clean(&self) {
+        let names = self.folder.names();
+        assert!(
+            names.iter().all(|name| !name.contains(".sirgholyn")),
+            "{names:?}"
+        );
+        let scratch = fs::read_dir(self.folder.path("scratch")).unwrap();
+        assert_eq!(scratch.count(), 0);
+        assert_eq!(fs::read(&self.proof).unwrap(), b"older");
+    }
+
+    #[track_caller]
+    fn expect_failure(&self, lines: &str, status: i32, said: &str) {
+        let ran = self.solve(lines);
+        expect_failure(&ran, status, said);
+        assert!(!ran.err.contains("no plan"), "{}", ran.err);
+        self.expect_clean();
+    }
+}
+
+#[test]
+fn solvers_that_fail() {
+    let scripted = Scripted::new(F.as_bytes());
+    for (lines, status, said) in [
+        ("kill -9 $$", 69, "killed by signal 9"),
+        (
+            "printf 's SATISFIABLE\\nv 1 6 7 8 9 10 0\\n'; kill -15 $$",
+            69,
+            "killed by signal 15",
+        ),
+        ("exit 3", 69, "the status 3"),
+        ("exit 20", 69, "does not say so"),
+        ("echo s UNKNOWN; exit 20", 69, "does not say so"),
+        ("echo s UNSATISFIABLE; exit 10", 69, "says another"),
+        ("echo s UNKNOWN; exit 1", 69, "the status 1"),
+        ("yes", 69, "printed more than"),
+        ("exit 0", 41, "refused 41"),
+        ("echo nonsense", 41, "the solver can mend it"),
+        ("echo nonsense", 41, "(line 1, byte 1: `nonsense`)"),
+        ("printf 's SATISFIABLE\\n'; exit 10", 41, "refused 41"),
+        ("printf 's SATISFIABLE\\nv 1 2 '; exit 10", 41, "refused 41"),
+        ("echo s UNSATISFIABLE; echo s SATISFIABLE", 41, "refused 41"),
+        ("echo s UNSATISFIABLE; echo v 1 0", 41, "refused 41"),
+        ("echo s UNKNOWN; echo v 1 0", 41, "refused 41"),
+        (
+            "printf 's SATISFIABLE\\nv 1 11 0\\n'; exit 10",
+            42,
+            "(line 2, byte 5: `11`)",
+        ),
+        (
+            "printf 's SATISFIABLE\\nv 1 -1 0\\n'; exit 10",
+            43,
+            "(line 2, byte 5: `-1`)",
+        ),
+        (
+            "printf 's SATISFIABLE\\nv 1 -7 0\\n'; exit 10",
+            44,
+            "refused 44",
+        ),
+    ] {
+        scripted.expect_failure(lines, status, said);
+    }
+    let missing = scripted.folder.path("missing");
+    let ran = run(&["solve", &scripted.input, "--solver", &missing]);
+    expect_failure(&ran, 69, "there is no solver `");
+    assert!(ran.err.contains("host/install-tools") && ran.err.contains("--solver CMD"));
+    assert!(!ran.err.contains("no plan"));
+    expect_failure(
+        &run(&["solve", &scripted.input, "--solver", "/dev/null"]),
+        69,
+        "cannot be run",
+    );
+}
+
+/// A solver that says that it does not know, and one whose time is over, are told apart from nonsense.
+#[test]
+fn solvers_that_do_not_know() {
+    let scripted = Scripted::new(F.as_bytes());
+    for lines in [
+        "echo s UNKNOWN",
+        "echo c hello; echo s UNKNOWN",
+        "printf 's UNKNOWN\\r\\n'",
+        "echo c UNKNOWN",
+    ] {
+        let ran = scripted.solve(lines);
+        expect_message(&ran, 75, "does not know");
+        assert_eq!(ran.out, "s UNKNOWN\n");
+        scripted.expect_clean();
+    }
+    for lines in [
+        "sleep 60",
+        "exec sleep 60",
+        "echo s SATISFIABLE; sleep 60",
+        "exec >&-; sleep 60",
+        "while :; do echo c; done",
+        "trap '' TERM INT; sleep 60 & wait",
+    ] {
+        let start = Instant::now();
+        let ran = Ran::from(
+            scripted
+                .command(lines)
+                .args(["--timeout", "1"])
+                .output()
+                .unwrap(),
+        );
+        expect_message(&ran, 75, "stopped after 1 seconds");
+        assert_eq!(ran.out, "s UNKNOWN\n");
+        assert!(start.elapsed() < Duration::from_secs(30));
+        scripted.expect_clean();
+    }
+    let in_time = scripted
+        .command("sleep 1; printf 's SATISFIABLE\\nv 1 6 7 8 9 10 0\\n'")
+        .args(["--timeout=20"])
+        .output();
+    assert_eq!(in_time.unwrap().status.code(), Some(10));
+}
+
+/// Verdicts that no proof bears out are not believed.
+#[test]
+fn proofs_that_fail() {
+    let scripted = Scripted::new(F.as_bytes());
+    let unsatisfiable =
+        |proof: &str| format!("printf '{proof}' >\"$2\"; echo s UNSATISFIABLE; exit 20");
+    for (lines, said) in [
+        ("echo s UNSATISFIABLE; exit 20".into(), "cannot be read"),
+        (
+            "mkfifo \"$2\"; echo s UNSATISFIABLE; exit 20".into(),
+            "not a file",
+        ),
+        (
+            "mkdir \"$2\"; echo s UNSATISFIABLE; exit 20".into(),
+            "not a file",
+        ),
+        // satisfiable, and the proof is empty, or says so
+        (unsatisfiable(""), "empty clause"),
+        (unsatisfiable("0\\n"), "line 1 of its proof"),
+        (unsatisfiable("6 0\\n0\\n"), "line 2 of its proof"),
+        (unsatisfiable("- - d d 0 5\\n"), "line 1 of its proof"),
+        (unsatisfiable("6 0\\n- - d d 0 5\\n"), "`- - d d 0 5`"),
+        (unsatisfiable("a\\001\\002\\000"), "line 1 of its proof"),
+        (unsatisfiable("d 1 2 3 4 5 0\\n0\\n"), "line 1 of its proof"),
+    ] {
+        scripted.expect_failure(&lines, 69, said);
+    }
+    let ran = scripted.solve("printf 'c hello\\ns SATISFIABLE\\nv 1 6 7 8 9 10 0\\n'");
+    assert_eq!(
+        (ran.status, ran.out.as_str()),
+        (10, "s SATISFIABLE\nv 1 -2 -3 -4 -5 6 0\n")
+    );
+    assert!(
+        !fs::exists(&scripted.proof).unwrap(),
+        "an older proof is not true any more"
+    );
+}
+
+/// A true proof, cut off after any of its lines, or inside one.
+#[test]
+fn proofs_that_are_cut_off() {
+    let text = fs::read(example("no_plan.cnf")).unwrap();
+    let scripted = Scripted::new(&text);
+    let true_proof = scripted.folder.path("true");
+    let lines =
+        format!("cadical -q --no-binary \"$1\" {true_proof}; cp {true_proof} \"$2\"; exit 20");
+    assert_eq!(scripted.solve(&lines).status, 20);
+    let whole = fs::read_to_string(&scripted.proof).unwrap();
+    check(&String::from_utf8(text).unwrap(), &whole);
+    fs::write(&scripted.proof, b"older").unwrap();
+    let solvers = fs::read_to_string(&true_proof).unwrap();
+    let refuted = solvers.find("\n0\n").unwrap();
+    for (cut, said) in [
+        (refuted + 1, "empty clause"),
+        (refuted, "of its proof"),
+        (refuted + 2, "of its proof"),
+        (
+            solvers[..refuted / 2].rfind('\n').unwrap() + 1,
+            "empty clause",
+        ),
+    ] {
+        let lines = format!("head -c {cut} {true_proof} >\"$2\"; echo s UNSATISFIABLE; exit 20");
+        scripted.expect_failure(&lines, 69, said);
+    }
+}
+
+fn is_running(process: &str) -> bool {
+    // a zombie has ended
+    let status = fs::read_to_string(format!("/proc/{process}/stat"));
+    status.is_ok_and(|status| !status.contains(") Z "))
+}
+
+/// The command with a solver that has started another process; the names of the two.
+fn with_busy_solver(scripted: &Scripted) -> (Child, [String; 2]) {
+    let pids = scripted.folder.path("pids");
+    let _ = fs::remove_file(&pids);
+    let lines = format!("sleep 100 & echo $$ $! >{pids}.new; mv {pids}.new {pids}; wait");
+    let child = scripted
+        .command(&lines)
+        .stdout(Stdio::null())
+        .stderr(Stdio::piped())
+        .spawn()
+        .unwrap();
+    wait_for(&pids);
+    let pids = fs::read_to_string(&pids).unwrap();
+    let mut pids = pids.split_whitespace().map(str::to_string);
+    (child, [pids.next().unwrap(), pids.next().unwrap()])
+}
+
+#[track_caller]
+fn expect_ended(processes: &[String]) {
+    for _ in 0..500 {
+        if !processes.iter().any(|process| is_running(process)) {
+            return;
+        }
+        sleep(Duration::from_millis(10));
+    }
+    panic!("the solver still runs");
+}
+
+fn send(signal: &str, child: &Child) {
+    let pid = child.id().to_string();
+    assert!(Command::new("kill")
+        .args([signal, &pid])
+        .status()
+        .unwrap()
+        .success());
+}
+
+#[test]
+fn signals_end_the_solver_and_leave_nothing() {
+    let scripted = Scripted::new(F.as_bytes());
+    for (signal, number) in [("-INT", 2), ("-TERM", 15), ("-HUP", 1)] {
+        let (mut child, processes) = with_busy_solver(&scripted);
+        assert!(processes.iter().all(|process| is_running(process)));
+        send(signal, &child);
+        assert_eq!(child.wait().unwrap().signal(), Some(number));
+        expect_ended(&processes);
+        scripted.expect_clean();
+    }
+}
+
+/// Killed outright, the command can undo nothing; its solver ends all the same.
+#[test]
+fn the_solver_does_not_outlive_the_command() {
+    let scripted = Scripted::new(F.as_bytes());
+    let (mut child, processes) = with_busy_solver(&scripted);
+    send("-KILL", &child);
+    assert_eq!(child.wait().unwrap().signal(), Some(9));
+    expect_ended(&processes);
+}
+
+/// What a solver leaves running is ended with it.
+#[test]
+fn what_a_solver_leaves_running_is_ended() {
+    let scripted = Scripted::new(F.as_bytes());
+    let pid = scripted.folder.path("pid");
+    let ran = scripted.solve(&format!(
+        "sleep 100 & echo $! >{pid}; printf 's SATISFIABLE\\nv 1 6 7 8 9 10 0\\n'"
+    ));
+    assert_eq!(ran.status, 10, "{}", ran.err);
+    expect_ended(&[fs::read_to_string(&pid).unwrap().trim().to_string()]);
+}
+
+#[test]
+fn a_signal_that_the_caller_ignores_stays_ignored() {
+    let scripted = Scripted::new(F.as_bytes());
+    let started = scripted.folder.path("started");
+    let mut command = Command::new("nohup");
+    let inner = scripted.command(&format!(
+        "echo >{started}; sleep 1; printf 's SATISFIABLE\\nv 1 6 7 8 9 10 0\\n'"
+    ));
+    command
+        .arg(inner.get_program())
+        .args(inner.get_args())
+        .stdin(Stdio::null())
+        .stdout(Stdio::null())
+        .stderr(Stdio::null());
+    let mut child = command.spawn().unwrap();
+    wait_for(&started);
+    send("-HUP", &child);
+    assert_eq!(child.wait().unwrap().code(), Some(10));
+}
+
+#[test]
+fn nothing_is_left_in_the_temporary_folder() {
+    for (solver, status) in [("cadical -q", 10), ("false", 69), ("/missing", 69)] {
+        let folder = Folder::new();
+        let ran = Command::new(COMMAND)
+            .args(["solve", &example("valley.cnf"), "--solver", solver])
+            .env("TMPDIR", folder.path(""))
+            .output()
+            .unwrap();
+        assert_eq!(ran.status.code(), Some(status));
+        assert_eq!(folder.names(), Vec::<String>::new());
+    }
+    let nowhere = Command::new(COMMAND)
+        .args(["solve", &example("valley.cnf")])
+        .env("TMPDIR", "/missing")
+        .output();
+    expect_failure(&nowhere.unwrap().into(), 73, "/missing");
+}
+
+/// A proof longer than the memory that the command may have is checked and written; progress is told of after two seconds.
+#[test]
+fn large_proofs_are_streamed() {
+    const MOST_KILOBYTES: u64 = 100_000;
+    let text = fs::read(example("no_plan.cnf")).unwrap();
+    let scripted = Scripted::new(&text);
+    let done = scripted.folder.path("done");
+    // a clause of the new formula, added and deleted again and again
+    let lines = format!(
+        "clause=$(sed -n 2p \"$1\"); i=0; part=\n\
+         while [ $i -lt 1000 ]; do part=\"$part$clause\nd $clause\n\"; i=$((i + 1)); done\n\
+         yes -- \"$part\" | grep . | head -c {} >\"$2.long\"; cadical -q --no-binary \"$1\" \"$2.own\"\n\
+         sed '$d' \"$2.long\" >\"$2\"; cat \"$2.own\" >>\"$2\"; echo >{done}; exit 20",
+        2 * MOST_KILOBYTES * 1024
+    );
+    let inner = scripted.command(&lines);
+    let mut command = Command::new("sh");
+    command.args([
+        "-c",
+        &format!("ulimit -v {MOST_KILOBYTES}; exec \"$@\""),
+        "sh",
+    ]);
+    command.arg(inner.get_program()).args(inner.get_args());
+    command
+        .env("TMPDIR", scripted.folder.path("scratch"))
+        .stdin(Stdio::null());
+    let child = command
+        .stdout(Stdio::piped())
+        .stderr(Stdio::piped())
+        .process_group(0)
+        .spawn()
+        .unwrap();
+    wait_for(&done);
+    sleep(Duration::from_millis(200));
+    send("-STOP", &child);
+    sleep(Duration::from_millis(2_500));
+    send("-CONT", &child);
+    let ran = Ran::from(child.wait_with_output().unwrap());
+    assert_eq!(
+        (ran.status, ran.out.as_str()),
+        (20, "s UNSATISFIABLE\n"),
+        "{}",
+        ran.err
+    );
+    assert!(ran.err.starts_with("c checking the proof: "), "{}", ran.err);
+    assert!(fs::metadata(&scripted.proof).unwrap().len() > 2 * MOST_KILOBYTES * 1024);
+}

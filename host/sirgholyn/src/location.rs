@@ -2,7 +2,7 @@
 //! the library.
 //!
 //! Each text has a reader that stops at the first fault. A location is told only where that fault has the
-//! library's number.
+//! library's number; for any other number, and for texts that are in order, there is none.
 
 use crate::shown::shown;
 use std::collections::HashMap;
@@ -67,7 +67,8 @@ impl Limits {
     };
 }
 
-/// Where a formula has the fault for which it was refused: numbers 1 to 9.
+/// Where a formula has the fault for which it was refused, numbers 1 to 9: the line that is no header, or the
+/// word. Where words are missing it is the text's end.
 ///
 /// ```
 /// use sirgholyn::location::{in_formula, Limits};
@@ -81,14 +82,16 @@ pub fn in_formula(text: &[u8], limits: &Limits, number: u32) -> Option<Location>
     fault.location(text, number)
 }
 
-/// Where a log has the fault for which it was refused: numbers 31, 32 and 34.
+/// Where a log has the fault for which it was refused, numbers 31, 32 and 34: what is not in a line's layout, or
+/// a deletion's line. Where lines or a line's LF are missing it is the text's end.
 pub fn in_log(formula: &[u8], log: &[u8], kept: usize, number: u32) -> Option<Location> {
     let formula = read_formula(formula, &Limits::INPUT).ok()?;
     let read = highest_kept(log, kept).and_then(|_| replay(formula, log, kept));
     read.err()?.location(log, number)
 }
 
-/// Where an answer has the fault for which it was refused: numbers 41, 42 and 43.
+/// Where an answer has the fault for which it was refused, numbers 41, 42 and 43: the line, or the word of a `v `
+/// line. Where words are missing it is the text's end.
 pub fn in_answer(
     formula: &[u8],
     log: &[u8],
@@ -160,17 +163,13 @@ struct Line {
 
 impl Line {
     fn at(text: &[u8], start: usize) -> Self {
-        let Some(length) = text[start..].iter().position(|&byte| byte == b'\n') else {
-            let (content, next) = (start..text.len(), text.len());
-            return Line { content, next };
+        let length = text[start..].iter().position(|&byte| byte == b'\n');
+        let (end, next) = match length.map(|length| start + length) {
+            Some(lf) if text[start..lf].ends_with(b"\r") => (lf - 1, lf + 1),
+            Some(lf) => (lf, lf + 1),
+            None => (text.len(), text.len()),
         };
-        let lf = start + length;
-        let end = if text[start..lf].ends_with(b"\r") {
-            lf - 1
-        } else {
-            lf
-        };
-        let (content, next) = (start..end, lf + 1);
+        let content = start..end;
         Line { content, next }
     }
 
@@ -209,15 +208,16 @@ fn number(word: &[u8]) -> Option<i64> {
 }
 
 /// The clause or line in which each literal was read last, counted from 1.
+#[derive(Default)]
 struct LastRead(Vec<usize>);
 
 impl LastRead {
-    fn new(variables: i64) -> Self {
-        LastRead(vec![0; 2 * variables as usize + 2])
-    }
-
     fn of(&mut self, literal: i32) -> &mut usize {
-        &mut self.0[2 * literal.unsigned_abs() as usize + usize::from(literal < 0)]
+        let index = 2 * literal.unsigned_abs() as usize + usize::from(literal < 0);
+        if index >= self.0.len() {
+            self.0.resize(index + 1, 0);
+        }
+        &mut self.0[index]
     }
 }
 
@@ -240,7 +240,7 @@ fn read_formula(text: &[u8], limits: &Limits) -> Result<Formula, Fault> {
     let body = header.next..text.len();
     let mut reader = FormulaReader {
         literals_left: limits.literals,
-        last_read: LastRead::new(header.variables),
+        last_read: LastRead::default(),
         clauses: Vec::new(),
         clause: Vec::new(),
         header,
@@ -374,7 +374,7 @@ impl<'a> KeptLines<'a> {
             next: 0,
             count: 0,
             kept,
-            last_read: LastRead::new(HIGHEST_OF_LOG),
+            last_read: LastRead::default(),
         }
     }
 

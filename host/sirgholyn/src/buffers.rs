@@ -1,6 +1,7 @@
 //! The calls with buffers of their own: made by the size of the texts, and larger until they fit.
 
 use crate::calls::{self, Arrangement, Counts, Form, Tally};
+use crate::limits::{Limits, MOST_BUFFER_BYTES, MOST_LOG_VARIABLES};
 use crate::refusals::Refusal;
 use std::alloc::{alloc_zeroed, Layout};
 use std::fmt;
@@ -87,10 +88,7 @@ pub fn reencode(
     arrangement: Arrangement,
     room: ReencodeRoom,
 ) -> Result<Reencoded, Error> {
-    let mut work = Buffer::new(
-        room.work,
-        20 * words(text).min(60_000) + 2 * 20_000 + 6 * 8_000 + 8_192,
-    )?;
+    let mut work = Buffer::new(room.work, reading_workspace(text, &Limits::INPUT))?;
     let guess = text.len().min(1 << 20);
     let mut log = Buffer::new(room.log, guess * 16 + (1 << 20))?;
     let mut formula = Buffer::new(room.formula, guess * 4 + (1 << 18))?;
@@ -141,7 +139,7 @@ pub fn walk_back(
 ) -> Result<Vec<u8>, Error> {
     let mut work = Buffer::new(
         room.work,
-        4 * (words(formula) + words(log)) + 4 * 70_000 + 64,
+        4 * (words(formula) + words(log)) + 4 * MOST_LOG_VARIABLES + 64,
     )?;
     let mut line = Buffer::new(room.line, 1 << 16)?;
     loop {
@@ -168,7 +166,7 @@ pub fn walk_back(
 /// assert_eq!(new.clauses().collect::<Vec<_>>(), [&[1, -2][..], &[]]);
 /// ```
 pub fn read_back(text: &[u8], store: Option<usize>) -> Result<ReadBack, Error> {
-    let mut store = Buffer::new(store, 20 * words(text).min(1_300_000) + 6 * 70_000 + 8_192)?;
+    let mut store = Buffer::new(store, reading_workspace(text, &Limits::NEW_FORMULA))?;
     loop {
         match calls::read_back(text, &mut store.entries) {
             Ok(counts) => {
@@ -179,6 +177,12 @@ pub fn read_back(text: &[u8], store: Option<usize>) -> Result<ReadBack, Error> {
             Err(number) => return Err(Error::Refused(Refusal(number))),
         }
     }
+}
+
+/// At least as many entries as the rule for reading asks for.
+fn reading_workspace(text: &[u8], limits: &Limits) -> usize {
+    let literals = words(text).min(limits.literals);
+    20 * literals + 2 * limits.clauses + 6 * limits.variables + 8_192
 }
 
 /// The words of a text: at least as many as its numbers.
@@ -193,9 +197,6 @@ fn words(text: &[u8]) -> usize {
     }
     count
 }
-
-/// No buffer grows beyond this; a call that wants more is refused.
-const MOST_BYTES: usize = 16 << 30;
 
 /// Entries lent to a call.
 struct Buffer<T> {
@@ -214,7 +215,7 @@ impl<T: Number> Buffer<T> {
     /// Takes four times the room, unless the size is exact or there is no more to have.
     fn grow(&mut self) -> Result<bool, Error> {
         let larger = self.entries.len() * 4;
-        if self.exact || larger * size_of::<T>() > MOST_BYTES {
+        if self.exact || larger * size_of::<T>() > MOST_BUFFER_BYTES {
             return Ok(false);
         }
         self.entries = Vec::new();

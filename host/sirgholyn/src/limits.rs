@@ -2,6 +2,30 @@
 
 use std::time::Duration;
 
+/// The limits on a formula's text: those of an input, or of a new formula that is read back.
+#[derive(Debug, Clone, Copy, PartialEq, Eq)]
+pub struct Limits {
+    pub variables: usize,
+    pub clauses: usize,
+    pub literals: usize,
+}
+
+impl Limits {
+    pub const INPUT: Limits = Limits {
+        variables: 8_000,
+        clauses: 20_000,
+        literals: 60_000,
+    };
+    pub const NEW_FORMULA: Limits = Limits {
+        variables: 70_000,
+        clauses: 300_000,
+        literals: 1_000_000,
+    };
+}
+
+/// No variable of a log is above this one.
+pub const MOST_LOG_VARIABLES: usize = 70_000;
+
 /// No text that is read is longer; logs of accepted formulas stay well below.
 pub const MOST_TEXT_BYTES: u64 = 4 << 30;
 
@@ -22,3 +46,6 @@ pub const LOCK_WAIT: Duration = Duration::from_secs(10);
 
 /// So much of a file's name is shown in a message.
 pub const MOST_NAME_SHOWN: usize = 300;
+
+/// So much of a word, or of a line of a proof, is shown in a message.
+pub const MOST_WORD_SHOWN: usize = 40;

@@ -4,6 +4,7 @@
 //! Each text has a reader that stops at the first fault. A location is told only where that fault has the
 //! library's number; for any other number, and for texts that are in order, there is none.
 
+use crate::limits::{Limits, MOST_LOG_VARIABLES, MOST_WORD_SHOWN};
 use crate::shown::shown;
 use std::collections::HashMap;
 use std::fmt;
@@ -21,9 +22,6 @@ pub struct Location {
     pub word: Option<String>,
 }
 
-/// Of a longer word so many bytes are shown.
-const MOST_SHOWN: usize = 40;
-
 impl Location {
     fn new(text: &[u8], place: Range<usize>) -> Self {
         let before = &text[..place.start];
@@ -31,7 +29,7 @@ impl Location {
         Location {
             line: 1 + before.iter().filter(|&&byte| byte == b'\n').count(),
             byte: 1 + place.start - line_start.map_or(0, |lf| lf + 1),
-            word: (place.start < text.len()).then(|| shown(&text[place], MOST_SHOWN)),
+            word: (place.start < text.len()).then(|| shown(&text[place], MOST_WORD_SHOWN)),
         }
     }
 }
@@ -46,32 +44,11 @@ impl fmt::Display for Location {
     }
 }
 
-/// The limits on a formula's text: those of an input, or of a new formula that is read back.
-#[derive(Debug, Clone, Copy, PartialEq, Eq)]
-pub struct Limits {
-    variables: i64,
-    clauses: i64,
-    literals: i64,
-}
-
-impl Limits {
-    pub const INPUT: Limits = Limits {
-        variables: 8_000,
-        clauses: 20_000,
-        literals: 60_000,
-    };
-    pub const NEW_FORMULA: Limits = Limits {
-        variables: 70_000,
-        clauses: 300_000,
-        literals: 1_000_000,
-    };
-}
-
 /// Where a formula has the fault for which it was refused, numbers 1 to 9: the line that is no header, or the
 /// word. Where words are missing it is the text's end.
 ///
 /// ```
-/// use sirgholyn::location::{in_formula, Limits};
+/// use sirgholyn::{limits::Limits, location::in_formula};
 /// let location = in_formula(b"p cnf 2 1\n1 x 0\n", &Limits::INPUT, 3).unwrap();
 /// assert_eq!(location.to_string(), "line 2, byte 3: `x`");
 /// let location = in_formula(b"p cnf 2 1\n1", &Limits::INPUT, 7).unwrap();
@@ -265,10 +242,10 @@ fn read_header(text: &[u8], limits: &Limits) -> Result<Header, Fault> {
     let (Some(variables), Some(clauses)) = (natural(variables), natural(clauses)) else {
         return Err(line.fault(1));
     };
-    if variables > limits.variables {
+    if variables > limits.variables as i64 {
         return Err(Fault::new(2, fields[2].clone()));
     }
-    if clauses > limits.clauses {
+    if clauses > limits.clauses as i64 {
         return Err(Fault::new(2, fields[3].clone()));
     }
     let next = line.next;
@@ -290,7 +267,7 @@ fn header_line(text: &[u8]) -> Line {
 
 struct FormulaReader {
     header: Header,
-    literals_left: i64,
+    literals_left: usize,
     last_read: LastRead,
     clauses: Vec<Vec<i32>>,
     /// The literals read since the last `0`.
@@ -346,9 +323,6 @@ impl FormulaReader {
 }
 
 // A log: 31, 34, then 32
-
-/// No variable of a log is above this one.
-const HIGHEST_OF_LOG: i64 = 70_000;
 
 struct LogLine {
     deletion: bool,
@@ -421,7 +395,7 @@ impl<'a> KeptLines<'a> {
 
     /// Whether the variable is allowed and not yet in this line.
     fn is_new(&mut self, literal: i64) -> bool {
-        if literal.abs() > HIGHEST_OF_LOG {
+        if literal.abs() > MOST_LOG_VARIABLES as i64 {
             return false;
         }
         let last = self.last_read.of(literal.abs() as i32);

@@ -4,7 +4,8 @@ use crate::args::Args;
 use crate::failure::Failure;
 use crate::files::{self, say};
 use crate::outputs::{self, Output, Taken};
-use sirgholyn::location::{self, Limits};
+use sirgholyn::limits::Limits;
+use sirgholyn::location;
 use sirgholyn::{Arrangement, Error, Form, ReencodeRoom, Tally, WalkBackRoom};
 use std::io::Cursor;
 
@@ -117,8 +118,8 @@ pub fn refused_walk_back(
     let found = match error {
         Error::Refused(refusal) => match refusal.0 {
             1..=9 => location::in_formula(formula, &Limits::INPUT, refusal.0),
-            31..=34 => location::in_log(formula, log, kept, refusal.0),
-            41..=44 => location::in_answer(formula, log, kept, answer, refusal.0),
+            31 | 32 | 34 => location::in_log(formula, log, kept, refusal.0),
+            41..=43 => location::in_answer(formula, log, kept, answer, refusal.0),
             _ => None,
         },
         Error::NoMemory(_) => None,

@@ -9,6 +9,7 @@ use std::fmt;
 /// Why a call with its own buffers gives no result.
 #[derive(Debug, Clone, Copy, PartialEq, Eq)]
 pub enum Error {
+    /// The library refuses, and why.
     Refused(Refusal),
     /// The system has no memory for a buffer of so many bytes.
     NoMemory(usize),
@@ -45,16 +46,21 @@ pub struct WalkBackRoom {
     pub line: Option<usize>,
 }
 
+/// A reencoded formula.
 #[derive(Debug, Clone, PartialEq, Eq)]
 pub struct Reencoded {
+    /// The counts.
     pub tally: Tally,
+    /// The log, DRAT in text.
     pub log: Vec<u8>,
+    /// The new formula, DIMACS CNF.
     pub formula: Vec<u8>,
 }
 
 /// Clauses as `read_back` leaves them.
 #[derive(Debug, Clone, PartialEq, Eq)]
 pub struct ReadBack {
+    /// How many there are.
     pub counts: Counts,
     store: Vec<i32>,
 }

@@ -5,22 +5,28 @@ use std::cell::Cell;
 use std::panic::resume_unwind;
 use std::{io, thread};
 
+/// The form that choices get.
 #[derive(Debug, Clone, Copy, PartialEq, Eq)]
 pub enum Form {
+    /// Sequential counters beside the choice's literals.
     Counter,
+    /// Counters in place of the choice's literals.
     Order,
 }
 
 /// What the caller wishes for the order of the choices' literals.
 #[derive(Debug, Clone, Copy, PartialEq, Eq)]
 pub enum Arrangement {
+    /// As the clause lists them.
     AsListed,
+    /// Linked choices alike.
     Alignment,
 }
 
 /// What a reencoding tells beside its two texts.
 #[derive(Debug, Clone, Copy, PartialEq, Eq)]
 pub struct Tally {
+    /// Clauses taken as choices.
     pub choices: u64,
     /// H, the highest variable used.
     pub highest: u64,
@@ -28,19 +34,25 @@ pub struct Tally {
     pub clauses: u64,
     /// Log lines.
     pub lines: u64,
+    /// The log's length.
     pub log_bytes: usize,
+    /// The new formula's length.
     pub formula_bytes: usize,
 }
 
 /// What reading back tells beside the clauses.
 #[derive(Debug, Clone, Copy, PartialEq, Eq)]
 pub struct Counts {
+    /// The header's variables.
     pub variables: u64,
+    /// Clauses.
     pub clauses: u64,
+    /// Literals of all clauses.
     pub literals: u64,
 }
 
 /// The C functions as they are: pointer and length for a slice; the tally takes as many numbers as fit.
+#[allow(missing_docs)]
 pub mod library {
     extern "C" {
         pub fn sirgholyn_reencode(

@@ -5,17 +5,22 @@ use std::time::Duration;
 /// The limits on a formula's text: those of an input, or of a new formula that is read back.
 #[derive(Debug, Clone, Copy, PartialEq, Eq)]
 pub struct Limits {
+    /// The header's V, or H.
     pub variables: usize,
+    /// The header's C, or M.
     pub clauses: usize,
+    /// Literals of all clauses.
     pub literals: usize,
 }
 
 impl Limits {
+    /// Of a formula that is handed in.
     pub const INPUT: Limits = Limits {
         variables: 8_000,
         clauses: 20_000,
         literals: 60_000,
     };
+    /// Of a new formula.
     pub const NEW_FORMULA: Limits = Limits {
         variables: 70_000,
         clauses: 300_000,

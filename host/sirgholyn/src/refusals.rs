@@ -2,10 +2,12 @@
 
 use std::fmt;
 
+/// A refusal, by its number.
 #[derive(Debug, Clone, Copy, PartialEq, Eq)]
 pub struct Refusal(pub u32);
 
 impl Refusal {
+    /// What the number means.
     pub fn meaning(self) -> &'static str {
         match self.0 {
             1 => "the formula has no header line `p cnf V C`",
@@ -33,6 +35,7 @@ impl Refusal {
         }
     }
 
+    /// Who can mend it.
     pub fn mender(self) -> &'static str {
         match self.0 {
             1..=9 => "the formula's writer",

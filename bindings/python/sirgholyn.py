@@ -1,0 +1,525 @@
+r"""Verified reencoding of formulas for SAT solvers.
+
+`solve` gives a plan for a formula in DIMACS CNF:
+
+>>> solve("p cnf 2 2\n1 2 0\n-1 0\n")
+[-1, 2]
+
+`reencode`, `walk_back` and `read_back` are the calls of the proved library, with buffers of their own:
+
+>>> formula = b"p cnf 3 2\n1 2 0\n-1 3 0\n"
+>>> new = reencode(formula)
+>>> new.formula
+b'p cnf 3 0\n'
+>>> plan(walk_back(formula, new.log, b"s SATISFIABLE\nv 0\n"))
+[-1, 2, -3]
+
+Texts are `bytes`; a `str` stands for its bytes in UTF-8. A text that is not accepted raises `Refused`:
+
+>>> reencode(b"p cnf 1 1\n1 -1 0\n")
+Traceback (most recent call last):
+sirgholyn.Refused: refused 6: a literal's negation is already in its clause; the formula's writer can mend it
+
+The library is `libsirgholyn.so`, which `host/shared-library` builds. The environment variable SIRGHOLYN_LIB may name
+another folder that holds it, and SIRGHOLYN_COMMAND another program for `solve`.
+"""
+
+import ctypes
+import functools
+import math
+import operator
+import os
+import re
+import subprocess
+import sys
+import threading
+from concurrent.futures import Future
+from typing import Any, Callable, Dict, List, NamedTuple, Optional, Sequence, Tuple, Union
+
+__all__ = [
+    "ReadBack",
+    "Reencoding",
+    "Refused",
+    "SolverFailed",
+    "Undecided",
+    "plan",
+    "read_back",
+    "reencode",
+    "solve",
+    "walk_back",
+]
+
+Text = Union[bytes, str]
+
+_ROOT = os.path.dirname(os.path.dirname(os.path.dirname(os.path.realpath(__file__))))
+
+# ---- refusals
+
+_MEANINGS = {
+    1: "the formula has no header line `p cnf V C`",
+    2: "the header's V or C is too large",
+    3: "a word of the formula is not a number",
+    4: "a literal's variable is above V",
+    5: "a literal is repeated in its clause",
+    6: "a literal's negation is already in its clause",
+    7: "the formula's text ends inside a clause",
+    8: "the formula does not have exactly C clauses",
+    9: "the formula has too many literals",
+    11: "the workspace is too short",
+    12: "the log's buffer is too short",
+    13: "the new formula's buffer is too short",
+    14: "the answer's buffer is too short",
+    31: "a kept line of the log is not in the layout of a DRAT line, repeats or opposes a literal, "
+    "or has a variable above 70000",
+    32: "the log deletes a clause that does not stand",
+    33: "the walked-back assignment fails the formula",
+    34: "the log has fewer lines than are to be kept",
+    41: "the answer is not in the layout `s SATISFIABLE`, then `v ` lines that end in 0",
+    42: "the answer names a variable above those of formula and log",
+    43: "the answer names a variable twice",
+    44: "a clause that stands is false under the answer",
+}
+
+
+_MENDERS = {
+    range(1, 10): "the formula's writer",
+    range(11, 15): "the caller",
+    range(31, 35): "the log's writer",
+    range(41, 45): "the solver",
+}
+
+
+def _mender(number: int) -> str:
+    return next((mender for numbers, mender in _MENDERS.items() if number in numbers), "nobody listed")
+
+
+class Refused(ValueError):
+    """A text, an answer or a buffer that is not accepted.
+
+    `number` is one of the listed numbers, `meaning` says what it means and `mender` who can mend it.
+    """
+
+    def __init__(self, number: int, said: Optional[str] = None) -> None:
+        super().__init__(number, said)
+        self.number = number
+        self.meaning = _MEANINGS.get(number, "a number that is not listed")
+        self.mender = _mender(number)
+        self._said = said
+
+    def __str__(self) -> str:
+        return self._said or f"refused {self.number}: {self.meaning}; {self.mender} can mend it"
+
+
+# ---- the library
+
+_TEXT = [ctypes.c_char_p, ctypes.c_size_t]
+_BYTES = [ctypes.POINTER(ctypes.c_uint8), ctypes.c_size_t]
+_ENTRIES = [ctypes.POINTER(ctypes.c_int32), ctypes.c_size_t]
+_COUNTS = [ctypes.POINTER(ctypes.c_uint64), ctypes.c_size_t]
+
+# The arguments of host/include/sirgholyn.h; each call returns a uint32_t.
+_DECLARED: Dict[str, List[Any]] = {
+    "sirgholyn_reencode": _TEXT + [ctypes.c_uint32, ctypes.c_uint32] + _ENTRIES + _BYTES + _BYTES + _COUNTS,
+    "sirgholyn_walk_back": _TEXT + _TEXT + [ctypes.c_size_t] + _TEXT + _ENTRIES + _BYTES + _COUNTS,
+    "sirgholyn_read_back": _TEXT + _ENTRIES + _COUNTS,
+}
+
+
+@functools.lru_cache(maxsize=None)
+def _library() -> ctypes.CDLL:
+    folder = os.environ.get("SIRGHOLYN_LIB") or os.path.join(_ROOT, "target", "staticlib")
+    path = os.path.join(folder, "libsirgholyn.so")
+    if not os.path.exists(path):
+        raise FileNotFoundError(
+            f"there is no {path}: run `./sirgholyn --help`, which builds the static library where it is missing, "
+            f"and then `host/shared-library` in {_ROOT}"
+        )
+    library = ctypes.CDLL(path)
+    for name, arguments in _DECLARED.items():
+        function = getattr(library, name)
+        function.argtypes = arguments
+        function.restype = ctypes.c_uint32
+    return library
+
+
+# The library holds its tables on the stack, up to 1.8 MB, and does not ask whether they fit.
+_STACK_BYTES = 32 << 20
+
+# Python has one stack size for all threads that are started: it is changed for the start of ours alone.
+_stack_size_lock = threading.Lock()
+
+
+def _on_large_stack(call: Callable[[], int]) -> int:
+    """Runs a call on a new thread whose stack is large enough for it."""
+    outcome: "Future[int]" = Future()
+
+    def run() -> None:
+        try:
+            outcome.set_result(call())
+        except BaseException as error:
+            outcome.set_exception(error)
+
+    thread = threading.Thread(target=run)
+    with _stack_size_lock:
+        before = threading.stack_size(_STACK_BYTES)
+        try:
+            thread.start()
+        finally:
+            threading.stack_size(before)
+    thread.join()
+    return outcome.result()
+
+
+# ---- buffers
+
+# No buffer grows beyond this; a call that wants more is refused.
+_MOST_BYTES = 16 << 30
+
+
+class _Buffer:
+    """Elements lent to a call: exactly so many, or at first a guess."""
+
+    def __init__(self, element: Any, exact: Optional[int], guess: int) -> None:
+        self._element = element
+        self._exact = exact is not None
+        self.elements = _zeros(element, guess if exact is None else _count(exact))
+
+    def __len__(self) -> int:
+        return len(self.elements)
+
+    def grow(self) -> bool:
+        """Takes four times the room, unless the size is exact or there is no more to have."""
+        larger = len(self) * 4
+        if self._exact or larger * ctypes.sizeof(self._element) > _MOST_BYTES:
+            return False
+        self.elements = None
+        self.elements = _zeros(self._element, larger)
+        return True
+
+    def first_bytes(self, count: int) -> bytes:
+        return ctypes.string_at(self.elements, count)
+
+
+def _zeros(element: Any, count: int) -> Any:
+    try:
+        return (element * count)()
+    except (MemoryError, OverflowError):
+        size = count * ctypes.sizeof(element)
+        raise MemoryError(f"no memory for a buffer of {size} bytes") from None
+
+
+def _call_until_it_fits(call: Callable[[], int], growing: Dict[int, _Buffer]) -> None:
+    """Calls again with a larger buffer, as long as the number is one that a larger buffer mends."""
+    while True:
+        number = _on_large_stack(call)
+        if number == 0:
+            return
+        if number not in growing or not growing[number].grow():
+            raise Refused(number)
+
+
+# ---- arguments
+
+
+def _bytes(text: Text) -> bytes:
+    if isinstance(text, str):
+        return text.encode()
+    if not isinstance(text, bytes):
+        raise TypeError(f"a text wants bytes or str, not {type(text).__name__}")
+    return text
+
+
+def _count(number: int) -> int:
+    number = operator.index(number)
+    if number < 0:
+        raise ValueError(f"wanted a count, found {number}")
+    return number
+
+
+def _form_number(form: str) -> int:
+    if form not in ("counter", "order"):
+        raise ValueError(f"form wants 'counter' or 'order', not {form!r}")
+    return int(form == "order")
+
+
+def _words(text: bytes) -> int:
+    """At least as many as the text has words."""
+    return 1 + sum(text.count(separator) for separator in (b" ", b"\t", b"\r", b"\n"))
+
+
+# ---- the calls
+
+
+class Reencoding(NamedTuple):
+    """The two texts of a reencoding and its counts."""
+
+    log: bytes
+    formula: bytes
+    choices: int
+    highest: int  # the highest variable used
+    clauses: int  # those of the new formula
+    lines: int  # those of the log
+
+
+def reencode(
+    text: Text,
+    *,
+    form: str = "counter",
+    align: bool = False,
+    work: Optional[int] = None,
+    log_room: Optional[int] = None,
+    formula_room: Optional[int] = None,
+) -> Reencoding:
+    r"""The log and the new formula of a formula in DIMACS CNF.
+
+    `form` is the form of the choices, 'counter' or 'order'; with `align` the literals of linked choices are put into
+    the same order. `work` (32-bit entries), `log_room` and `formula_room` (bytes) set the size of a buffer exactly.
+
+    Raises Refused with 1 to 9; with 11, 12 and 13 only where the size of that buffer is set.
+
+    >>> new = reencode(b"p cnf 6 6\n1 2 3 4 5 0\n-1 6 0\n-2 6 0\n-3 6 0\n-4 -6 0\n-5 -6 0\n", form="order")
+    >>> new.choices, new.highest, new.clauses, new.lines
+    (1, 10, 8, 60)
+    >>> new.formula.splitlines()[0]
+    b'p cnf 10 8'
+    """
+    text = _bytes(text)
+    form_number = _form_number(form)
+    arrangement = int(bool(align))
+    call: Callable[..., int] = _library().sirgholyn_reencode
+    workspace = _Buffer(ctypes.c_int32, work, 20 * min(_words(text), 60_000) + 2 * 20_000 + 6 * 8_000 + 8_192)
+    guess = min(len(text), 1 << 20)
+    log = _Buffer(ctypes.c_uint8, log_room, guess * 16 + (1 << 20))
+    formula = _Buffer(ctypes.c_uint8, formula_room, guess * 4 + (1 << 18))
+    tally = _zeros(ctypes.c_uint64, 6)
+    _call_until_it_fits(
+        lambda: call(
+            text,
+            len(text),
+            form_number,
+            arrangement,
+            workspace.elements,
+            len(workspace),
+            log.elements,
+            len(log),
+            formula.elements,
+            len(formula),
+            tally,
+            len(tally),
+        ),
+        {11: workspace, 12: log, 13: formula},
+    )
+    choices, highest, clauses, lines, log_bytes, formula_bytes = tally
+    return Reencoding(
+        log.first_bytes(log_bytes), formula.first_bytes(formula_bytes), choices, highest, clauses, lines
+    )
+
+
+def walk_back(
+    formula: Text,
+    log: Text,
+    answer: Text,
+    *,
+    kept: Optional[int] = None,
+    work: Optional[int] = None,
+    room: Optional[int] = None,
+) -> bytes:
+    r"""A solver's answer for the new formula, carried back to the formula: a line `v`, literals of 1..V, `0`, LF.
+
+    `answer` is what the solver printed. `kept` is how many lines of the log are kept, all where it is None. `work`
+    (32-bit entries) and `room` (bytes for the line) set the size of a buffer exactly.
+
+    Raises Refused with 1 to 9, 31 to 34, 41 to 44; with 11 and 14 only where the size of that buffer is set.
+
+    >>> log = b"2 3 0\nd 1 2 0\nd -1 3 0\nd 2 3 0\n"
+    >>> walk_back(b"p cnf 3 2\n1 2 0\n-1 3 0\n", log, b"s SATISFIABLE\nv 0\n")
+    b'v -1 2 -3 0\n'
+    """
+    formula, log, answer = _bytes(formula), _bytes(log), _bytes(answer)
+    # no log has more lines than Python's sizes count, and a larger number would not pass as it is
+    lines = _lines(log) if kept is None else min(_count(kept), sys.maxsize)
+    call: Callable[..., int] = _library().sirgholyn_walk_back
+    workspace = _Buffer(ctypes.c_int32, work, 4 * (_words(formula) + _words(log)) + 4 * 70_000 + 64)
+    line = _Buffer(ctypes.c_uint8, room, 1 << 16)
+    tally = _zeros(ctypes.c_uint64, 1)
+    _call_until_it_fits(
+        lambda: call(
+            formula,
+            len(formula),
+            log,
+            len(log),
+            lines,
+            answer,
+            len(answer),
+            workspace.elements,
+            len(workspace),
+            line.elements,
+            len(line),
+            tally,
+            len(tally),
+        ),
+        {11: workspace, 14: line},
+    )
+    return line.first_bytes(tally[0])
+
+
+def _lines(log: bytes) -> int:
+    """All lines of a log, a last one without LF included."""
+    return log.count(b"\n") + (not log.endswith(b"\n") and log != b"")
+
+
+def plan(line: Text) -> List[int]:
+    r"""The literals of a line as `walk_back` gives it.
+
+    >>> plan(b"v -1 2 -3 0\n")
+    [-1, 2, -3]
+    """
+    words = _bytes(line).split()
+    if words[:1] != [b"v"] or words[-1:] != [b"0"]:
+        raise ValueError("a plan is a line `v`, literals, `0`")
+    return [int(word) for word in words[1:-1]]
+
+
+class ReadBack(NamedTuple):
+    """The clauses of a new formula and its counts."""
+
+    clauses: List[List[int]]
+    variables: int  # V of the header
+    literals: int  # those of all clauses
+
+
+def read_back(text: Text, *, work: Optional[int] = None) -> ReadBack:
+    r"""The clauses of a new formula. `work` sets the 32-bit entries of the store exactly.
+
+    Raises Refused with 1 to 9; with 11 only where `work` is set.
+
+    >>> read_back(b"p cnf 3 2\n1 -2 0\n0\n")
+    ReadBack(clauses=[[1, -2], []], variables=3, literals=2)
+    """
+    text = _bytes(text)
+    call: Callable[..., int] = _library().sirgholyn_read_back
+    store = _Buffer(ctypes.c_int32, work, 20 * min(_words(text), 1_300_000) + 6 * 70_000 + 8_192)
+    tally = _zeros(ctypes.c_uint64, 3)
+    _call_until_it_fits(
+        lambda: call(text, len(text), store.elements, len(store), tally, len(tally)),
+        {11: store},
+    )
+    variables, clauses, literals = tally
+    entries = store.elements[: clauses + literals]
+    return ReadBack(_split(entries, clauses), variables, literals)
+
+
+def _split(entries: List[int], count: int) -> List[List[int]]:
+    """So many clauses, each of which stands as its length and its literals."""
+    clauses = []
+    at = 0
+    for _ in range(count):
+        after = at + 1 + entries[at]
+        clauses.append(entries[at + 1 : after])
+        at = after
+    return clauses
+
+
+# ---- solving
+
+
+class SolverFailed(RuntimeError):
+    """The solver cannot be run, or did not end as a solver does."""
+
+
+class Undecided(RuntimeError):
+    """The solver gave up, or the time was over."""
+
+
+def solve(
+    text: Text,
+    *,
+    form: str = "order",
+    align: bool = True,
+    solver: Optional[str] = None,
+    proof: Union[None, str, "os.PathLike[str]"] = None,
+    check: bool = True,
+    timeout: Optional[float] = None,
+) -> Optional[List[int]]:
+    r"""A plan for a formula in DIMACS CNF, as the literals of 1..V; None where there is no plan.
+
+    Runs the command `sirgholyn solve`, which reencodes, runs the solver, carries its answer back and tests it; the
+    plan is tested here once more. `solver` is another solver than cadical, with its own options. `proof` names a file
+    that gets a DRAT proof of the formula where there is no plan; `check` has the solver's proof checked. The solver
+    gets `timeout` seconds, rounded up.
+
+    Raises Refused, SolverFailed, Undecided, MemoryError, and RuntimeError for any other failure of the command.
+
+    >>> solve(b"p cnf 1 2\n1 0\n-1 0\n") is None
+    True
+    """
+    text = _bytes(text)
+    _form_number(form)
+    words = [_command(), "solve", "-", "--form", form, "--align" if align else "--no-align"]
+    if solver is not None:
+        words += ["--solver", solver]
+    if proof is not None:
+        words += ["--proof", os.path.abspath(os.fspath(proof))]
+    if not check:
+        words += ["--no-check"]
+    if timeout is not None:
+        words += ["--timeout", str(math.ceil(timeout))]
+    status, printed, said = _run(words, text)
+    lines = printed.split(b"\n")
+    if status == 20 and b"s UNSATISFIABLE" in lines:
+        return None
+    if status != 10 or b"s SATISFIABLE" not in lines:
+        raise _failure(status, said)
+    literals = plan(next((line for line in lines if line.startswith(b"v ")), b"v 0"))
+    if not _satisfies(text, literals):
+        raise RuntimeError("what the command printed is no plan for the formula")
+    return literals
+
+
+def _command() -> str:
+    return os.environ.get("SIRGHOLYN_COMMAND") or os.path.join(_ROOT, "sirgholyn")
+
+
+def _run(words: Sequence[str], text: bytes) -> Tuple[int, bytes, str]:
+    """The exit status, and what is printed on standard output and on standard error."""
+    pipe = subprocess.PIPE
+    with subprocess.Popen(words, stdin=pipe, stdout=pipe, stderr=pipe) as child:
+        try:
+            printed, said = child.communicate(text)
+        except BaseException:
+            # asked to end, and not killed, so that it can end its solver
+            child.terminate()
+            raise
+    return child.returncode, printed, said.decode(errors="replace").strip()
+
+
+def _failure(status: int, said: str) -> Exception:
+    """What is raised for a status that is no answer; the number of a refusal is the status."""
+    said = re.sub("^sirgholyn: ", "", said, flags=re.MULTILINE)
+    if status in _MEANINGS and re.search(rf"\brefused {status}\b", said):
+        return Refused(status, said)
+    said = said or f"the command ended with the status {status}"
+    if status == 69:
+        return SolverFailed(said)
+    if status == 71:
+        return MemoryError(said)
+    if status == 75:
+        return Undecided(said)
+    return RuntimeError(said)
+
+
+def _satisfies(text: bytes, literals: List[int]) -> bool:
+    """Whether each of 1..V is named once and every clause has a true literal, of a formula that was accepted."""
+    lines = text.split(b"\n")
+    header = next(index for index, line in enumerate(lines) if line.startswith(b"p"))
+    variables = int(lines[header].split()[2])
+    if sorted(abs(literal) for literal in literals) != list(range(1, variables + 1)):
+        return False
+    chosen = set(literals)
+    is_true = False
+    for word in b"\n".join(lines[header + 1 :]).split():
+        literal = int(word)
+        if literal == 0 and not is_true:
+            return False
+        is_true = literal != 0 and (is_true or literal in chosen)
+    return True

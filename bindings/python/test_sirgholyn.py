@@ -1,0 +1,574 @@
+"""Tests of sirgholyn.py: `python3 -B test_sirgholyn.py`, where the library is built. SIRGHOLYN_LIB and
+SIRGHOLYN_COMMAND may name another library and another command."""
+
+import ast
+import contextlib
+import ctypes
+import doctest
+import functools
+import io
+import os
+import pickle
+import re
+import signal
+import subprocess
+import sys
+import tempfile
+import threading
+import traceback
+import unittest
+from concurrent.futures import ThreadPoolExecutor
+from pathlib import Path
+from unittest import mock
+
+import sirgholyn
+from sirgholyn import Refused, SolverFailed, Undecided, plan, read_back, reencode, solve, walk_back
+
+HERE = Path(__file__).resolve().parent
+ROOT = HERE.parent.parent
+
+# the sessions of the specification
+A = b"p cnf 0 0"
+B = b"p cnf 0 1\n0\n"
+C = b"p cnf 1 2\n1 0\n-1 0\n"
+D = b"p cnf 2 2\n1 2 0\n-1 -2 0\n"
+E = b"p cnf 3 2\n1 2 0\n-1 3 0\n"
+F = b"p cnf 6 7\n1 2 3 4 5 0\n-1 -2 0\n-1 6 0\n-2 6 0\n-3 6 0\n-4 -6 0\n-5 -6 0\n"
+G = b"p cnf 10 8\n8 -7 0\n9 -8 0\n10 -9 0\n-7 6 0\n7 -8 6 0\n8 -9 6 0\n9 -10 -6 0\n10 -6 0\n"
+H_ANSWER = b"s SATISFIABLE\nv 1 2 3 4 5 -6 -7 -8 -9 10 0\n"
+H_LINE = b"v -1 -2 -3 4 -5 -6 0\n"
+
+ALL_FALSE = b"s SATISFIABLE\nv 0\n"
+
+
+def cnf(variables, clauses):
+    lines = [" ".join(map(str, [*clause, 0])) for clause in clauses]
+    return "\n".join([f"p cnf {variables} {len(clauses)}", *lines, ""]).encode()
+
+
+def clash_chain(clashes):
+    """A formula whose clashes give a log that is far longer than itself."""
+    own = clashes + 1
+    clauses = []
+    for link in range(1, own + 1):
+        clause = [clashes + 2 * link - 1, clashes + 2 * link]
+        clause += [-(link - 1)] if link > 1 else []
+        clause += [link] if link <= clashes else []
+        clauses.append(clause)
+    for literal in range(clashes + 1, clashes + 2 * own + 1):
+        clauses += [[-literal], [-literal]]
+    return cnf(clashes + 2 * own, clauses)
+
+
+class Case(unittest.TestCase):
+    def assert_refused(self, number, call, *args, **named):
+        with self.assertRaises(Refused) as caught:
+            call(*args, **named)
+        self.assertEqual(caught.exception.number, number)
+        return caught.exception
+
+
+class Sessions(Case):
+    def expect(self, text, log, formula):
+        for form in ("counter", "order"):
+            for align in (False, True):
+                new = reencode(text, form=form, align=align)
+                self.assertEqual((new.log, new.formula), (log, formula))
+                self.assertEqual(new.lines, log.count(b"\n"))
+                header = f"p cnf {new.highest} {new.clauses}\n".encode()
+                self.assertTrue(formula.startswith(header))
+                self.assertEqual(new.choices, 0)
+                back = read_back(new.formula)
+                self.assertEqual((back.variables, len(back.clauses)), (new.highest, new.clauses))
+
+    def test_a(self):
+        self.expect(A, b"", b"p cnf 0 0\n")
+        self.assertEqual(walk_back(A, b"", ALL_FALSE), b"v 0\n")
+        self.assertEqual(read_back(A), ([], 0, 0))
+
+    def test_b(self):
+        self.expect(B, b"", B)
+        self.assert_refused(44, walk_back, B, b"", ALL_FALSE)
+        self.assertEqual(read_back(B), ([[]], 0, 0))
+
+    def test_c(self):
+        self.expect(C, b"0\nd 1 0\nd -1 0\n", b"p cnf 1 1\n0\n")
+        self.assertEqual(read_back(C), ([[1], [-1]], 1, 2))
+
+    def test_d(self):
+        log = b"d 1 2 0\nd -1 -2 0\n"
+        self.expect(D, log, b"p cnf 2 0\n")
+        self.assertEqual(plan(walk_back(D, log, ALL_FALSE)), [1, -2])
+
+    def test_e(self):
+        log = b"2 3 0\nd 1 2 0\nd -1 3 0\nd 2 3 0\n"
+        self.expect(E, log, b"p cnf 3 0\n")
+        self.assertEqual(walk_back(E, log, b"s SATISFIABLE\nv -1 -2 -3 0\n"), b"v -1 2 -3 0\n")
+
+    def test_f(self):
+        new = reencode(F)
+        self.assertEqual(new[2:], (1, 10, 21, 36))
+        self.assertEqual(len(read_back(new.formula).clauses), 21)
+
+    def test_g_and_h(self):
+        new = reencode(F, form="order")
+        self.assertEqual(new[1:], (G, 1, 10, 8, 59))
+        self.assertEqual(read_back(G).clauses[4], [7, -8, 6])
+        self.assertEqual(read_back(G)[1:], (10, 19))
+        self.assertEqual(walk_back(F, new.log, H_ANSWER), H_LINE)
+        self.assertEqual(walk_back(F, new.log, H_ANSWER, kept=59), H_LINE)
+        self.assertEqual(walk_back(F, new.log, b"s SATISFIABLE\nv 4 0\n", kept=0), H_LINE)
+        self.assertEqual(plan(H_LINE), [-1, -2, -3, 4, -5, -6])
+
+    def test_alignment(self):
+        negated = [[-literal] for literal in range(1, 11) for _ in range(2)]
+        text = cnf(10, [[1, 2, 3, 4, 5], [6, 7, 8, 9, 10], [-1, -8], [-2, -6], *negated])
+        for form in ("counter", "order"):
+            self.assertIn(b"\nd 6 7 8 9 10 0\n", reencode(text, form=form).log)
+            self.assertIn(b"\nd 8 6 7 9 10 0\n", reencode(text, form=form, align=True).log)
+
+    def test_results_are_plain(self):
+        new = reencode(F)
+        self.assertEqual([type(part) for part in new], [bytes, bytes, int, int, int, int])
+        self.assertIs(type(walk_back(A, b"", ALL_FALSE)), bytes)
+
+
+class Refusals(Case):
+    def test_formula(self):
+        bodies = {5: b"1 1 0", 6: b"1 -1 0", 4: b"2 0", 3: b"-0", 7: b"1", 8: b"1 0 1 0"}
+        texts = {number: b"p cnf 1 1\n" + body + b"\n" for number, body in bodies.items()}
+        texts[1] = b"p  cnf 1 1\n1 0\n"
+        texts[2] = b"p cnf 8001 0\n"
+        texts[9] = cnf(2000, [list(range(1, 2001))] * 30 + [[1]])
+        for number, text in texts.items():
+            self.assert_refused(number, reencode, text)
+            self.assert_refused(number, walk_back, text, b"", ALL_FALSE)
+            if number not in (2, 9):
+                self.assert_refused(number, read_back, text)
+        self.assert_refused(2, read_back, b"p cnf 70001 0\n")
+        self.assert_refused(9, read_back, cnf(2000, [list(range(1, 2001))] * 500 + [[1]]))
+
+    def test_caller(self):
+        new = reencode(F)
+        work = 20 * 17 + 2 * 7 + 6 * 6 + 8_192
+        exact = dict(work=work, log_room=len(new.log), formula_room=len(new.formula))
+        self.assertEqual(reencode(F, **exact), new)
+        for number, name in ((11, "work"), (12, "log_room"), (13, "formula_room")):
+            self.assert_refused(number, reencode, F, **dict(exact, **{name: exact[name] - 1}))
+            self.assert_refused(number, reencode, F, **dict(exact, **{name: 0}))
+
+        new = reencode(F, form="order")
+        numbers = len(new.log.replace(b"d ", b"").split())
+        exact = dict(work=4 * (24 + numbers) + 4 * 10 + 64, room=len(H_LINE))
+        self.assertEqual(walk_back(F, new.log, H_ANSWER, **exact), H_LINE)
+        for number, name in ((11, "work"), (14, "room")):
+            short = dict(exact, **{name: exact[name] - 1})
+            self.assert_refused(number, walk_back, F, new.log, H_ANSWER, **short)
+
+        work = 20 * 19 + 2 * 8 + 6 * 10 + 8_192
+        self.assertEqual(read_back(G, work=work), read_back(G))
+        self.assert_refused(11, read_back, G, work=work - 1)
+
+    def test_log(self):
+        for log in (b"1  0\n", b"1 0", b"1 1 0\n", b"1 -1 0\n", b"70001 0\n", b"x"):
+            self.assert_refused(31, walk_back, A, log, ALL_FALSE)
+        self.assert_refused(32, walk_back, A, b"d 1 0\n", ALL_FALSE)
+        self.assert_refused(33, walk_back, b"p cnf 2 2\n1 0\n-1 2 0\n", b"d 1 0\nd -1 2 0\n", ALL_FALSE)
+        self.assert_refused(34, walk_back, A, b"1 0\n", ALL_FALSE, kept=2)
+        for many in (2**63, 2**64, 2**64 + 1, 10**30):
+            self.assert_refused(34, walk_back, A, b"1 0\n", ALL_FALSE, kept=many)
+
+    def test_answer(self):
+        for answer in (b"", b"s UNSATISFIABLE\n", b"s SATISFIABLE\nv 1 \n", b"v 0\n"):
+            self.assert_refused(41, walk_back, E, b"", answer)
+        self.assert_refused(42, walk_back, E, b"", b"s SATISFIABLE\nv 4 0\n")
+        self.assert_refused(43, walk_back, E, b"", b"s SATISFIABLE\nv 1 -1 0\n")
+        self.assert_refused(44, walk_back, E, b"", ALL_FALSE)
+
+    def test_what_a_refusal_tells(self):
+        refused = self.assert_refused(5, reencode, b"p cnf 1 1\n1 1 0\n")
+        self.assertIsInstance(refused, ValueError)
+        self.assertEqual(refused.meaning, "a literal is repeated in its clause")
+        self.assertEqual(refused.mender, "the formula's writer")
+        words = "refused 5: a literal is repeated in its clause; the formula's writer can mend it"
+        self.assertEqual(str(refused), words)
+        again = pickle.loads(pickle.dumps(refused))
+        self.assertEqual((type(again), again.number, str(again)), (Refused, 5, words))
+
+    def test_damaged_texts(self):
+        numbers = set()
+        for place in range(len(F)):
+            for put in (b"", F[place : place + 1] * 2, b"0", b"9", b"-", b" ", b"\n", b"\x00", b"\xff"):
+                try:
+                    new = reencode(F[:place] + put + F[place + 1 :], form="order")
+                    self.assertTrue(new.formula.startswith(b"p cnf "))
+                except Refused as refused:
+                    numbers.add(refused.number)
+        self.assertLessEqual({1, 3, 4, 5, 6, 7, 8}, numbers)
+        self.assertLessEqual(numbers, set(range(1, 10)))
+
+    def test_damaged_logs_and_answers(self):
+        new = reencode(F, form="order")
+        numbers = set()
+        for place in range(0, len(new.log), 3):
+            for log in (new.log[:place], new.log[:place] + b"7" + new.log[place:]):
+                try:
+                    self.assertTrue(sirgholyn._satisfies(F, plan(walk_back(F, log, H_ANSWER))))
+                except Refused as refused:
+                    numbers.add(refused.number)
+        self.assertLessEqual({31, 32, 44}, numbers)
+        for place in range(len(H_ANSWER)):
+            for answer in (H_ANSWER[:place], H_ANSWER[:place] + b"1" + H_ANSWER[place:]):
+                try:
+                    self.assertTrue(sirgholyn._satisfies(F, plan(walk_back(F, new.log, answer))))
+                except Refused as refused:
+                    numbers.add(refused.number)
+        self.assertLessEqual({41, 42, 43}, numbers)
+
+
+class Arguments(Case):
+    def test_str_is_its_utf8(self):
+        self.assertEqual(reencode(F.decode()), reencode(F))
+        self.assertEqual(walk_back(A.decode(), "", ALL_FALSE.decode()), b"v 0\n")
+        self.assertEqual(read_back(G.decode()), read_back(G))
+        self.assertEqual(plan(H_LINE.decode()), plan(H_LINE))
+        self.assertEqual(reencode("c Füchse im Tal\np cnf 0 0").formula, b"p cnf 0 0\n")
+
+    def test_not_ascii(self):
+        self.assert_refused(3, reencode, "p cnf 1 1\n¹ 0\n")
+        self.assert_refused(3, reencode, "p cnf 1 1\n１ 0\n")
+        self.assert_refused(1, reencode, "p cnf １ 0\n")
+        self.assert_refused(1, reencode, b"\xef\xbb\xbf" + A)
+        self.assert_refused(41, walk_back, A, b"", "s SATISFIABLE\nv\u00a00\n")
+        with self.assertRaises(ValueError):
+            reencode("p cnf 0 0\ud800")
+
+    def test_nul_bytes_are_bytes(self):
+        self.assertEqual(reencode(b"c \0 c\n" + A).formula, b"p cnf 0 0\n")
+        self.assert_refused(3, reencode, b"p cnf 1 1\n\0 1 0\n")
+
+    def test_wrong_types(self):
+        for text in (None, 1, bytearray(F), memoryview(F), [F], F.split()):
+            for call in (
+                lambda: reencode(text),
+                lambda: walk_back(text, b"", ALL_FALSE),
+                lambda: walk_back(A, text, ALL_FALSE),
+                lambda: walk_back(A, b"", text),
+                lambda: read_back(text),
+                lambda: plan(text),
+                lambda: solve(text),
+            ):
+                self.assertRaises(TypeError, call)
+        for size in ("1", 1.5, b"1", [1]):
+            self.assertRaises(TypeError, reencode, A, work=size)
+            self.assertRaises(TypeError, walk_back, A, b"", ALL_FALSE, kept=size)
+        self.assertRaises(TypeError, reencode, A, "order")
+        self.assertRaises(TypeError, solve, A, timeout="1")
+        self.assertRaises(TypeError, solve, A, proof=1)
+
+    def test_wrong_values(self):
+        for form in ("Order", "", None, 1):
+            self.assertRaises(ValueError, reencode, A, form=form)
+            self.assertRaises(ValueError, solve, A, form=form)
+        self.assertRaises(ValueError, reencode, A, work=-1)
+        self.assertRaises(ValueError, walk_back, A, b"", ALL_FALSE, kept=-1)
+        for line in (b"", b"v", b"v 1", b"1 0", b"v x 0"):
+            self.assertRaises(ValueError, plan, line)
+
+
+class Buffers(Case):
+    def test_growth(self):
+        text = clash_chain(400)
+        new = reencode(text)
+        self.assertGreater(len(new.log), 100 * len(text) // 2)
+        self.assert_refused(12, reencode, text, log_room=len(new.log) - 1)
+        self.assertEqual(reencode(text, log_room=len(new.log)), new)
+        self.assert_refused(44, walk_back, text, new.log, ALL_FALSE)
+
+    def test_each_buffer_grows(self):
+        new = reencode(F, form="order")
+        back = read_back(G)
+        start = sirgholyn._Buffer.__init__
+
+        def small(self, element, exact, guess):
+            start(self, element, exact, 1)
+
+        with mock.patch.object(sirgholyn._Buffer, "__init__", small):
+            self.assertEqual(reencode(F, form="order"), new)
+            self.assertEqual(walk_back(F, new.log, H_ANSWER), H_LINE)
+            self.assertEqual(read_back(G), back)
+            with mock.patch.object(sirgholyn, "_MOST_BYTES", 500):
+                self.assert_refused(11, reencode, F)
+                self.assert_refused(12, reencode, F, work=10_000)
+
+    def test_no_memory(self):
+        for size in (2**60, 2**62, 2**64, 10**30):
+            self.assertRaises(MemoryError, reencode, A, work=size)
+            self.assertRaises(MemoryError, walk_back, A, b"", ALL_FALSE, room=size)
+            self.assertRaises(MemoryError, read_back, A, work=size)
+
+
+class Threads(Case):
+    def test_four_at_once(self):
+        ways = [(form, align) for form in ("counter", "order") for align in (False, True)]
+        expected = [reencode(F, form=form, align=align) for form, align in ways]
+
+        def work(own):
+            form, align = ways[own]
+            for _ in range(50):
+                self.assertEqual(reencode(F, form=form, align=align), expected[own])
+                self.assert_refused(6, reencode, b"p cnf 1 1\n1 -1 0\n")
+            return own
+
+        with ThreadPoolExecutor(4) as pool:
+            self.assertEqual(list(pool.map(work, range(4))), [0, 1, 2, 3])
+
+    def test_from_a_small_stack(self):
+        """Walk-back takes more stack than this thread has; the size for other threads stays as it is."""
+        lines = []
+        log = reencode(F, form="order").log
+        before = threading.stack_size(256 << 10)
+        try:
+            thread = threading.Thread(target=lambda: lines.append(walk_back(F, log, H_ANSWER)))
+            thread.start()
+            thread.join()
+            self.assertEqual(threading.stack_size(), 256 << 10)
+        finally:
+            threading.stack_size(before)
+        self.assertEqual(lines, [H_LINE])
+
+    def test_a_call_that_raises(self):
+        def call():
+            raise KeyError("x")
+
+        self.assertRaises(KeyError, sirgholyn._on_large_stack, call)
+
+
+class Library(Case):
+    def test_declarations_are_those_of_the_header(self):
+        """Each parameter of the header's functions beside the ctypes that stand for it."""
+        known = {
+            "const uint8_t *": ctypes.c_char_p,
+            "uint8_t *": ctypes.POINTER(ctypes.c_uint8),
+            "int32_t *": ctypes.POINTER(ctypes.c_int32),
+            "uint64_t *": ctypes.POINTER(ctypes.c_uint64),
+            "size_t ": ctypes.c_size_t,
+            "uint32_t ": ctypes.c_uint32,
+        }
+        header = (ROOT / "host" / "include" / "sirgholyn.h").read_text()
+        declared = {
+            name: [known[re.sub(r"\w+$", "", parameter.strip())] for parameter in parameters.split(",")]
+            for name, parameters in re.findall(r"^uint32_t (sirgholyn_\w+)\(([^)]*)\);", header, re.MULTILINE)
+        }
+        self.assertEqual(len(declared), 3)
+        self.assertEqual(declared, sirgholyn._DECLARED)
+
+    def test_missing(self):
+        with tempfile.TemporaryDirectory() as folder:
+            environment = dict(os.environ, SIRGHOLYN_LIB=folder)
+            words = [sys.executable, "-B", "-c", "import sirgholyn; sirgholyn.reencode(b'p cnf 0 0')"]
+            ran = subprocess.run(words, cwd=HERE, env=environment, stderr=subprocess.PIPE)
+        self.assertEqual(ran.returncode, 1)
+        last = ran.stderr.decode().splitlines()[-1]
+        self.assertTrue(last.startswith(f"FileNotFoundError: there is no {folder}/libsirgholyn.so: "), last)
+        self.assertIn("`./sirgholyn --help`", last)
+        self.assertIn("`host/shared-library`", last)
+
+
+def needs(option):
+    """Marks a test of an option that not every command has yet."""
+
+    def marked(test):
+        @functools.wraps(test)
+        def run(self):
+            words = [sirgholyn._command(), "solve", "--help"]
+            told = subprocess.run(words, stdout=subprocess.PIPE, check=True).stdout
+            if option.encode() not in told:
+                self.skipTest(f"needs the option {option} of the command")
+            test(self)
+
+        return run
+
+    return marked
+
+
+class Solve(Case):
+    def setUp(self):
+        folder = tempfile.TemporaryDirectory()
+        self.addCleanup(folder.cleanup)
+        self.folder = Path(folder.name)
+
+    def script(self, body):
+        """A program that is a shell script."""
+        path = self.folder / "program"
+        path.write_text(f"#!/bin/sh\n{body}\n")
+        path.chmod(0o755)
+        return str(path)
+
+    def under(self, body):
+        """Has `solve` run a shell script in the place of the command."""
+        return mock.patch.dict(os.environ, SIRGHOLYN_COMMAND=self.script(body))
+
+    def assert_plan(self, text, literals):
+        formula = read_back(text)
+        self.assertEqual(sorted(map(abs, literals)), list(range(1, formula.variables + 1)))
+        for clause in formula.clauses:
+            self.assertTrue(set(clause) & set(literals), clause)
+
+    def test_plan(self):
+        text = (ROOT / "examples" / "valley.cnf").read_bytes()
+        self.assert_plan(text, solve(text))
+        self.assert_plan(text, solve(text.decode(), form="counter"))
+        self.assertEqual(solve(A), [])
+        self.assert_plan(E, solve(E))
+
+    @needs("--no-align")
+    def test_plan_without_alignment(self):
+        text = (ROOT / "examples" / "valley.cnf").read_bytes()
+        for form in ("counter", "order"):
+            self.assert_plan(text, solve(text, form=form, align=False))
+
+    def test_no_plan(self):
+        text = (ROOT / "examples" / "no_plan.cnf").read_bytes()
+        self.assertIsNone(solve(text))
+        self.assertIsNone(solve(B))
+        for proof in (self.folder / "no_plan.drat", str(self.folder / "-")):
+            self.assertIsNone(solve(text, proof=proof))
+            lines = Path(proof).read_bytes().split(b"\n")
+            self.assertTrue(all(line.endswith(b"0") for line in lines[:-1]) and lines[-1] == b"")
+            log = reencode(text, form="order", align=True).log
+            self.assertTrue(Path(proof).read_bytes().startswith(log))
+        self.assertEqual(sorted(os.listdir(self.folder)), ["-", "no_plan.drat"])
+
+    @needs("--no-check")
+    def test_no_plan_without_check(self):
+        text = (ROOT / "examples" / "no_plan.cnf").read_bytes()
+        self.assertIsNone(solve(text, check=False))
+        liar = self.script("echo s UNSATISFIABLE; exit 20")
+        self.assertIsNone(solve(E, solver=liar, check=False))
+
+    @needs("--no-check")
+    def test_a_liar_is_not_believed(self):
+        liar = self.script("echo s UNSATISFIABLE; exit 20")
+        self.assertRaises(SolverFailed, solve, E, solver=liar)
+
+    @needs("--timeout")
+    def test_timeout(self):
+        slow = self.script("sleep 60")
+        self.assertRaises(Undecided, solve, E, solver=slow, timeout=0.1)
+
+    @needs("--timeout")
+    def test_a_solver_that_gives_up(self):
+        self.assertRaises(Undecided, solve, E, solver=self.script("echo s UNKNOWN"))
+
+    def test_another_solver(self):
+        answer = H_ANSWER.decode().replace("\n", "\\n")
+        self.assertEqual(solve(F, solver=self.script(f"printf '{answer}'; exit 10")), plan(H_LINE))
+
+    def test_solver_that_fails(self):
+        for body, said in (("exit 3", "status 3"), ("kill -9 $$", "signal 9"), ("exit 20", "20")):
+            with self.assertRaisesRegex(SolverFailed, said):
+                solve(E, solver=self.script(body))
+        with self.assertRaisesRegex(SolverFailed, "cannot be run"):
+            solve(E, solver=str(self.folder / "none"))
+        self.assert_refused(43, solve, E, solver=self.script(r"printf 's SATISFIABLE\nv 1 1 0\n'"))
+        wrong = self.script(r"printf 's SATISFIABLE\nv 8 -10 0\n'")
+        self.assert_refused(44, solve, F, solver=wrong)
+
+    def test_refused_formula(self):
+        for text, number in ((b"", 1), (b"p cnf 1 1\n1 -1 0\n", 6), (b"p cnf 1 1\n1", 7)):
+            refused = self.assert_refused(number, solve, text)
+            self.assertIn(f"refused {number}: {refused.meaning}", str(refused))
+            self.assertNotIn("sirgholyn: ", str(refused))
+
+    def test_words_of_the_command(self):
+        words = self.folder / "words"
+        with self.under(f"cat >'{words}.in'; for w; do echo \"$w\"; done >'{words}'; echo s UNSATISFIABLE; exit 20"):
+            self.assertIsNone(solve(E))
+            self.assertEqual(words.read_text().split("\n"), ["solve", "-", "--form", "order", "--align", ""])
+            self.assertEqual(Path(f"{words}.in").read_bytes(), E)
+            solve(E, form="counter", align=False, solver="a b", proof="x", check=False, timeout=1.5)
+            expected = ["solve", "-", "--form", "counter", "--no-align", "--solver", "a b"]
+            expected += ["--proof", os.path.abspath("x"), "--no-check", "--timeout", "2", ""]
+            self.assertEqual(words.read_text().split("\n"), expected)
+
+    def test_statuses_of_the_command(self):
+        statuses = {64: RuntimeError, 69: SolverFailed, 70: RuntimeError, 71: MemoryError, 75: Undecided}
+        for status, kind in statuses.items():
+            with self.under(f"echo 'sirgholyn: so it is' >&2; exit {status}"):
+                with self.assertRaises(kind) as caught:
+                    solve(E)
+            self.assertIs(type(caught.exception), kind)
+            self.assertEqual(str(caught.exception), "so it is")
+        # a number without its words, and what is said without the number
+        for body in ("exit 5", "echo refused 5 >&2; exit 6", "exit 10", "exit 20", "exit 0", "kill -9 $$"):
+            with self.under(body), self.assertRaises(RuntimeError) as caught:
+                solve(E)
+            self.assertIs(type(caught.exception), RuntimeError)
+        with mock.patch.dict(os.environ, SIRGHOLYN_COMMAND=str(self.folder / "none")):
+            self.assertRaises(FileNotFoundError, solve, E)
+
+    def test_interrupted(self):
+        """The command is asked to end, and has ended when `solve` raises."""
+
+        class Stop(Exception):
+            pass
+
+        def stop(_, frame):
+            inside = {above.f_code.co_name for above, _ in traceback.walk_stack(frame)}
+            if ready.exists() and "communicate" in inside:
+                signal.setitimer(signal.ITIMER_REAL, 0)
+                raise Stop
+
+        ready, ended = self.folder / "ready", self.folder / "ended"
+        before = signal.signal(signal.SIGALRM, stop)
+        self.addCleanup(signal.signal, signal.SIGALRM, before)
+        with self.under(f"trap 'kill $!; echo >{ended}; exit 1' TERM; sleep 60 & echo >{ready}; wait"):
+            signal.setitimer(signal.ITIMER_REAL, 0.1, 0.1)
+            self.assertRaises(Stop, solve, E)
+        self.assertTrue(ended.exists())
+
+    def test_a_plan_is_tested_again(self):
+        self.assertTrue(sirgholyn._satisfies(b"c p\np cnf 2 1\r\n1\t2 0", [-1, 2]))
+        for line in ("v -1 -2 -3 0", "v 1 2 0", "v 1 2 3 4 0", "v 1 2 3 3 0", "v 0", ""):
+            with self.under(f"echo s SATISFIABLE; echo {line}; exit 10"):
+                with self.assertRaisesRegex(RuntimeError, "no plan for the formula"):
+                    solve(E)
+
+
+class Texts(Case):
+    def test_doctest(self):
+        failed, tried = doctest.testmod(sirgholyn)
+        self.assertEqual(failed, 0)
+        self.assertGreater(tried, 8)
+
+    def test_every_function_has_an_example(self):
+        for name in ("plan", "read_back", "reencode", "solve", "walk_back"):
+            self.assertIn(">>> ", getattr(sirgholyn, name).__doc__)
+
+    def test_readme(self):
+        """The README's script is run; its traps hold one lure each, those in range different ones."""
+        script = re.search(r"```python\n(.*?)```", (HERE / "README.md").read_text(), re.DOTALL).group(1)
+        names = {"__name__": "__main__"}
+        printed = io.StringIO()
+        with tempfile.TemporaryDirectory() as folder, contextlib.redirect_stdout(printed):
+            before = os.getcwd()
+            os.chdir(folder)
+            try:
+                exec(script, names)
+                self.assertEqual(os.listdir(folder), [])
+            finally:
+                os.chdir(before)
+        held = dict(line.split(" ") for line in printed.getvalue().splitlines())
+        self.assertEqual(list(held), names["traps"])
+        self.assertLessEqual(set(held.values()), set(names["lures"]))
+        for one, other in names["in_range"]:
+            self.assertNotEqual(held[one], held[other])
+
+    def test_syntax_of_python_3_8(self):
+        for name in ("sirgholyn.py", "test_sirgholyn.py"):
+            ast.parse((HERE / name).read_text(), feature_version=(3, 8))
+
+
+if __name__ == "__main__":
+    unittest.main()

@@ -1,0 +1,252 @@
+/* The header's calls from C: sessions F to H, refusals, the workspace rules and the limits. Prints
+ * each expectation that fails; the exit status is 1 if any does. */
+#define _POSIX_C_SOURCE 200112L
+
+#include "sirgholyn.h"
+
+#include <pthread.h>
+#include <stdio.h>
+#include <stdlib.h>
+#include <string.h>
+
+/* session F has 17 literals, 7 clauses and 6 variables */
+static const char F[] = "p cnf 6 7\n1 2 3 4 5 0\n-1 -2 0\n-1 6 0\n-2 6 0\n-3 6 0\n-4 -6 0\n-5 -6 0\n";
+static const char G[] =
+    "p cnf 10 8\n8 -7 0\n9 -8 0\n10 -9 0\n-7 6 0\n7 -8 6 0\n8 -9 6 0\n9 -10 -6 0\n10 -6 0\n";
+static const char H_ANSWER[] = "s SATISFIABLE\nv 1 2 3 4 5 -6 -7 -8 -9 10 0\n";
+static const char H_LINE[] = "v -1 -2 -3 4 -5 -6 0\n";
+
+enum {
+    F_WORK = SIRGHOLYN_WORK(17, 7, 6),
+    LOG_ROOM = 600,
+    FORMULA_ROOM = 100,
+    LINE_ROOM = 30,
+    PATTERN = 0xA5
+};
+
+static int32_t work[SIRGHOLYN_WORK(
+    SIRGHOLYN_MOST_NEW_LITERALS, SIRGHOLYN_MOST_NEW_CLAUSES, SIRGHOLYN_MOST_NEW_VARIABLES)];
+static const size_t work_len = sizeof work / sizeof *work;
+static uint8_t new_log[LOG_ROOM], new_formula[FORMULA_ROOM], line[LINE_ROOM];
+static uint64_t tally[SIRGHOLYN_REENCODE_COUNTS];
+static int failures = 0;
+
+#define EXPECT(holds) expect((holds), #holds, __LINE__)
+
+static void expect(int holds, const char *what, int at)
+{
+    if (!holds) {
+        printf("sessions.c:%d: %s\n", at, what);
+        failures++;
+    }
+}
+
+static const uint8_t *bytes(const char *text)
+{
+    return (const uint8_t *)text;
+}
+
+/* whether all bytes from the first on are the same */
+static int all(const void *buffer, size_t first, size_t size, int byte)
+{
+    const uint8_t *at = buffer;
+    size_t i;
+    for (i = first; i < size; i++) {
+        if (at[i] != byte) {
+            return 0;
+        }
+    }
+    return 1;
+}
+
+/* the numbers of a log's lines, zeros counted */
+static size_t numbers(const uint8_t *log, size_t size)
+{
+    size_t count = 0;
+    size_t i;
+    for (i = 0; i < size; i++) {
+        int ends = log[i] == ' ' || log[i] == '\n';
+        count += ends && log[i - 1] != 'd';
+    }
+    return count;
+}
+
+static uint32_t reencode(const char *text, size_t entries, size_t log_len, size_t formula_len)
+{
+    memset(new_log, PATTERN, sizeof new_log);
+    memset(new_formula, PATTERN, sizeof new_formula);
+    memset(tally, PATTERN, sizeof tally);
+    return sirgholyn_reencode(
+        bytes(text), strlen(text), SIRGHOLYN_ORDER, SIRGHOLYN_AS_LISTED, work, entries,
+        new_log, log_len, new_formula, formula_len, tally, SIRGHOLYN_REENCODE_COUNTS);
+}
+
+/* walks back over session F's log, which stands in new_log */
+static uint32_t walk_back(
+    size_t log_len, size_t kept, const char *answer, size_t entries, size_t line_len)
+{
+    memset(line, PATTERN, sizeof line);
+    memset(tally, PATTERN, sizeof tally);
+    return sirgholyn_walk_back(
+        bytes(F), strlen(F), new_log, log_len, kept, bytes(answer), strlen(answer), work, entries,
+        line, line_len, tally, SIRGHOLYN_WALK_BACK_COUNTS);
+}
+
+static uint32_t read_back(const char *text, size_t entries)
+{
+    memset(work, PATTERN, 64 * sizeof *work);
+    memset(tally, PATTERN, sizeof tally);
+    return sirgholyn_read_back(
+        bytes(text), strlen(text), work, entries, tally, SIRGHOLYN_READ_BACK_COUNTS);
+}
+
+static void sessions(void)
+{
+    static const int32_t first_entries[] = {2, 8, -7, 2, 9, -8, 2, 10, -9, 2, -7, 6, 3, 7, -8, 6};
+    size_t log_len;
+
+    EXPECT(reencode(F, F_WORK, LOG_ROOM, FORMULA_ROOM) == SIRGHOLYN_DONE);
+    EXPECT(tally[SIRGHOLYN_REENCODE_CHOICES] == 1);
+    EXPECT(tally[SIRGHOLYN_REENCODE_HIGHEST] == 10);
+    EXPECT(tally[SIRGHOLYN_REENCODE_CLAUSES] == 8);
+    EXPECT(tally[SIRGHOLYN_REENCODE_LINES] == 59);
+    EXPECT(tally[SIRGHOLYN_REENCODE_FORMULA_BYTES] == strlen(G));
+    EXPECT(memcmp(new_formula, G, strlen(G)) == 0);
+    EXPECT(all(new_formula, strlen(G), sizeof new_formula, PATTERN));
+    log_len = tally[SIRGHOLYN_REENCODE_LOG_BYTES];
+    EXPECT(log_len < LOG_ROOM && all(new_log, log_len, sizeof new_log, PATTERN));
+
+    EXPECT(walk_back(log_len, 59, H_ANSWER, work_len, LINE_ROOM) == SIRGHOLYN_DONE);
+    EXPECT(tally[SIRGHOLYN_WALK_BACK_BYTES] == strlen(H_LINE));
+    EXPECT(memcmp(line, H_LINE, strlen(H_LINE)) == 0);
+    EXPECT(all(line, strlen(H_LINE), sizeof line, PATTERN));
+    EXPECT(all(tally, sizeof *tally, sizeof tally, PATTERN));
+
+    EXPECT(read_back(G, work_len) == SIRGHOLYN_DONE);
+    EXPECT(tally[SIRGHOLYN_READ_BACK_VARIABLES] == 10);
+    EXPECT(tally[SIRGHOLYN_READ_BACK_CLAUSES] == 8);
+    EXPECT(tally[SIRGHOLYN_READ_BACK_LITERALS] == 19);
+    EXPECT(memcmp(work, first_entries, sizeof first_entries) == 0);
+    EXPECT(all(work, (8 + 19) * sizeof *work, 64 * sizeof *work, PATTERN));
+}
+
+/* a tally takes as many counts as fit */
+static void short_tally(void)
+{
+    memset(tally, PATTERN, sizeof tally);
+    EXPECT(sirgholyn_read_back(bytes(G), strlen(G), work, work_len, tally, 2) == SIRGHOLYN_DONE);
+    EXPECT(tally[0] == 10 && tally[1] == 8);
+    EXPECT(all(tally, 2 * sizeof *tally, sizeof tally, PATTERN));
+}
+
+static void zero_after_refusals(void)
+{
+    size_t log_len;
+
+    EXPECT(reencode("p cnf 1 1\n1 -1 0\n", work_len, LOG_ROOM, FORMULA_ROOM)
+           == SIRGHOLYN_LITERAL_OPPOSED);
+    EXPECT(all(new_log, 0, sizeof new_log, 0));
+    EXPECT(all(new_formula, 0, sizeof new_formula, 0));
+    EXPECT(all(tally, 0, sizeof tally, 0));
+    EXPECT(reencode(F, F_WORK, 9, FORMULA_ROOM) == SIRGHOLYN_LOG_SHORT);
+    EXPECT(all(new_log, 0, 9, 0) && all(new_log, 9, sizeof new_log, PATTERN));
+    EXPECT(reencode(F, F_WORK, LOG_ROOM, 9) == SIRGHOLYN_FORMULA_SHORT);
+    EXPECT(all(new_log, 0, sizeof new_log, 0) && all(new_formula, 0, 9, 0));
+
+    EXPECT(reencode(F, F_WORK, LOG_ROOM, FORMULA_ROOM) == SIRGHOLYN_DONE);
+    log_len = tally[SIRGHOLYN_REENCODE_LOG_BYTES];
+    EXPECT(walk_back(log_len, 59, "s SATISFIABLE\nv 8 -10 0\n", work_len, LINE_ROOM)
+           == SIRGHOLYN_STANDING_CLAUSE_FALSE);
+    EXPECT(all(line, 0, sizeof line, 0) && tally[0] == 0);
+    EXPECT(walk_back(log_len, 60, H_ANSWER, work_len, LINE_ROOM) == SIRGHOLYN_FEWER_LINES);
+    EXPECT(walk_back(log_len, 59, H_ANSWER, work_len, 9) == SIRGHOLYN_LINE_SHORT);
+    EXPECT(all(line, 0, 9, 0) && all(line, 9, sizeof line, PATTERN));
+
+    EXPECT(read_back("p cnf 1 1\n2 0\n", 64) == SIRGHOLYN_VARIABLE_ABOVE_V);
+    EXPECT(all(work, 0, 64 * sizeof *work, 0) && all(tally, 0, 3 * sizeof *tally, 0));
+}
+
+/* what the rules say is enough, and one entry fewer is not */
+static void workspace_rules(void)
+{
+    size_t log_len, enough;
+
+    EXPECT(reencode(F, F_WORK - 1, LOG_ROOM, FORMULA_ROOM) == SIRGHOLYN_WORK_SHORT);
+    EXPECT(reencode(F, F_WORK, LOG_ROOM, FORMULA_ROOM) == SIRGHOLYN_DONE);
+    log_len = tally[SIRGHOLYN_REENCODE_LOG_BYTES];
+    enough = SIRGHOLYN_WALK_BACK_WORK(17 + 7, numbers(new_log, log_len), 10);
+    EXPECT(walk_back(log_len, 59, H_ANSWER, enough - 1, LINE_ROOM) == SIRGHOLYN_WORK_SHORT);
+    EXPECT(walk_back(log_len, 59, H_ANSWER, enough, LINE_ROOM) == SIRGHOLYN_DONE);
+    enough = SIRGHOLYN_WORK(19, 8, 10);
+    EXPECT(read_back(G, enough - 1) == SIRGHOLYN_WORK_SHORT);
+    EXPECT(read_back(G, enough) == SIRGHOLYN_DONE);
+}
+
+static uint32_t header_only(int new, unsigned variables, unsigned clauses)
+{
+    char text[64];
+    sprintf(text, "p cnf %u %u\n", variables, clauses);
+    return new ? read_back(text, work_len) : reencode(text, work_len, LOG_ROOM, FORMULA_ROOM);
+}
+
+/* a formula of so many literals, in clauses of up to 1000 */
+static uint32_t literals_only(int new, unsigned literals)
+{
+    size_t size = 64 + 6 * (size_t)literals;
+    char *text = malloc(size);
+    char *at = text;
+    unsigned i;
+    uint32_t number;
+
+    at += sprintf(at, "p cnf 1000 %u\n", (literals + 999) / 1000);
+    for (i = 0; i < literals; i++) {
+        at += sprintf(at, "%u%s", i % 1000 + 1, i % 1000 == 999 || i + 1 == literals ? " 0\n" : " ");
+    }
+    number = new ? read_back(text, work_len) : reencode(text, work_len, LOG_ROOM, FORMULA_ROOM);
+    free(text);
+    return number;
+}
+
+/* a limit passes the tests of the header, which are the first; one past it does not */
+static void limits(void)
+{
+    EXPECT(header_only(0, SIRGHOLYN_MOST_VARIABLES, 0) == SIRGHOLYN_DONE);
+    EXPECT(header_only(0, SIRGHOLYN_MOST_VARIABLES + 1, 0) == SIRGHOLYN_HEADER_TOO_LARGE);
+    EXPECT(header_only(0, 0, SIRGHOLYN_MOST_CLAUSES) == SIRGHOLYN_NOT_C_CLAUSES);
+    EXPECT(header_only(0, 0, SIRGHOLYN_MOST_CLAUSES + 1) == SIRGHOLYN_HEADER_TOO_LARGE);
+    EXPECT(literals_only(0, SIRGHOLYN_MOST_LITERALS) == SIRGHOLYN_FORMULA_SHORT);
+    EXPECT(literals_only(0, SIRGHOLYN_MOST_LITERALS + 1) == SIRGHOLYN_TOO_MANY_LITERALS);
+
+    EXPECT(header_only(1, SIRGHOLYN_MOST_NEW_VARIABLES, 0) == SIRGHOLYN_DONE);
+    EXPECT(header_only(1, SIRGHOLYN_MOST_NEW_VARIABLES + 1, 0) == SIRGHOLYN_HEADER_TOO_LARGE);
+    EXPECT(header_only(1, 0, SIRGHOLYN_MOST_NEW_CLAUSES) == SIRGHOLYN_NOT_C_CLAUSES);
+    EXPECT(header_only(1, 0, SIRGHOLYN_MOST_NEW_CLAUSES + 1) == SIRGHOLYN_HEADER_TOO_LARGE);
+    EXPECT(literals_only(1, SIRGHOLYN_MOST_NEW_LITERALS) == SIRGHOLYN_DONE);
+    EXPECT(literals_only(1, SIRGHOLYN_MOST_NEW_LITERALS + 1) == SIRGHOLYN_TOO_MANY_LITERALS);
+}
+
+static void *run(void *unused)
+{
+    sessions();
+    short_tally();
+    zero_after_refusals();
+    workspace_rules();
+    limits();
+    return unused;
+}
+
+/* on a thread with half the stack that the header asks for, so that it asks for enough */
+int main(void)
+{
+    pthread_attr_t attributes;
+    pthread_t thread;
+
+    if (pthread_attr_init(&attributes) != 0
+        || pthread_attr_setstacksize(&attributes, SIRGHOLYN_STACK_BYTES / 2) != 0
+        || pthread_create(&thread, &attributes, run, NULL) != 0
+        || pthread_join(thread, NULL) != 0) {
+        printf("the thread cannot be run\n");
+        return 1;
+    }
+    return failures == 0 ? 0 : 1;
+}

@@ -130,10 +130,7 @@ def _library() -> ctypes.CDLL:
     folder = os.environ.get("SIRGHOLYN_LIB") or os.path.join(_ROOT, "target", "staticlib")
     path = os.path.join(folder, "libsirgholyn.so")
     if not os.path.exists(path):
-        raise FileNotFoundError(
-            f"there is no {path}: run `./sirgholyn --help`, which builds the static library where it is missing, "
-            f"and then `host/shared-library` in {_ROOT}"
-        )
+        raise FileNotFoundError(f"there is no {path}: `host/shared-library` in {_ROOT} builds it")
     library = ctypes.CDLL(path)
     for name, arguments in _DECLARED.items():
         function = getattr(library, name)
@@ -242,6 +239,11 @@ def _form_number(form: str) -> int:
     return int(form == "order")
 
 
+def _reading_workspace(text: bytes, literals: int, clauses: int, variables: int) -> int:
+    """At least as many entries as the rule for reading asks for, under these limits."""
+    return 20 * min(_words(text), literals) + 2 * clauses + 6 * variables + 8_192
+
+
 def _words(text: bytes) -> int:
     """At least as many as the text has words."""
     return 1 + sum(text.count(separator) for separator in (b" ", b"\t", b"\r", b"\n"))
@@ -287,7 +289,7 @@ def reencode(
     form_number = _form_number(form)
     arrangement = int(bool(align))
     call: Callable[..., int] = _library().sirgholyn_reencode
-    workspace = _Buffer(ctypes.c_int32, work, 20 * min(_words(text), 60_000) + 2 * 20_000 + 6 * 8_000 + 8_192)
+    workspace = _Buffer(ctypes.c_int32, work, _reading_workspace(text, 60_000, 20_000, 8_000))
     guess = min(len(text), 1 << 20)
     log = _Buffer(ctypes.c_uint8, log_room, guess * 16 + (1 << 20))
     formula = _Buffer(ctypes.c_uint8, formula_room, guess * 4 + (1 << 18))
@@ -398,7 +400,7 @@ def read_back(text: Text, *, work: Optional[int] = None) -> ReadBack:
     """
     text = _bytes(text)
     call: Callable[..., int] = _library().sirgholyn_read_back
-    store = _Buffer(ctypes.c_int32, work, 20 * min(_words(text), 1_300_000) + 6 * 70_000 + 8_192)
+    store = _Buffer(ctypes.c_int32, work, _reading_workspace(text, 1_000_000, 300_000, 70_000))
     tally = _zeros(ctypes.c_uint64, 3)
     _call_until_it_fits(
         lambda: call(text, len(text), store.elements, len(store), tally, len(tally)),
@@ -444,9 +446,9 @@ def solve(
     r"""A plan for a formula in DIMACS CNF, as the literals of 1..V; None where there is no plan.
 
     Runs the command `sirgholyn solve`, which reencodes, runs the solver, carries its answer back and tests it; the
-    plan is tested here once more. `solver` is another solver than cadical, with its own options. `proof` names a file
-    that gets a DRAT proof of the formula where there is no plan; `check` has the solver's proof checked. The solver
-    gets `timeout` seconds, rounded up.
+    plan is tested here once more. `solver` is another solver than cadical, with its own options. That there is no plan
+    is believed where the solver's proof holds; without `check` it is the solver's word. `proof` names a file that gets
+    the DRAT proof of the formula. The solver gets `timeout` seconds, rounded up.
 
     Raises Refused, SolverFailed, Undecided, MemoryError, and RuntimeError for any other failure of the command.
 
@@ -460,8 +462,9 @@ def solve(
         words += ["--solver", solver]
     if proof is not None:
         words += ["--proof", os.path.abspath(os.fspath(proof))]
-    if not check:
-        words += ["--no-check"]
+        words += [] if check else ["--no-check"]
+    elif check:
+        words += ["--proof", os.devnull]
     if timeout is not None:
         words += ["--timeout", str(math.ceil(timeout))]
     status, printed, said = _run(words, text)

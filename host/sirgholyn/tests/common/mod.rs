@@ -1,7 +1,6 @@
 //! What the tests share: each call beside the model's, on buffers filled with a pattern first.
 #![allow(dead_code)]
 
-pub mod drat;
 pub mod formulas;
 pub mod solvers;
 

@@ -216,6 +216,11 @@ fn lines_are_shown() {
         error.to_string(),
         "line 3: the deleted clause does not stand: `d 3 0`"
     );
+    let error = check(FOUR.as_bytes(), &b"2 0\n"[..], &mut |_| {}).unwrap_err();
+    assert_eq!(
+        error.to_string(),
+        "line 1: the proof ends without the empty clause"
+    );
 }
 
 #[test]

@@ -1,8 +1,9 @@
 //! A DRAT checker, which shares nothing with the proved library.
 //!
-//! [`check`] reads a proof line by line and keeps the standing clauses only. Each added clause has to follow
-//! from them by unit propagation, or its resolvents on its first literal have to; each deleted clause has to
-//! stand; and a line has to be the empty clause. All deletions are done, those of unit clauses too.
+//! [`check`] reads a proof line by line and keeps the standing clauses only: memory is a matter of how many
+//! stand at once. Each added clause has to follow from them by unit propagation, or its resolvents on its
+//! first literal have to; each deleted clause has to stand; and a line has to be the empty clause. All
+//! deletions are done, those of unit clauses too.
 
 mod checker;
 mod clauses;
@@ -61,6 +62,9 @@ pub enum Error {
 impl fmt::Display for Error {
     fn fmt(&self, to: &mut fmt::Formatter) -> fmt::Result {
         match self {
+            Error::Faulty { line, fault, text } if text.is_empty() => {
+                write!(to, "line {line}: {fault}")
+            }
             Error::Faulty { line, fault, text } => write!(to, "line {line}: {fault}: `{text}`"),
             Error::Unreadable(error) => error.fmt(to),
         }
@@ -80,7 +84,7 @@ impl From<io::Error> for Error {
 pub struct Checked {
     pub lines: u64,
     pub deletions: u64,
-    /// Added clauses that do not follow by propagation, or have no resolvent.
+    /// Added clauses that have no resolvents, or follow by them only.
     pub by_resolvents: u64,
 }
 
@@ -138,12 +142,13 @@ fn checker_of(formula: &[u8]) -> io::Result<Checker> {
     Ok(checker)
 }
 
-fn test_room(checker: &Checker, literals: usize) -> io::Result<()> {
-    let why = "more clauses stand than the checker has room for";
-    match checker.has_room(literals) {
-        true => Ok(()),
-        false => Err(io::Error::new(io::ErrorKind::OutOfMemory, why)),
+/// That a clause of at most so many literals has room.
+fn test_room(checker: &Checker, most_literals: usize) -> io::Result<()> {
+    if checker.has_room(most_literals) {
+        return Ok(());
     }
+    let why = "more clauses stand than the checker has room for";
+    Err(io::Error::new(io::ErrorKind::OutOfMemory, why))
 }
 
 /// Does what the line says, if it may be done.
@@ -156,14 +161,14 @@ fn take_line(
     let line = lines.line().ok_or(Fault::Layout)?;
     if line.is_deletion {
         checked.deletions += 1;
-        return match checker.delete(line.literals) {
-            true => Ok(()),
-            false => Err(Fault::NotStanding),
-        };
+        let stood = checker.delete(line.literals);
+        return stood.then_some(()).ok_or(Fault::NotStanding);
     }
     let ground = checker.add_if_follows(line.literals, &mut || progress(checked.lines));
-    let ground = ground.ok_or(Fault::DoesNotFollow)?;
-    checked.by_resolvents += u64::from(ground == Ground::Resolvents);
+    match ground.ok_or(Fault::DoesNotFollow)? {
+        Ground::Propagation => {}
+        Ground::Resolvents => checked.by_resolvents += 1,
+    }
     Ok(())
 }
 

@@ -388,43 +388,31 @@ struct Pair {
 impl Pair {
     /// Adds a clause if it follows, or all the same if `anyway`.
     fn add(&mut self, clause: Vec<i32>, anyway: bool, cases: &mut Cases) {
-        let mut count = |case| *cases.entry(case).or_default() += 1;
-        let expected = self.plain.ground(&clause);
-        let found = self.fast.ground(&clause);
-        assert_eq!(
-            found.is_some(),
-            expected.is_some(),
-            "{clause:?} to {:?}",
-            self.plain.clauses
-        );
-        match (expected, found) {
-            (Some(Ground::Propagation), Some(Ground::Resolvents)) => {
-                assert!(!self.plain.has_resolvents(&clause));
-                count("follows, and has no resolvents");
-            }
-            (Some(Ground::Propagation), _) => count("follows by propagation"),
-            (Some(Ground::Resolvents), found) => {
-                assert_eq!(found, Some(Ground::Resolvents));
-                let has_resolvents = self.plain.has_resolvents(&clause);
-                count(if has_resolvents {
-                    "follows by resolvents only"
-                } else {
-                    "has no resolvents"
-                });
-            }
-            (None, _) => count("does not follow"),
-        }
-        if expected.is_some() || anyway {
-            count(match as_set(&clause).len() {
-                0 => "empty clause",
-                1 => "unit clause",
-                size if size < clause.len() => "repeated literal",
-                _ if clause.iter().any(|&literal| clause.contains(&-literal)) => "opposed literals",
-                _ => "clause",
-            });
+        let ground = self.plain.ground(&clause);
+        let case = self.case_of(&clause, ground);
+        *cases.entry(case).or_default() += 1;
+        if ground.is_some() || anyway {
+            *cases.entry(kind_of(&clause)).or_default() += 1;
             self.fast.add(&clause);
             self.plain.clauses.push(clause);
         }
+    }
+
+    /// The ground that the fast checker finds is the plain one's. Where there are no resolvents it does not
+    /// try to propagate.
+    fn case_of(&mut self, clause: &[i32], ground: Option<Ground>) -> &'static str {
+        let has_resolvents = clause.is_empty() || self.plain.has_resolvents(clause);
+        let (case, expected) = match (ground, has_resolvents) {
+            (Some(Ground::Propagation), true) => ("follows by propagation", ground),
+            (Some(Ground::Resolvents), true) => ("follows by resolvents only", ground),
+            (Some(_), false) => ("has no resolvents", Some(Ground::Resolvents)),
+            (None, _) => ("does not follow", None),
+        };
+        let under_conflict = self.plain.closure(BTreeSet::new()).is_none();
+        let expected = expected.filter(|_| !under_conflict).or(ground);
+        let found = self.fast.ground(clause);
+        assert_eq!(found, expected, "{clause:?} to {:?}", self.plain.clauses);
+        case
     }
 
     fn delete(&mut self, clause: &[i32], cases: &mut Cases) {
@@ -446,6 +434,16 @@ impl Pair {
             }
             _ => count("deleted"),
         }
+    }
+}
+
+fn kind_of(clause: &[i32]) -> &'static str {
+    match as_set(clause).len() {
+        0 => "empty clause",
+        1 => "unit clause",
+        size if size < clause.len() => "repeated literal",
+        _ if clause.iter().any(|&literal| clause.contains(&-literal)) => "opposed literals",
+        _ => "clause",
     }
 }
 
@@ -511,7 +509,6 @@ fn random_lines(random: &mut Random, kind: &Kind, cases: &mut Cases) {
 const RANDOM_CASES: &[&str] = &[
     "follows by propagation",
     "follows by resolvents only",
-    "follows, and has no resolvents",
     "has no resolvents",
     "does not follow",
     "empty clause",

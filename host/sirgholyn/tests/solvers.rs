@@ -132,5 +132,5 @@ fn our_lines_follow() {
     let total = |of: fn(&Lines) -> usize| counted.iter().map(of).sum::<usize>();
     assert!(total(|lines| lines.by_propagation) > 10_000);
     assert!(total(|lines| lines.by_resolvents) > 10_000);
-    assert!(total(|lines| lines.deletions) > 10_000);
+    assert!(total(|lines| lines.deletions) > 20_000);
 }

@@ -4,7 +4,7 @@
 //! on slices that the caller lends. Plain code that is no part of the library: [`plan`] tests a plan, [`drat`]
 //! checks a proof, [`location`] tells where in a text a fault is.
 
-#![warn(missing_docs)]
+#![deny(missing_docs)]
 
 pub mod buffers;
 pub mod calls;

@@ -31,6 +31,12 @@ impl Limits {
 /// No variable of a log is above this one.
 pub const MOST_LOG_VARIABLES: usize = 70_000;
 
+/// A larger variable is no variable of a solver's proof.
+pub const MOST_PROOF_VARIABLE: i32 = i32::MAX / 2;
+
+/// A longer line is no line of a proof, so that a text without line ends cannot take all memory.
+pub const MOST_PROOF_LINE_BYTES: u64 = 16 << 20;
+
 /// No text that is read is longer; logs of accepted formulas stay well below.
 pub const MOST_TEXT_BYTES: u64 = 4 << 30;
 

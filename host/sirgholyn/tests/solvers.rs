@@ -2,14 +2,16 @@
 
 mod common;
 
-use common::drat;
 use common::formulas::any_kind;
 use common::solvers::{cadical, minisat, Answer};
 use common::{over_seeds, WAYS};
 use model::generator::{text_of, Random};
+use model::log_reading::read_kept_lines;
 use model::reading::Formula;
 use model::valleys::Valley;
+use sirgholyn::drat::{self, Checker, Ground};
 use sirgholyn::{plan, reencode, walk_back, ReencodeRoom, WalkBackRoom};
+use std::io::Read;
 
 #[derive(Default)]
 struct Trips {
@@ -45,10 +47,10 @@ fn round_trip(formula: &Formula, seed: u64, trips: &mut Trips) {
                 trips.plans += 1;
             }
             Answer::Unsatisfiable(Some(proof)) => {
-                let whole = String::from_utf8_lossy(&new.log).into_owned() + &proof;
-                drat::check(&plain_text, &whole)
+                let whole = new.log.as_slice().chain(proof.as_bytes());
+                let checked = drat::check(&text, whole, &mut |_| {})
                     .unwrap_or_else(|why| panic!("{why}: {plain_text}"));
-                trips.proof_lines += whole.lines().count();
+                trips.proof_lines += checked.lines as usize;
                 trips.no_plans += 1;
             }
             Answer::Unsatisfiable(None) => trips.no_plans += 1,
@@ -94,54 +96,41 @@ fn random_formulas() {
     assert!(trips.plans > 60 && trips.no_plans > 60);
 }
 
+/// Lines of logs by what they are.
+#[derive(Debug, Default)]
+struct Lines {
+    by_propagation: usize,
+    by_resolvents: usize,
+    deletions: usize,
+}
+
 /// Every log of ours passes line by line, whatever the formula.
 #[test]
 fn our_lines_follow() {
-    let lines: Vec<usize> = over_seeds(0..600, |seed, lines: &mut usize| {
+    let counted = over_seeds(0..600, |seed, lines: &mut Lines| {
         let formula = any_kind(&mut Random::new(seed));
         let text = text_of(&formula);
         let (form, arrangement) = WAYS[seed as usize % WAYS.len()];
         let new = reencode(&text, form, arrangement, ReencodeRoom::default()).unwrap();
-        let mut checker = drat::Checker::new(&formula.clauses);
-        for line in String::from_utf8_lossy(&new.log).lines() {
-            let numbers = |words: &str| -> Vec<i32> {
-                let numbers = words.split(' ').map(|word| word.parse().unwrap());
-                numbers.filter(|&number| number != 0).collect()
-            };
-            match line.strip_prefix("d ") {
-                Some(words) => assert!(checker.delete(&numbers(words)), "{line}"),
-                None => {
-                    let literals = numbers(line);
-                    assert!(
-                        checker.follows(&literals),
-                        "{line} of {}",
-                        String::from_utf8_lossy(&text)
-                    );
-                    checker.add(literals);
-                }
+        let kept = read_kept_lines(&new.log, new.tally.lines as usize).unwrap();
+        let mut checker = Checker::new(&formula.clauses);
+        for line in kept {
+            let seen = || format!("{line:?} of {}", String::from_utf8_lossy(&text));
+            if line.deletion {
+                assert!(checker.delete(&line.literals), "{}", seen());
+                lines.deletions += 1;
+                continue;
             }
-            *lines += 1;
+            match checker.add_if_follows(&line.literals, &mut || {}) {
+                Some(Ground::Propagation) => lines.by_propagation += 1,
+                Some(Ground::Resolvents) => lines.by_resolvents += 1,
+                None => panic!("{}", seen()),
+            }
         }
     });
-    println!("{} lines", lines.iter().sum::<usize>());
-}
-
-/// The checker turns wrong proofs back.
-#[test]
-fn the_checker_refuses() {
-    let formula = "p cnf 2 4\n1 2 0\n-1 2 0\n1 -2 0\n-1 -2 0\n";
-    assert_eq!(drat::check(formula, "2 0\n0\n"), Ok(()));
-    assert_eq!(
-        drat::check(formula, "0\n"),
-        Err("line 1 does not follow: 0".into())
-    );
-    assert!(drat::check(formula, "d 1 2 0\nd 2 1 0\n").is_err());
-    assert!(drat::check(formula, "2 0\n").is_err());
-    assert!(drat::check(formula, "d 1 2 0\n2 0\n0\n").is_err());
-    let with_plan = "p cnf 3 2\n1 2 0\n-1 3 0\n";
-    assert!(drat::check(with_plan, "-2 0\n").is_err());
-    assert!(drat::check(with_plan, "1 0\n").is_err());
-    assert!(drat::check(with_plan, "3 0\n")
-        .unwrap_err()
-        .contains("missing"));
+    println!("{counted:?}");
+    let total = |of: fn(&Lines) -> usize| counted.iter().map(of).sum::<usize>();
+    assert!(total(|lines| lines.by_propagation) > 10_000);
+    assert!(total(|lines| lines.by_resolvents) > 10_000);
+    assert!(total(|lines| lines.deletions) > 20_000);
 }

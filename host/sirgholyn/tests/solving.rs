@@ -320,12 +320,12 @@ fn proofs_that_fail() {
         ),
         // satisfiable, and the proof is empty, or says so
         (unsatisfiable(""), "empty clause"),
-        (unsatisfiable("0\\n"), "line 1 of its proof"),
-        (unsatisfiable("6 0\\n0\\n"), "line 2 of its proof"),
-        (unsatisfiable("- - d d 0 5\\n"), "line 1 of its proof"),
+        (unsatisfiable("0\\n"), "its proof fails at line 1: "),
+        (unsatisfiable("6 0\\n0\\n"), "its proof fails at line 2: "),
+        (unsatisfiable("- - d d 0 5\\n"), "its proof fails at line 1: "),
         (unsatisfiable("6 0\\n- - d d 0 5\\n"), "`- - d d 0 5`"),
-        (unsatisfiable("a\\001\\002\\000"), "line 1 of its proof"),
-        (unsatisfiable("d 1 2 3 4 5 0\\n0\\n"), "line 1 of its proof"),
+        (unsatisfiable("a\\001\\002\\000"), "its proof fails at line 1: "),
+        (unsatisfiable("d 1 2 3 4 5 0\\n0\\n"), "its proof fails at line 1: "),
     ] {
         scripted.expect_failure(&lines, 69, said);
     }
@@ -356,8 +356,8 @@ fn proofs_that_are_cut_off() {
     let refuted = solvers.find("\n0\n").unwrap();
     for (cut, said) in [
         (refuted + 1, "empty clause"),
-        (refuted, "of its proof"),
-        (refuted + 2, "of its proof"),
+        (refuted, "not a line of DRAT"),
+        (refuted + 2, "not a line of DRAT"),
         (
             solvers[..refuted / 2].rfind('\n').unwrap() + 1,
             "empty clause",

@@ -2,7 +2,6 @@
 #![allow(dead_code)]
 
 pub mod command;
-pub mod drat;
 pub mod formulas;
 pub mod solvers;
 

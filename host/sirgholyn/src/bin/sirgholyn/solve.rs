@@ -178,12 +178,13 @@ fn check_proof(text: &[u8], new: &Reencoded, solvers: &Path) -> Result<(), Failu
     match drat::check(text, proof, &mut progress) {
         Ok(_) => Ok(()),
         Err(drat::Error::Unreadable(error)) => Err(unreadable(error)),
-        Err(drat::Error::Faulty { line, fault, text }) if line > ours => Err(not_proved(format!(
-            "line {} of its proof {fault}: `{text}`",
-            line - ours
-        ))),
-        Err(drat::Error::Faulty { line, fault, text }) => Err(Failure::internal(format!(
-            "line {line} of the log {fault}: `{text}`"
-        ))),
+        Err(drat::Error::Faulty { line, fault, text })
+            if line > ours || fault == drat::Fault::NoEmptyClause =>
+        {
+            let line = line - ours;
+            let found = drat::Error::Faulty { line, fault, text };
+            Err(not_proved(format!("its proof fails at {found}")))
+        }
+        Err(found) => Err(Failure::internal(format!("the log fails at {found}"))),
     }
 }

@@ -321,9 +321,9 @@ fn proofs_that_fail() {
         // satisfiable, and the proof is empty, or says so
         (unsatisfiable(""), "empty clause"),
         (unsatisfiable("0\\n"), "its proof fails at line 1: "),
-        (unsatisfiable("6 0\\n0\\n"), "its proof fails at line 2: "),
+        (unsatisfiable("99 0\\n0\\n"), "its proof fails at line 2: "),
         (unsatisfiable("- - d d 0 5\\n"), "its proof fails at line 1: "),
-        (unsatisfiable("6 0\\n- - d d 0 5\\n"), "`- - d d 0 5`"),
+        (unsatisfiable("99 0\\n- - d d 0 5\\n"), "`- - d d 0 5`"),
         (unsatisfiable("a\\001\\002\\000"), "its proof fails at line 1: "),
         (unsatisfiable("d 1 2 3 4 5 0\\n0\\n"), "its proof fails at line 1: "),
     ] {

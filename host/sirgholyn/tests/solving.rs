@@ -307,7 +307,7 @@ fn solvers_that_do_not_know() {
 fn proofs_that_fail() {
     let scripted = Scripted::new(F.as_bytes());
     let unsatisfiable =
-        |proof: &str| format!("printf '{proof}' >\"$2\"; echo s UNSATISFIABLE; exit 20");
+        |proof: &str| format!("printf -- '{proof}' >\"$2\"; echo s UNSATISFIABLE; exit 20");
     for (lines, said) in [
         ("echo s UNSATISFIABLE; exit 20".into(), "cannot be read"),
         (
@@ -322,10 +322,19 @@ fn proofs_that_fail() {
         (unsatisfiable(""), "empty clause"),
         (unsatisfiable("0\\n"), "its proof fails at line 1: "),
         (unsatisfiable("99 0\\n0\\n"), "its proof fails at line 2: "),
-        (unsatisfiable("- - d d 0 5\\n"), "its proof fails at line 1: "),
+        (
+            unsatisfiable("- - d d 0 5\\n"),
+            "its proof fails at line 1: ",
+        ),
         (unsatisfiable("99 0\\n- - d d 0 5\\n"), "`- - d d 0 5`"),
-        (unsatisfiable("a\\001\\002\\000"), "its proof fails at line 1: "),
-        (unsatisfiable("d 1 2 3 4 5 0\\n0\\n"), "its proof fails at line 1: "),
+        (
+            unsatisfiable("a\\001\\002\\000"),
+            "its proof fails at line 1: ",
+        ),
+        (
+            unsatisfiable("d 1 2 3 4 5 0\\n0\\n"),
+            "its proof fails at line 1: ",
+        ),
     ] {
         scripted.expect_failure(&lines, 69, said);
     }

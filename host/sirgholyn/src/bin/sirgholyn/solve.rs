@@ -7,8 +7,9 @@ use crate::failure::Failure;
 use crate::files::{self, say, shown_name};
 use crate::outputs::{self, Output, Taken};
 use crate::solver::{Answer, Solver};
+use sirgholyn::drat::{self, Fault};
 use sirgholyn::limits::{Limits, QUIET_FOR};
-use sirgholyn::{drat, plan, Arrangement, Form, ReencodeRoom, Reencoded, WalkBackRoom};
+use sirgholyn::{plan, Arrangement, Form, ReencodeRoom, Reencoded, WalkBackRoom};
 use std::fs::{self, DirBuilder, File};
 use std::io::{self, BufReader, Cursor, Read};
 use std::os::unix::fs::DirBuilderExt;
@@ -178,13 +179,16 @@ fn check_proof(text: &[u8], new: &Reencoded, solvers: &Path) -> Result<(), Failu
     match drat::check(text, proof, &mut progress) {
         Ok(_) => Ok(()),
         Err(drat::Error::Unreadable(error)) => Err(unreadable(error)),
-        Err(drat::Error::Faulty { line, fault, text })
-            if line > ours || fault == drat::Fault::NoEmptyClause =>
-        {
-            let line = line - ours;
-            let found = drat::Error::Faulty { line, fault, text };
-            Err(not_proved(format!("its proof fails at {found}")))
-        }
-        Err(found) => Err(Failure::internal(format!("the log fails at {found}"))),
+        Err(drat::Error::Faulty { line, fault, text }) => Err(match fault {
+            Fault::NoEmptyClause => not_proved(format!(
+                "its proof of {} lines ends without the empty clause",
+                line - ours
+            )),
+            _ if line > ours => not_proved(format!(
+                "its proof fails at line {}: {fault}: `{text}`",
+                line - ours
+            )),
+            _ => Failure::internal(format!("the log fails at line {line}: {fault}: `{text}`")),
+        }),
     }
 }

@@ -193,7 +193,7 @@ fn expect_tally(expected: &[u64], call: impl Fn(*mut u64, usize) -> u32 + Sync) 
         let lent = &mut tally;
         let call = &call;
         assert_eq!(
-            on_large_stack(move || call(lent.as_mut_ptr(), lent.len())),
+            on_large_stack(move || call(lent.as_mut_ptr(), lent.len())).unwrap(),
             0
         );
         let fits = room.min(expected.len());
@@ -271,7 +271,7 @@ fn tally_zero_after_a_refusal() {
                 t.len(),
             )
         });
-        assert_eq!(answer, number);
+        assert_eq!(answer.unwrap(), number);
         assert!(tally.iter().all(|&count| count == 0));
         assert!(store.iter().all(|&entry| entry == 0));
     }

@@ -11,7 +11,6 @@ use sirgholyn::plan;
 use std::fs;
 use std::io::Write;
 use std::os::unix::fs::PermissionsExt;
-use std::path::Path;
 use std::process::{Command, Stdio};
 
 const ANSWER: &str = "s SATISFIABLE\nv 1 2 3 4 5 -6 -7 -8 -9 10 0\n";
@@ -556,25 +555,4 @@ fn nothing_is_left_in_the_temporary_folder() {
         assert!(status.code().is_some());
         assert_eq!(folder.names(), Vec::<String>::new());
     }
-}
-
-/// The script at the root, from another folder and through a link.
-#[test]
-fn the_script_runs_from_anywhere() {
-    let script = Path::new(env!("CARGO_MANIFEST_DIR")).join("../../sirgholyn");
-    let folder = Folder::new();
-    let link = folder.path("link");
-    std::os::unix::fs::symlink(fs::canonicalize(script).unwrap(), &link).unwrap();
-    let output = Command::new(link)
-        .current_dir("/")
-        .arg("--help")
-        .output()
-        .unwrap();
-    assert_eq!(
-        output.status.code(),
-        Some(0),
-        "{}",
-        String::from_utf8_lossy(&output.stderr)
-    );
-    assert!(output.stdout.starts_with(b"sirgholyn: "));
 }

@@ -6,8 +6,8 @@ mod common;
 mod checkout;
 
 use checkout::{copy, ran, root, unprivileged, write_program, Checkout, Ran, BUILT, CRATES, RT};
-use std::fs::{self, File};
-use std::os::unix::fs::symlink;
+use std::fs::{self, File, Permissions};
+use std::os::unix::fs::{symlink, PermissionsExt};
 use std::os::unix::process::{CommandExt, ExitStatusExt};
 use std::path::{Path, PathBuf};
 use std::process::{Child, Command, Stdio};
@@ -71,9 +71,8 @@ fn where_all_is_built_nothing_is_needed() {
     assert_eq!((plain.status, plain.err.as_str()), (Some(10), ""));
     assert!(plain.out.ends_with("word solve\n"));
 
-    let mut command = Command::new(unprivileged().first().unwrap_or(&"env"));
-    command.args(unprivileged().iter().skip(1));
-    command.arg(checkout.path("sirgholyn"));
+    let mut command = Command::new("env");
+    command.args(unprivileged()).arg(checkout.path("sirgholyn"));
     checkout.prepare(&mut command, "");
     let ran = ran(&mut command);
     assert_eq!((ran.status, ran.err.as_str()), (Some(10), ""));
@@ -218,6 +217,8 @@ fn the_script_runs_from_anywhere() {
     assert_eq!(ran_through.out, "in / \nword solve\n");
 
     // the caller's folder is removed, or cannot be read
+    checkout.set_writable(false);
+    let caller = checkout.folder.path("caller");
     for spoil in ["rmdir ../caller", "chmod 000 ."] {
         let mut command = Command::new("sh");
         let text = format!("{spoil} && exec \"$@\"");
@@ -227,7 +228,8 @@ fn the_script_runs_from_anywhere() {
         let ran = ran(&mut command);
         assert_eq!(ran.status, Some(10), "{spoil}: {}", ran.err);
         assert!(ran.out.ends_with("word solve\n"));
-        let _ = fs::create_dir(checkout.folder.path("caller"));
+        let _ = fs::create_dir(&caller);
+        fs::set_permissions(&caller, Permissions::from_mode(0o755)).unwrap();
     }
     assert_eq!(checkout.called(), [""; 0]);
 
@@ -266,10 +268,15 @@ fn setup_failures() {
     assert!(!checkout.has("target"));
 
     let failed = solve("rt-cargo", "PROVER", "fails");
-    let pinned = "this is the toolchain 'kit-7 logic 0123'; the proofs were last checked with 'kit-6 logic 0122'";
-    expect_setup_failure(&failed, &["rt: text NOT PROVED", "status 1", &log, pinned]);
-    let text = fs::read_to_string(&log).unwrap();
-    assert_eq!(text, "rt: text NOT PROVED (exit 1, 2 s)\n");
+    let said = "rt: definition NOT PROVED (exit 1, 2 s)";
+    let pinned =
+        "'kit-7 logic 0123'; the proofs were last checked with 'kit-6 logic 0122' (file TOOLCHAIN)";
+    expect_setup_failure(
+        &failed,
+        &["proving 2 of 3: text", said, pinned, "status 1", &log],
+    );
+    let whole = fs::read_to_string(&log).unwrap();
+    assert_eq!(whole, format!("{said}\nrt: text proved (2 s)\n"));
     let half = solve("rt-cargo", "PROVER", "half");
     expect_setup_failure(&half, &["status 2", &log]);
     assert_eq!(checkout.called(), ["rt check", "rt check", "rt staticlib"]);
@@ -314,11 +321,10 @@ fn checkouts_that_cannot_be_written() {
         assert_eq!(checkout.called(), &BUILT[..builds]);
     }
     let checkout = Checkout::new();
+    let mut command = Command::new("env");
+    command.args(unprivileged()).arg(checkout.path("sirgholyn"));
+    checkout.prepare(command.args(["solve", "x"]), "rt-cargo");
     checkout.set_writable(false);
-    let mut command = Command::new(unprivileged().first().unwrap_or(&"env"));
-    command.args(unprivileged().iter().skip(1));
-    command.arg(checkout.path("sirgholyn")).args(["solve", "x"]);
-    checkout.prepare(&mut command, "rt-cargo");
     expect_setup_failure(&ran(&mut command), &["target cannot be written"]);
 }
 
@@ -673,4 +679,28 @@ fn the_tests_have_a_current_library() {
         checkout.called(),
         ["rt check", "rt staticlib", "cargo test"]
     );
+}
+
+/// All tests of the checkout: where the library fails, what it said is shown, and counted once.
+#[test]
+fn all_tests_tell_of_a_library_that_fails() {
+    let checkout = Checkout::new();
+    let good = ran(&mut checkout.command(".ci/run", "rt-cargo"));
+    assert_eq!(good.status, Some(0), "{}", good.err);
+    assert!(good.out.ends_with("\n7 passed, 0 failed\n"), "{}", good.out);
+    // the library is built beside the first tests
+    let called = checkout.called();
+    assert_eq!(called[..2], ["rt fmt", "rt ci"]);
+    assert!(called.iter().any(|call| call == "rt staticlib"));
+    assert_eq!(called.len(), 6, "{called:?}");
+    let bad = ran(checkout
+        .command(".ci/run", "rt-cargo")
+        .env("PROVER", "fails"));
+    assert_eq!(bad.status, Some(1));
+    assert!(
+        bad.out.contains("\nrt: definition NOT PROVED"),
+        "{}",
+        bad.out
+    );
+    assert!(bad.out.ends_with("\n5 passed, 1 failed\n"), "{}", bad.out);
 }

@@ -459,26 +459,26 @@ fn is_ignored(signal: u32) -> bool {
     u64::from_str_radix(mask.unwrap(), 16).unwrap() >> (signal - 1) & 1 == 1
 }
 
-/// The script alone is ended, or all that the terminal knows of; nothing of rt goes on, and nothing half is
-/// left.
+/// The script alone is ended, or all that the terminal knows of; nothing of rt or cargo goes on, and nothing
+/// half is left.
 #[test]
-fn interrupted_while_proving() {
-    for (signal, number, group) in [
-        ("TERM", 15, ""),
-        ("INT", 2, "-"),
-        ("INT", 2, ""),
-        ("HUP", 1, "-"),
+fn interrupted_while_building() {
+    for (variable, signal, number, group) in [
+        ("PROVER", "TERM", 15, ""),
+        ("PROVER", "INT", 2, "-"),
+        ("PROVER", "INT", 2, ""),
+        ("PROVER", "HUP", 1, "-"),
+        ("BUILDER", "TERM", 15, ""),
+        ("BUILDER", "INT", 2, "-"),
     ] {
         if is_ignored(number) {
             continue;
         }
         let checkout = Checkout::new();
         let mut script = checkout.script(&["solve", "x"]);
-        script
-            .stdout(Stdio::piped())
-            .stderr(Stdio::piped())
-            .process_group(0);
-        let child = script.env("PROVER", "slow").spawn().unwrap();
+        script.stdout(Stdio::piped()).stderr(Stdio::piped());
+        let child = script.process_group(0).env(variable, "slow").spawn();
+        let child = child.unwrap();
         let record = || fs::read_to_string(checkout.folder.path("record")).unwrap_or_default();
         wait_for(|| record().contains("slow "));
         end(&child, signal, group);
@@ -486,21 +486,24 @@ fn interrupted_while_proving() {
         assert_eq!(ran.signal, Some(number as i32), "{signal}: {}", ran.err);
         assert_eq!(ran.out, "");
         let record = record();
-        let slow = record
-            .lines()
-            .find_map(|line| line.strip_prefix("slow "))
-            .unwrap();
-        assert!(slow.split(' ').all(has_ended), "{signal}");
-        let left: Vec<_> = fs::read_dir(checkout.path("target/staticlib"))
-            .unwrap()
-            .collect();
-        assert!(left.is_empty(), "{signal}: {left:?}");
+        let mut lines = record.lines();
+        let slow = lines.find_map(|line| line.strip_prefix("slow "));
+        wait_for(|| slow.unwrap().split(' ').all(has_ended));
+        let mut called = BUILT.to_vec();
+        if variable == "BUILDER" {
+            assert!(!checkout.has("host/target/command/stamp"));
+            assert!(!checkout.has("host/target/command/release/sirgholyn"));
+            called.drain(..2);
+        } else {
+            let left = fs::read_dir(checkout.path("target/staticlib")).unwrap();
+            assert_eq!(left.count(), 0, "{signal}");
+        }
 
         checkout.record();
         let ran = checkout.run(&["solve", "x"]);
         assert_eq!(ran.status, Some(10), "{}", ran.err);
         assert!(!ran.err.contains("another run"));
-        assert_eq!(checkout.called(), BUILT);
+        assert_eq!(checkout.called(), called);
     }
 }
 
@@ -637,17 +640,14 @@ fn versions() {
 #[test]
 fn the_library_alone() {
     let checkout = Checkout::new();
-    let library = |words: &[&str]| ran(checkout.command("host/library", "rt").args(words));
-    assert_eq!(library(&["--current"]).status, Some(1));
-    assert!(!checkout.has("target"));
-    assert_eq!(library(&[]).status, Some(0));
-    assert_eq!(library(&["--current"]).status, Some(0));
-    assert_eq!(library(&[]).err, "");
+    let library = || ran(&mut checkout.command("host/library", "rt"));
+    assert_eq!(library().status, Some(0));
+    assert_eq!(library().err, "");
     assert_eq!(checkout.called(), &BUILT[..2]);
     // another toolchain
     let rt = RT.replace("kit-7", "kit-8");
     write_program(Path::new(&checkout.folder.path("stand-ins/rt")), &rt);
-    assert_eq!(library(&[]).status, Some(0));
+    assert_eq!(library().status, Some(0));
     assert_eq!(checkout.called(), &BUILT[..2]);
     let identity = fs::read_to_string(checkout.path("target/staticlib/identity.txt")).unwrap();
     assert!(identity.starts_with("toolchain kit-8 logic 0123\n"));

@@ -51,7 +51,7 @@ staticlib-slow)
   wait ;;
 staticlib-waits)
   echo waiting >>"$RECORD"
-  until [ -f "$RECORD.go" ]; do sleep 0.05; done
+  until [ -f "$RECORD.go" ] || [ ! -f "$RECORD" ]; do sleep 0.05; done
   echo archive >target/staticlib/libexports.a ;;
 staticlib-edited)
   sleep 0.05
@@ -68,7 +68,15 @@ const CARGO: &str = r#"#!/bin/sh
 cat
 echo "cargo $* in $PWD" >>"$RECORD"
 env | sed -n -e '/^CARGO_/p' -e '/^RUST/p' -e '/^SIRGHOLYN/p' >>"$RECORD"
-[ -z "${BUILDER:-}" ] || { echo 'error: linker `cc` not found' >&2; exit 101; }
+case ${BUILDER:-} in
+fails)
+  echo 'error: linker `cc` not found' >&2
+  exit 101 ;;
+slow)
+  sleep 100 &
+  echo "slow $$ $!" >>"$RECORD"
+  wait ;;
+esac
 while [ $# -gt 0 ]; do
   [ "$1" != --target-dir ] || target=$2
   shift
@@ -150,6 +158,7 @@ impl Checkout {
             ".ci/run",
             "sirgholyn",
             "host/building",
+            "host/command",
             "host/library",
             "host/test",
             "host/words",

@@ -274,9 +274,12 @@ fn a_shared_library_that_cannot_be_built() {
     let mut build = Command::new(checkout("host/shared-library"));
     build.env("SIRGHOLYN_LIB", folder.path(""));
     let output = run(&mut build);
-    assert!(!output.status.success());
+    assert_eq!(output.status.code(), Some(78));
     let said = String::from_utf8_lossy(&output.stderr);
-    assert!(said.contains("libexports.a: `rt staticlib exports` writes it"));
+    assert!(
+        said.contains("libexports.a; unset SIRGHOLYN_LIB to have the library built"),
+        "{said}"
+    );
 
     let library = folder.write("libsirgholyn.so", b"old");
     set_time(&library, 1_000_000_000);

@@ -38,6 +38,27 @@ impl Valley {
         }
     }
 
+    /// A crowd, the first traps, all in scent range of each other, and more traps around it: each in range of two to
+    /// four that come before it. With fewer lures than the crowd has traps there is no plan; with as many, and at
+    /// least five, there is one.
+    pub fn crowded(random: &mut Random, crowd: usize, lures: usize, around: usize) -> Valley {
+        let mut in_range: Vec<(usize, usize)> = (0..crowd)
+            .flat_map(|other| (0..other).map(move |one| (one, other)))
+            .collect();
+        for trap in crowd..crowd + around {
+            let mut before: Vec<usize> = (0..trap).collect();
+            random.shuffle(&mut before);
+            let near = before.iter().take(random.between(2, 4));
+            in_range.extend(near.map(|&one| (one, trap)));
+        }
+        Valley {
+            traps: crowd + around,
+            lures,
+            in_range,
+            free: Vec::new(),
+        }
+    }
+
     /// That the trap holds the lure.
     fn holds(&self, trap: usize, lure: usize) -> i32 {
         (trap * self.lures + lure + 1) as i32
@@ -57,6 +78,59 @@ impl Valley {
         Formula {
             variables: (self.traps * self.lures) as i32,
             clauses,
+        }
+    }
+
+    /// The formula with its clauses, and the literals of each, in random order.
+    pub fn shuffled_formula(&self, random: &mut Random) -> Formula {
+        let mut formula = self.formula();
+        for clause in &mut formula.clauses {
+            random.shuffle(clause);
+        }
+        random.shuffle(&mut formula.clauses);
+        formula
+    }
+}
+
+#[cfg(test)]
+mod tests {
+    use super::*;
+    use crate::encoding::Encoding;
+    use crate::generator::text_of;
+    use crate::reading::{read_formula, INPUT_LIMITS};
+    use crate::{Arrangement, Form};
+
+    #[test]
+    fn a_crowd_is_in_range_of_each_other() {
+        for seed in 0..20 {
+            let valley = Valley::crowded(&mut Random::new(seed), 9, 8, 40);
+            let within = |&&(one, other): &&(usize, usize)| one.max(other) < 9;
+            assert_eq!(valley.in_range.iter().filter(within).count(), 9 * 8 / 2);
+            for trap in 9..49 {
+                let before = |&&(one, other): &&(usize, usize)| other == trap && one < trap;
+                assert!((2..=4).contains(&valley.in_range.iter().filter(before).count()));
+            }
+            let mut pairs = valley.in_range.clone();
+            pairs.sort_unstable();
+            pairs.dedup();
+            assert_eq!(pairs.len(), valley.in_range.len());
+        }
+    }
+
+    #[test]
+    fn a_shuffled_crowd_is_accepted_and_aligned() {
+        let random = &mut Random::new(1);
+        let valley = Valley::crowded(random, 9, 8, 40);
+        let formula = valley.shuffled_formula(random);
+        assert_eq!(
+            read_formula(&text_of(&formula), &INPUT_LIMITS),
+            Ok(formula.clone())
+        );
+        for form in [Form::Counter, Form::Order] {
+            let listed = Encoding::run(&formula, form, Arrangement::AsListed);
+            let aligned = Encoding::run(&formula, form, Arrangement::Alignment);
+            assert_eq!((aligned.choices.len(), aligned.tally.aligned), (49, 1));
+            assert_ne!(listed.log, aligned.log);
         }
     }
 }

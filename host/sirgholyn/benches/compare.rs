@@ -7,7 +7,9 @@
 #[path = "../tests/common/formulas.rs"]
 #[allow(dead_code)]
 mod formulas;
+mod measure;
 
+use measure::{measure_once, spent, Spent};
 use model::generator::{largest_with, text_of, Random};
 use model::valleys::Valley;
 use sirgholyn::{calls, Arrangement, Form};
@@ -29,7 +31,7 @@ fn main() {
         ["--reencode", who, file, form, log, formula] => {
             reencode_once(who, file, form, log, formula)
         }
-        ["--measure", command @ ..] => measure_once(command),
+        ["--measure", printed, command @ ..] => measure_once(printed, command),
         ["--short"] => compare(&[75, 150], false),
         [] => compare(&[75, 150, 300, 600], true),
         _ => eprintln!("wanted: nothing, or --short"),
@@ -74,39 +76,6 @@ fn reencode_once(who: &str, file: &str, form: &str, log: &str, formula: &str) {
     }
 }
 
-/// Of `getrusage` the processor's seconds, which other work on the machine hardly changes, and the peak memory are looked at.
-#[repr(C)]
-struct Usage {
-    times: [i64; 4],
-    peak_kilobytes: i64,
-    others: [i64; 13],
-}
-
-extern "C" {
-    fn getrusage(whose: i32, usage: *mut Usage) -> i32;
-}
-
-/// Runs a command, and prints the processor's seconds and the peak memory in kilobytes. This process is small, so that
-/// the peak is the command's own.
-fn measure_once(command: &[&str]) {
-    const CHILDREN: i32 = -1;
-    Command::new(command[0])
-        .args(&command[1..])
-        .stdout(Stdio::null())
-        .status()
-        .unwrap();
-    let mut usage = Usage {
-        times: [0; 4],
-        peak_kilobytes: 0,
-        others: [0; 13],
-    };
-    // SAFETY: the structure has the size and layout of C's on 64-bit Linux.
-    unsafe { getrusage(CHILDREN, &mut usage) };
-    let [user, user_micro, system, system_micro] = usage.times;
-    let seconds = (user + system) as f64 + (user_micro + system_micro) as f64 / 1e6;
-    println!("{seconds} {}", usage.peak_kilobytes);
-}
-
 // ---- the comparison
 
 struct Measured {
@@ -117,22 +86,12 @@ struct Measured {
 
 /// The median of some runs, and the instructions of one.
 fn measure(folder: &Path, command: &[String]) -> Measured {
-    let mut runs: Vec<(f64, f64)> = (0..RUNS)
-        .map(|_| {
-            let output = Command::new(env::current_exe().unwrap())
-                .arg("--measure")
-                .args(command)
-                .output()
-                .unwrap();
-            let printed = String::from_utf8(output.stdout).unwrap();
-            let mut numbers = printed
-                .split_whitespace()
-                .map(|word| word.parse::<f64>().unwrap());
-            (numbers.next().unwrap(), numbers.next().unwrap() / 1024.0)
-        })
-        .collect();
-    runs.sort_by(|one, other| one.0.total_cmp(&other.0));
-    let (seconds, peak_megabytes) = runs[RUNS / 2];
+    let mut runs: Vec<Spent> = (0..RUNS).map(|_| spent(command, "/dev/null")).collect();
+    runs.sort_by(|one, other| one.seconds.total_cmp(&other.seconds));
+    let Spent {
+        seconds,
+        peak_megabytes,
+    } = runs.swap_remove(RUNS / 2);
     let instructions = if seconds <= LONGEST_COUNTED {
         count(folder, command)
     } else {

@@ -25,30 +25,28 @@ pub fn solve(args: &Args) -> Result<u8, Failure> {
     if args.has("--no-check") && !args.has("--proof") {
         return Err(Failure::usage("`--no-check` wants `--proof`"));
     }
-    let text = files::read(args.file(0))?;
-    let mut taken = Taken::new(&[&text])?;
+    let input = files::read(args.file(0))?;
+    let mut taken = Taken::new(&[&input])?;
     let proof = match args.value("--proof") {
         Some(name) => Some(Output::open(name, &mut taken)?),
         None => None,
     };
-    let text = text.text;
+    let text = &input.text;
 
     let form = args.form_or(Form::Order);
-    let new = sirgholyn::reencode(&text, form, arrangement, ReencodeRoom::default())
-        .map_err(|error| refused_formula(error, &text, &Limits::INPUT))?;
+    let new = sirgholyn::reencode(text, form, arrangement, ReencodeRoom::default())
+        .map_err(|error| refused_formula(error, text, &Limits::INPUT))?;
     let scratch = Scratch::new(&new.formula)?;
-    let mut files = vec![scratch.formula.path.as_path()];
-    files.extend(proof.iter().map(|_| scratch.proof.path.as_path()));
-    match solver.run(&files, args.number("--timeout"))? {
-        Answer::Printed(printed) => plan(&text, &new, &printed, proof),
-        Answer::Unsatisfiable => match proof {
-            Some(output) => {
-                let check = !args.has("--no-check");
-                proved(output, &text, new, &scratch.proof.path, check)
-            }
-            None => ended("s UNSATISFIABLE\n", UNSATISFIABLE),
-        },
-        Answer::Unknown(why) => {
+    let mut given = vec![scratch.formula.path.as_path()];
+    given.extend(proof.iter().map(|_| scratch.proof.path.as_path()));
+    match (solver.run(&given, args.number("--timeout"))?, proof) {
+        (Answer::Printed(printed), proof) => plan(text, &new, &printed, proof),
+        (Answer::Unsatisfiable, None) => ended("s UNSATISFIABLE\n", UNSATISFIABLE),
+        (Answer::Unsatisfiable, Some(output)) => {
+            let check = !args.has("--no-check");
+            proved(output, text, new, &scratch.proof.path, check)
+        }
+        (Answer::Unknown(why), _) => {
             files::print(b"s UNKNOWN\n")?;
             Err(Failure::undecided(why))
         }

@@ -146,6 +146,15 @@ _STACK_BYTES = 32 << 20
 _stack_size_lock = threading.Lock()
 
 
+def _new_lock() -> None:
+    """A process that is forked while another thread has the lock gets one of its own."""
+    global _stack_size_lock
+    _stack_size_lock = threading.Lock()
+
+
+os.register_at_fork(after_in_child=_new_lock)
+
+
 def _on_large_stack(call: Callable[[], int]) -> int:
     """Runs a call on a new thread whose stack is large enough for it."""
     outcome: "Future[int]" = Future()
@@ -459,7 +468,7 @@ def solve(
     _form_number(form)
     words = [_command(), "solve", "-", "--form", form, "--align" if align else "--no-align"]
     if solver is not None:
-        words += ["--solver", solver]
+        words += [f"--solver={solver}"]
     if proof is not None:
         words += ["--proof", os.path.abspath(os.fspath(proof))]
         words += [] if check else ["--no-check"]

@@ -322,6 +322,15 @@ class Threads(Case):
         with ThreadPoolExecutor(4) as pool:
             self.assertEqual(list(pool.map(work, range(4))), [0, 1, 2, 3])
 
+    def test_forked_while_another_thread_calls(self):
+        with sirgholyn._stack_size_lock:
+            child = os.fork()
+            if child == 0:
+                # a lock that is never given back would hang here
+                signal.alarm(20)
+                os._exit(0 if reencode(F).choices == 1 else 1)
+        self.assertEqual(os.waitpid(child, 0)[1], 0)
+
     def test_from_a_small_stack(self):
         """Walk-back takes more stack than this thread has; the size for other threads stays as it is."""
         lines = []
@@ -464,7 +473,7 @@ class Solve(Case):
             self.assertEqual(words.read_text().split("\n"), ["solve", "-", "--form", "order", "--align", "--proof", "/dev/null", ""])
             self.assertEqual(Path(f"{words}.in").read_bytes(), E)
             solve(E, form="counter", align=False, solver="a b", proof="x", check=False, timeout=1.5)
-            expected = ["solve", "-", "--form", "counter", "--no-align", "--solver", "a b"]
+            expected = ["solve", "-", "--form", "counter", "--no-align", "--solver=a b"]
             expected += ["--proof", os.path.abspath("x"), "--no-check", "--timeout", "2", ""]
             self.assertEqual(words.read_text().split("\n"), expected)
 

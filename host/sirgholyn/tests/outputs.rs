@@ -55,6 +55,9 @@ fn outputs_that_cannot_be_written() {
         folder.path(&"n".repeat(256)),
         folder.path("in.cnf/new.cnf"),
         "/dev/fd/77".into(),
+        "/dev/fd/3".into(),
+        "/dev/fd/4".into(),
+        "/dev/fd/-1".into(),
         "/dev/full".into(),
         String::new(),
     ] {
@@ -387,11 +390,86 @@ fn a_run_waits_for_the_lock() {
     );
 }
 
+/// Signals at any moment: a pair belongs together, and nothing is left.
+#[test]
+fn signals_leave_one_pair_and_nothing_else() {
+    let (folder, input) = folder_with_input();
+    let pairs = [pair("counter"), pair("order")];
+    let (formula, log) = (folder.path("new.cnf"), folder.path("new.drat"));
+    let words = |form| {
+        [
+            "reencode",
+            &input,
+            "--form",
+            form,
+            "--formula",
+            &formula,
+            "--log",
+            &log,
+        ]
+    };
+    assert_eq!(run(&words("counter")).status, 0);
+    let (mut ended, mut done) = (0, 0);
+    for turn in 0..400 {
+        let form = if turn % 2 == 0 { "order" } else { "counter" };
+        let mut child = Command::new(COMMAND)
+            .args(words(form))
+            .stdout(Stdio::null())
+            .spawn()
+            .unwrap();
+        thread::sleep(Duration::from_micros(turn * 10));
+        let pid = child.id().to_string();
+        let _ = Command::new("kill")
+            .args([["-TERM", "-HUP", "-INT"][turn as usize % 3], &pid])
+            .stderr(Stdio::null())
+            .status();
+        match child.wait().unwrap().code() {
+            None => ended += 1,
+            Some(status) => {
+                assert_eq!(status, 0);
+                done += 1;
+            }
+        }
+        let found = (
+            fs::read_to_string(&formula).unwrap(),
+            fs::read_to_string(&log).unwrap(),
+        );
+        assert!(pairs.contains(&found));
+        assert_eq!(folder.names(), ["in.cnf", "new.cnf", "new.drat"]);
+    }
+    println!("{ended} ended, {done} done");
+    assert!(ended > 0);
+}
+
+/// A file of the user's that has the lock's name is not touched.
+#[test]
+fn a_file_with_the_name_of_the_lock() {
+    let (folder, input) = folder_with_input();
+    let (formula, log) = (folder.path("new.cnf"), folder.path("new.drat"));
+    let lock = folder.path(".sirgholyn.lock");
+    let as_output = run(&["reencode", &input, "--formula", &lock, "--log", &log]);
+    expect_failure(&as_output, 64, "is the name of a lock");
+    fs::write(&lock, F).unwrap();
+    let words = ["reencode", &lock, "--formula", &formula, "--log", &log];
+    expect_failure(&run(&words), 73, "it is another file");
+    assert_eq!(fs::read_to_string(&lock).unwrap(), F);
+    fs::remove_file(&lock).unwrap();
+    fs::hard_link(&input, &lock).unwrap();
+    expect_failure(
+        &run(&["reencode", &input, "--formula", &formula, "--log", &log]),
+        73,
+        "it is another file",
+    );
+    assert_eq!(fs::read_to_string(&input).unwrap(), F);
+    assert_eq!(folder.names(), [".sirgholyn.lock", "in.cnf"]);
+}
+
 /// A lock file that is left tells that a run was killed between the first name and the last.
 #[test]
 fn a_lock_that_is_left_is_told_of() {
     let (folder, input) = folder_with_input();
-    folder.write(".sirgholyn.lock", b"/x/new.cnf, /x/new\x1b.drat");
+    let left = b"sirgholyn gives these files their names: /x/new.cnf, /x/new\x1b.drat";
+    folder.write(".sirgholyn.lock", left);
     let (formula, log) = (folder.path("new.cnf"), folder.path("new.drat"));
     let ran = run(&["reencode", &input, "--formula", &formula, "--log", &log]);
     expect_message(

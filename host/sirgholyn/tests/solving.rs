@@ -443,6 +443,72 @@ fn the_solver_does_not_outlive_the_command() {
     expect_ended(&processes);
 }
 
+/// A solver that leaves its process group is ended all the same, by time, by a signal, and with the command.
+#[test]
+fn solvers_that_leave_their_group() {
+    let scripted = Scripted::new(F.as_bytes());
+    let pid = scripted.folder.path("pid");
+    for solver in ["timeout 60 sh -c", "setsid sh -c", "exec setsid -f sh -c"] {
+        let lines = format!("{solver} 'echo $$ >{pid}; sleep 60' & sleep 60");
+        for way in ["--timeout", "-TERM", "-KILL"] {
+            let _ = fs::remove_file(&pid);
+            let mut command = scripted.command(&lines);
+            command.stdout(Stdio::null()).stderr(Stdio::null());
+            if way == "--timeout" {
+                let start = Instant::now();
+                assert_eq!(command.args([way, "1"]).status().unwrap().code(), Some(75));
+                assert!(start.elapsed() < Duration::from_secs(20));
+            } else {
+                let mut child = command.spawn().unwrap();
+                wait_for(&pid);
+                send(way, &child);
+                assert!(child.wait().unwrap().signal().is_some());
+            }
+            let process = fs::read_to_string(&pid).unwrap();
+            expect_ended(&[process.trim().to_string()]);
+        }
+    }
+}
+
+/// What still holds the solver's output when it has ended is not waited for.
+#[test]
+fn an_answer_is_not_kept_back() {
+    let scripted = Scripted::new(F.as_bytes());
+    for left in [
+        "setsid sleep 60 &",
+        "(while :; do echo c; sleep 0.01; done) &",
+        "setsid sh -c 'while :; do echo c; done' &",
+    ] {
+        let start = Instant::now();
+        let ran = scripted.solve(&format!(
+            "{left} printf 's SATISFIABLE\\nv 1 6 7 8 9 10 0\\n'"
+        ));
+        assert!(ran.status == 10 || ran.status == 41, "{}", ran.err);
+        assert!(start.elapsed() < Duration::from_secs(20));
+        fs::write(&scripted.proof, b"older").unwrap();
+    }
+}
+
+/// The proof that is written is the one that was checked, whatever a process that the solver has left does to its file.
+#[test]
+fn the_proof_written_is_the_proof_checked() {
+    let text = fs::read(example("no_plan.cnf")).unwrap();
+    let scripted = Scripted::new(&text);
+    for _ in 0..5 {
+        let ran = scripted.solve(
+            "cadical -q --no-binary \"$1\" \"$2\"; cp \"$2\" \"$2.b\"; echo 9 9 9 garbage >>\"$2.b\"\n\
+             env -i setsid sh -c 'while [ -f \"$1\" ]; do cp \"$1.b\" \"$1.c\"; mv \"$1.c\" \"$1\"; done' sh \"$2\" >/dev/null 2>&1 &\n\
+             exit 20",
+        );
+        let proof = fs::read_to_string(&scripted.proof).unwrap();
+        match ran.status {
+            20 => check(std::str::from_utf8(&text).unwrap(), &proof),
+            _ => expect_failure(&ran, 69, "garbage"),
+        }
+        fs::write(&scripted.proof, b"older").unwrap();
+    }
+}
+
 /// What a solver leaves running is ended with it.
 #[test]
 fn what_a_solver_leaves_running_is_ended() {

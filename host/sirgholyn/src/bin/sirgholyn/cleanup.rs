@@ -1,27 +1,40 @@
-//! What is undone however the command ends, at a signal, a panic, or where memory is out, too: temporary files are removed, and
-//! the solver's processes are ended. As that may happen at any moment, names stand in a table of their own, and only calls are
-//! made that a signal handler may make.
+//! What is undone however the command ends: temporary files are removed, and the solver's processes are ended. Names stand in
+//! a table of their own, so that this can be done at any moment.
 
-use crate::failure::INTERNAL;
+use crate::failure::{INTERNAL, NO_MEMORY};
+use crate::keeper;
 use crate::system;
-use std::ffi::{c_char, c_int, CStr, CString};
+use std::cell::Cell;
+use std::ffi::{c_char, c_int, CStr, CString, OsStr};
 use std::os::unix::ffi::OsStrExt;
 use std::path::{Path, PathBuf};
 use std::ptr::null_mut;
 use std::sync::atomic::{AtomicBool, AtomicI32, AtomicPtr, Ordering::SeqCst};
-use std::{fs, io};
+use std::sync::{Mutex, MutexGuard, PoisonError};
+use std::{fs, io, thread};
 
 /// More temporary files and folders than a command ever has.
 const MOST_NAMES: usize = 16;
+
+/// The stack of the thread that waits for signals.
+const WATCH_STACK_BYTES: usize = 256 << 10;
 
 static NAMES: [AtomicPtr<c_char>; MOST_NAMES] = [const { AtomicPtr::new(null_mut()) }; MOST_NAMES];
 
 /// The solver's process group, or 0.
 static SOLVER: AtomicI32 = AtomicI32::new(0);
 
-/// Whether signals have to wait, and the one that waits, or 0.
-static UNCUT: AtomicBool = AtomicBool::new(false);
-static WAITING: AtomicI32 = AtomicI32::new(0);
+/// Whether the command has begun its work; before that, what fails is the start of a thread.
+static BEGUN: AtomicBool = AtomicBool::new(false);
+
+/// Held while something is done that no signal may cut off.
+static UNCUT: Mutex<()> = Mutex::new(());
+
+thread_local! {
+    static IS_UNCUT: Cell<bool> = const { Cell::new(false) };
+}
+
+// ---- temporary files
 
 /// A temporary file or folder, removed when it is dropped.
 pub struct Temporary {
@@ -35,7 +48,7 @@ impl Temporary {
         folder: &Path,
         make: impl Fn(&Path) -> io::Result<R>,
     ) -> io::Result<(Temporary, R)> {
-        loop {
+        uncut(|| loop {
             let path = folder.join(format!(".sirgholyn-{:016x}", system::random()));
             let temporary = Temporary::named(path)?;
             match make(&temporary.path) {
@@ -47,12 +60,12 @@ impl Temporary {
                     }
                 }
             }
-        }
+        })
     }
 
-    /// What will be under a name is temporary.
+    /// What is under a name, or will be, is temporary.
     pub fn named(path: PathBuf) -> io::Result<Temporary> {
-        // never freed, as a handler may be reading it
+        // never freed, as it may be read at any moment
         let name = CString::new(path.as_os_str().as_bytes())?.into_raw();
         let taken =
             |place: &AtomicPtr<c_char>| place.compare_exchange(null_mut(), name, SeqCst, SeqCst);
@@ -71,68 +84,95 @@ impl Temporary {
 
 impl Drop for Temporary {
     fn drop(&mut self) {
-        let _ = match self.path.is_dir() {
-            true => fs::remove_dir_all(&self.path),
-            false => fs::remove_file(&self.path),
-        };
+        remove(&self.path);
         NAMES[self.place].store(null_mut(), SeqCst);
     }
 }
+
+fn remove(path: &Path) {
+    let _ = fs::remove_file(path)
+        .or_else(|_| fs::remove_dir(path))
+        .or_else(|_| fs::remove_dir_all(path));
+}
+
+fn names() -> impl Iterator<Item = &'static CStr> {
+    let names = NAMES.iter().map(|place| place.load(SeqCst));
+    // SAFETY: names in the table end in NUL and are never freed.
+    names
+        .filter(|name| !name.is_null())
+        .map(|name| unsafe { CStr::from_ptr(name) })
+}
+
+// ---- signals
 
 /// Names the solver's process group, 0 where there is none any more.
 pub fn solver_is(group: c_int) {
     SOLVER.store(group, SeqCst);
 }
 
-/// Ends the solver and removes what is temporary: files, then the folders that held them.
-fn undo() {
-    system::kill_group(SOLVER.load(SeqCst));
-    for remove in [system::remove_file, system::remove_folder] {
-        for place in &NAMES {
-            let name = place.load(SeqCst);
-            if !name.is_null() {
-                // SAFETY: names in the table end in NUL and are never freed.
-                remove(unsafe { CStr::from_ptr(name) });
-            }
-        }
-    }
-}
-
-/// Undoes everything, says a line and ends the command; nothing is allocated.
-pub fn end_at_once(line: &[u8], status: u8) -> ! {
-    undo();
-    system::end_with(line, c_int::from(status))
-}
-
-/// Signals end the command as they would, once everything is undone; a write past a limit on the size of files is an error of
-/// that write; a panic is told in one line.
-pub fn prepare() {
-    for signal in system::ENDING {
-        system::handle(signal, on_signal);
-    }
+/// From now on signals end the command as they would, once everything is undone; a write past a limit on the size of files is
+/// an error of that write; and a panic is told in one line. Fails where no thread can be started.
+pub fn prepare() -> io::Result<()> {
+    std::panic::set_hook(Box::new(|_| fault()));
+    system::handle(system::SIGABRT, on_abort);
     system::ignore(system::SIGXFSZ);
-    std::panic::set_hook(Box::new(|_| {
-        end_at_once(b"sirgholyn: a fault of the command itself\n", INTERNAL)
-    }));
+    let held = system::hold_ending_signals();
+    let watch = move || {
+        let signal = held.wait();
+        let _from_now_on = hold_signals();
+        if SOLVER.load(SeqCst) != 0 {
+            system::kill_group(SOLVER.load(SeqCst));
+            keeper::kill_marked();
+        }
+        for name in names() {
+            remove(Path::new(OsStr::from_bytes(name.to_bytes())));
+        }
+        held.die_by(signal)
+    };
+    let builder = thread::Builder::new().stack_size(WATCH_STACK_BYTES);
+    builder.spawn(watch).map(|_| ())
 }
 
-extern "C" fn on_signal(signal: c_int) {
-    if UNCUT.load(SeqCst) {
-        WAITING.store(signal, SeqCst);
-    } else {
-        undo();
-        system::die_by(signal);
-    }
+/// Signals have no effect as long as the answer is kept.
+pub fn hold_signals() -> MutexGuard<'static, ()> {
+    UNCUT.lock().unwrap_or_else(PoisonError::into_inner)
 }
 
 /// Does what no signal may cut off; one that comes meanwhile takes effect afterwards.
 pub fn uncut<R>(work: impl FnOnce() -> R) -> R {
-    UNCUT.store(true, SeqCst);
-    let result = work();
-    UNCUT.store(false, SeqCst);
-    match WAITING.load(SeqCst) {
-        0 => {}
-        signal => on_signal(signal),
+    if IS_UNCUT.get() {
+        return work();
     }
+    let _until_done = hold_signals();
+    IS_UNCUT.set(true);
+    let result = work();
+    IS_UNCUT.set(false);
     result
+}
+
+// ---- ends without warning
+
+/// The command begins its work.
+pub fn begin() {
+    BEGUN.store(true, SeqCst);
+}
+
+/// Undoes what can be undone where nothing may be allocated, says a line and ends the command.
+pub fn end_at_once(line: &[u8], status: u8) -> ! {
+    system::kill_group(SOLVER.load(SeqCst));
+    for remove in [system::remove_file, system::remove_folder] {
+        names().for_each(remove);
+    }
+    system::end_with(line, c_int::from(status))
+}
+
+fn fault() -> ! {
+    match BEGUN.load(SeqCst) {
+        true => end_at_once(b"sirgholyn: a fault of the command itself\n", INTERNAL),
+        false => end_at_once(b"sirgholyn: no thread can be started\n", NO_MEMORY),
+    }
+}
+
+extern "C" fn on_abort(_: c_int) {
+    fault()
 }

@@ -7,7 +7,8 @@ use std::ffi::OsStr;
 use std::fmt::Display;
 use std::fs::{File, Metadata};
 use std::io::{self, Read, Write};
-use std::os::fd::AsFd;
+use std::mem::ManuallyDrop;
+use std::os::fd::{AsFd, AsRawFd, FromRawFd};
 use std::os::unix::ffi::OsStrExt;
 use std::os::unix::fs::MetadataExt;
 
@@ -17,7 +18,7 @@ pub fn shown_name(name: &OsStr) -> String {
 }
 
 /// A file, whatever its names: its device and its number there.
-#[derive(Debug, Clone, Copy, PartialEq, Eq)]
+#[derive(Debug, Clone, Copy, PartialEq, Eq, PartialOrd, Ord)]
 pub struct Identity(u64, u64);
 
 impl Identity {
@@ -28,8 +29,10 @@ impl Identity {
 
 /// What is known of the regular file that a descriptor stands for, if it is one.
 pub fn regular(descriptor: impl AsFd) -> Option<Metadata> {
-    let file = File::from(descriptor.as_fd().try_clone_to_owned().ok()?);
-    file.metadata().ok().filter(Metadata::is_file)
+    // SAFETY: the descriptor is open while it is lent, and is not closed here.
+    let file = unsafe { File::from_raw_fd(descriptor.as_fd().as_raw_fd()) };
+    let known = ManuallyDrop::new(file).metadata();
+    known.ok().filter(Metadata::is_file)
 }
 
 /// A text that was read, and the regular file that it came from.

@@ -5,6 +5,7 @@ mod cleanup;
 mod commands;
 mod failure;
 mod files;
+mod keeper;
 mod lock;
 mod outputs;
 mod solve;
@@ -19,9 +20,14 @@ use std::ffi::OsString;
 use std::process::ExitCode;
 
 fn main() -> ExitCode {
-    cleanup::prepare();
     let words: Vec<OsString> = std::env::args_os().skip(1).collect();
-    let ended = calls::on_large_stack(|| run(&words));
+    let work = || {
+        cleanup::begin();
+        run(&words)
+    };
+    let ended = cleanup::prepare().and_then(|()| calls::on_large_stack(work));
+    // a signal that has come decides how the command ends
+    let _from_now_on = cleanup::hold_signals();
     match ended.unwrap_or_else(|error| Err(Failure::no_process(error))) {
         Ok(status) => ExitCode::from(status),
         Err(failure) => {

@@ -4,13 +4,14 @@
 use crate::cleanup::{uncut, Temporary};
 use crate::failure::Failure;
 use crate::files::{self, shown_name, Identity, Input};
-use crate::lock::Lock;
+use crate::lock::{self, Lock};
+use crate::system;
 use std::ffi::{OsStr, OsString};
 use std::fs::{self, File, OpenOptions};
 use std::io::{self, Read, Write};
 use std::os::fd::BorrowedFd;
 use std::os::unix::ffi::OsStrExt;
-use std::os::unix::fs::FileTypeExt;
+use std::os::unix::fs::{fchown, FileTypeExt, MetadataExt};
 use std::path::{Path, PathBuf};
 
 /// What an output may not be, with the words for it: an input, standard output or error, an output before it.
@@ -20,8 +21,8 @@ pub struct Taken(Vec<(Place, &'static str)>);
 #[derive(PartialEq, Eq)]
 enum Place {
     Existing(Identity),
-    /// A file that is not there yet, by its folder's one name and its own.
-    New(PathBuf),
+    /// A file that is not there yet, by its folder and its name.
+    New(Identity, OsString),
 }
 
 const IS_INPUT: &str = "is the input; it would be lost";
@@ -90,6 +91,10 @@ struct Staged {
 impl Output {
     /// Opens an output; `-` is standard output. What is taken is not accepted.
     pub fn open(name: &OsStr, taken: &mut Taken) -> Result<Output, Failure> {
+        if Path::new(name).file_name() == Some(OsStr::new(lock::NAME)) {
+            let name = shown_name(name);
+            return Err(Failure::usage(format!("{name} is the name of a lock")));
+        }
         let (target, place) = open_target(name).map_err(|error| failed(name, error))?;
         if let Some(place) = place {
             taken
@@ -172,7 +177,7 @@ pub fn finish(outputs: Vec<Output>) -> Result<(), Failure> {
     };
     uncut(|| {
         let done = place(staged);
-        locks.iter().for_each(Lock::remove);
+        drop(locks);
         done
     })
 }
@@ -181,48 +186,66 @@ pub fn finish(outputs: Vec<Output>) -> Result<(), Failure> {
 fn place(all: Vec<Staged>) -> Result<(), Failure> {
     let mut placed = Vec::new();
     for staged in all {
-        let last = Placed::new(staged.last, staged.existed);
-        if let Err(error) = fs::rename(&staged.beside.path, &last.name) {
-            placed.into_iter().rev().for_each(Placed::put_back);
-            return Err(failed(last.name.as_os_str(), error));
+        let name = staged.last.clone();
+        match staged.place() {
+            Ok(done) => placed.push(done),
+            Err(error) => {
+                placed.into_iter().rev().for_each(Placed::put_back);
+                return Err(failed(name.as_os_str(), error));
+            }
         }
-        staged.beside.forget();
-        placed.push(last);
     }
-    for last in &placed {
-        let _ = File::open(folder_of(&last.name)).and_then(|folder| folder.sync_all());
+    for done in placed {
+        let _ = File::open(folder_of(&done.name)).and_then(|folder| folder.sync_all());
     }
     Ok(())
 }
 
-/// A file that has got its name, or is about to.
+/// A file that has its name, and the older one, under the temporary name until all files have theirs.
 struct Placed {
     name: PathBuf,
-    existed: bool,
-    /// The older file, under another name until all files have theirs.
     older: Option<Temporary>,
+    is_lost: bool,
+}
+
+impl Staged {
+    fn place(self) -> io::Result<Placed> {
+        if self.last.is_dir() {
+            return Err(io::ErrorKind::IsADirectory.into());
+        }
+        let exchanged = match self.existed {
+            true => system::exchange(&self.beside.path, &self.last),
+            false => Err(io::ErrorKind::Unsupported.into()),
+        };
+        let older = match exchanged {
+            Ok(()) => Some(self.beside),
+            // a file system that does not know how to exchange names
+            Err(error) if is_unsupported(&error) => {
+                fs::rename(&self.beside.path, &self.last)?;
+                self.beside.forget();
+                None
+            }
+            Err(error) => return Err(error),
+        };
+        Ok(Placed {
+            is_lost: self.existed && older.is_none(),
+            name: self.last,
+            older,
+        })
+    }
+}
+
+fn is_unsupported(error: &io::Error) -> bool {
+    use io::ErrorKind::{InvalidInput, NotFound, Unsupported};
+    matches!(error.kind(), Unsupported | InvalidInput | NotFound)
 }
 
 impl Placed {
-    fn new(name: PathBuf, existed: bool) -> Placed {
-        let link = |beside: &Path| fs::hard_link(&name, beside);
-        let older = match existed {
-            true => Temporary::make(folder_of(&name), link).ok(),
-            false => None,
-        };
-        let older = older.map(|(older, ())| older);
-        Placed {
-            name,
-            existed,
-            older,
-        }
-    }
-
     /// Lets the older file have its name again; where there was none, there is none again.
     fn put_back(self) {
         let done = match &self.older {
-            Some(older) => fs::rename(&older.path, &self.name),
-            None if self.existed => Err(io::Error::other("the older file is lost")),
+            Some(older) => system::exchange(&older.path, &self.name),
+            None if self.is_lost => Err(io::Error::other("the older file is lost")),
             None => fs::remove_file(&self.name),
         };
         if let Err(error) = done {
@@ -244,8 +267,8 @@ fn open_target(name: &OsStr) -> io::Result<(Target, Option<Place>)> {
     }
     let known = match fs::symlink_metadata(name) {
         Err(error) if error.kind() == io::ErrorKind::NotFound => {
-            let (staged, last) = stage_new(Path::new(name))?;
-            return Ok((Target::Staged(staged), Some(Place::New(last))));
+            let (staged, place) = stage_new(Path::new(name))?;
+            return Ok((Target::Staged(staged), Some(place)));
         }
         Err(error) => return Err(error),
         Ok(_) => fs::metadata(name).map_err(|error| match error.kind() {
@@ -258,6 +281,8 @@ fn open_target(name: &OsStr) -> io::Result<(Target, Option<Place>)> {
     let kind = known.file_type();
     if kind.is_file() {
         let staged = stage(fs::canonicalize(name)?, true)?;
+        // who may not give files away keeps them
+        let _ = fchown(&staged.file, Some(known.uid()), Some(known.gid()));
         staged.file.set_permissions(known.permissions())?;
         Ok((Target::Staged(staged), Some(place)))
     } else {
@@ -268,7 +293,10 @@ fn open_target(name: &OsStr) -> io::Result<(Target, Option<Place>)> {
 
 /// Opens a descriptor that the caller has opened: what is written goes where that stands.
 fn open_descriptor(number: i32) -> io::Result<(Target, Option<Place>)> {
-    // SAFETY: the descriptor is asked for a copy only, which fails where it is not open.
+    if !system::is_from_caller(number) {
+        return Err(io::Error::other("there is no such descriptor"));
+    }
+    // SAFETY: the descriptor is open.
     let file = File::from(unsafe { BorrowedFd::borrow_raw(number) }.try_clone_to_owned()?);
     let place = Place::Existing(Identity::of(&file.metadata()?));
     let target = match number {
@@ -287,20 +315,22 @@ fn descriptor(name: &Path) -> Option<i32> {
     for _ in 0..MOST_LINKS {
         let folder = fs::canonicalize(folder_of(&path)).ok()?;
         if folder.starts_with(&own) && folder.ends_with("fd") {
-            return path.file_name()?.to_str()?.parse().ok();
+            let number: u16 = path.file_name()?.to_str()?.parse().ok()?;
+            return Some(number.into());
         }
         path = folder.join(fs::read_link(&path).ok()?);
     }
     None
 }
 
-/// A file that is not there yet, and its one name.
-fn stage_new(name: &Path) -> io::Result<(Staged, PathBuf)> {
+/// A file that is not there yet, and where that is.
+fn stage_new(name: &Path) -> io::Result<(Staged, Place)> {
     let own = name.file_name();
     let own = own.filter(|_| !name.as_os_str().as_bytes().ends_with(b"/"));
     let own = own.ok_or_else(|| io::Error::other("that is no file's name"))?;
-    let last = fs::canonicalize(folder_of(name))?.join(own);
-    Ok((stage(last.clone(), false)?, last))
+    let folder = fs::canonicalize(folder_of(name))?;
+    let place = Place::New(Identity::of(&fs::metadata(&folder)?), own.into());
+    Ok((stage(folder.join(own), false)?, place))
 }
 
 fn stage(last: PathBuf, existed: bool) -> io::Result<Staged> {

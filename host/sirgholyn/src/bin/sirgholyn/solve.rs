@@ -1,7 +1,7 @@
 //! `solve`: reencode, run a solver, carry its answer back and test the plan, or check the proof.
 
 use crate::args::Args;
-use crate::cleanup::Temporary;
+use crate::cleanup::{uncut, Temporary};
 use crate::commands::{refused_formula, refused_walk_back};
 use crate::failure::Failure;
 use crate::files::{self, say, shown_name};
@@ -10,8 +10,8 @@ use crate::solver::{Answer, Solver};
 use sirgholyn::drat::{self, Fault};
 use sirgholyn::limits::{Limits, QUIET_FOR};
 use sirgholyn::{plan, Arrangement, Form, ReencodeRoom, Reencoded, WalkBackRoom};
-use std::fs::{self, DirBuilder, File};
-use std::io::{self, BufReader, Cursor, Read};
+use std::fs::{self, DirBuilder, File, OpenOptions};
+use std::io::{self, BufReader, Seek, Write};
 use std::os::unix::fs::DirBuilderExt;
 use std::path::Path;
 use std::time::Instant;
@@ -43,8 +43,12 @@ pub fn solve(args: &Args) -> Result<u8, Failure> {
         (Answer::Printed(printed), proof) => plan(text, &new, &printed, proof),
         (Answer::Unsatisfiable, None) => ended("s UNSATISFIABLE\n", UNSATISFIABLE),
         (Answer::Unsatisfiable, Some(output)) => {
-            let check = !args.has("--no-check");
-            proved(output, text, new, &scratch.proof.path, check)
+            let proof = scratch.whole_proof(&new.log)?;
+            let is_checked = !args.has("--no-check");
+            if is_checked {
+                check_proof(text, new.tally.lines, &proof)?;
+            }
+            proved(output, proof, is_checked)
         }
         (Answer::Unknown(why), _) => {
             files::print(b"s UNKNOWN\n")?;
@@ -73,18 +77,15 @@ fn arrangement(args: &Args) -> Result<Arrangement, Failure> {
 struct Scratch {
     formula: Temporary,
     proof: Temporary,
-    _folder: Temporary,
+    folder: Temporary,
 }
 
 impl Scratch {
     fn new(formula: &[u8]) -> Result<Scratch, Failure> {
         let within = std::env::temp_dir();
-        Scratch::within(&within, formula).map_err(|error| {
-            let within = shown_name(within.as_os_str());
-            Failure::output(format!(
-                "the solver's files cannot be written in {within}: {error}"
-            ))
-        })
+        // a whole path, as no solver takes that for an option
+        let within = std::path::absolute(&within).unwrap_or(within);
+        Scratch::within(&within, formula).map_err(|error| not_written(&within, error))
     }
 
     fn within(folder: &Path, formula: &[u8]) -> io::Result<Scratch> {
@@ -93,11 +94,37 @@ impl Scratch {
         let scratch = Scratch {
             formula: Temporary::named(folder.path.join("formula.cnf"))?,
             proof: Temporary::named(folder.path.join("proof.drat"))?,
-            _folder: folder,
+            folder,
         };
-        fs::write(&scratch.formula.path, formula)?;
+        uncut(|| fs::write(&scratch.formula.path, formula))?;
         Ok(scratch)
     }
+
+    /// Our log and the solver's proof after it: a proof of the formula that was handed in, in a file that no solver knows of.
+    fn whole_proof(&self, log: &[u8]) -> Result<File, Failure> {
+        let mut from = open_proof(&self.proof.path)?;
+        let create = |path: &Path| {
+            let mut options = OpenOptions::new();
+            options.read(true).write(true).create_new(true).open(path)
+        };
+        let copy = |(temporary, mut whole): (Temporary, File)| {
+            // without a name it is gone when it is closed
+            drop(temporary);
+            whole.write_all(log)?;
+            io::copy(&mut from, &mut whole)?;
+            Ok(whole)
+        };
+        let whole = Temporary::make(&self.folder.path, create).and_then(copy);
+        let _ = fs::remove_file(&self.proof.path);
+        whole.map_err(|error| not_written(&self.folder.path, error))
+    }
+}
+
+fn not_written(folder: &Path, error: io::Error) -> Failure {
+    let folder = shown_name(folder.as_os_str());
+    Failure::output(format!(
+        "the solver's files cannot be written in {folder}: {error}"
+    ))
 }
 
 /// Prints the plan for the formula that was handed in. An older proof that there is none is removed.
@@ -117,23 +144,16 @@ fn plan(text: &[u8], new: &Reencoded, answer: &[u8], proof: Option<Output>) -> R
     ended(&format!("s SATISFIABLE\n{line}"), SATISFIABLE)
 }
 
-/// Writes our log and the solver's proof after it: a proof of the formula that was handed in. On standard output it stands
-/// alone, and the exit status is the verdict.
-fn proved(
-    mut output: Output,
-    text: &[u8],
-    new: Reencoded,
-    solvers: &Path,
-    check: bool,
-) -> Result<u8, Failure> {
-    if check {
-        check_proof(text, &new, solvers)?;
-    }
-    let comment = if check { "" } else { "c proof not checked\n" };
-    output.write(Cursor::new(new.log))?;
-    output.write(open_proof(solvers)?)?;
+/// Writes the proof. On standard output it stands alone, and the exit status is the verdict.
+fn proved(mut output: Output, mut proof: File, is_checked: bool) -> Result<u8, Failure> {
+    proof.rewind().map_err(unreadable)?;
+    output.write(proof)?;
     let alone = output.is_standard();
     outputs::finish(vec![output])?;
+    let comment = match is_checked {
+        true => "",
+        false => "c proof not checked\n",
+    };
     if alone {
         comment.lines().for_each(say);
         return Ok(UNSATISFIABLE);
@@ -160,12 +180,9 @@ fn not_proved(why: String) -> Failure {
     ))
 }
 
-/// Checks the whole proof against the formula that was handed in.
-fn check_proof(text: &[u8], new: &Reencoded, solvers: &Path) -> Result<(), Failure> {
-    let proof = new
-        .log
-        .as_slice()
-        .chain(BufReader::new(open_proof(solvers)?));
+/// Checks the whole proof, of which so many lines are ours, against the formula that was handed in.
+fn check_proof(text: &[u8], ours: u64, mut proof: &File) -> Result<(), Failure> {
+    proof.rewind().map_err(unreadable)?;
     let mut tell_at = Instant::now() + QUIET_FOR;
     let mut progress = |lines: u64| {
         if Instant::now() >= tell_at {
@@ -173,8 +190,7 @@ fn check_proof(text: &[u8], new: &Reencoded, solvers: &Path) -> Result<(), Failu
             tell_at = Instant::now() + QUIET_FOR;
         }
     };
-    let ours = new.tally.lines;
-    match drat::check(text, proof, &mut progress) {
+    match drat::check(text, BufReader::new(proof), &mut progress) {
         Ok(_) => Ok(()),
         Err(drat::Error::Unreadable(error)) => Err(unreadable(error)),
         Err(drat::Error::Faulty { line, fault, text }) => Err(match fault {

@@ -1,8 +1,8 @@
 //! A solver run as a process: what it prints, if it ends as a solver does.
 
-use crate::cleanup;
 use crate::failure::Failure;
-use crate::system::{self, Keeper};
+use crate::keeper::{mark_command, Keeper};
+use crate::system;
 use sirgholyn::limits::{MOST_NAME_SHOWN, MOST_PRINTED_BYTES};
 use sirgholyn::shown::shown;
 use std::ffi::{OsStr, OsString};
@@ -71,7 +71,6 @@ impl Solver {
 
     fn start(&self, files: &[&Path]) -> Result<Running, Failure> {
         let keeper = Keeper::new().map_err(Failure::no_process)?;
-        cleanup::solver_is(keeper.group());
         let mut command = Command::new(&self.words[0]);
         command
             .args(&self.words[1..])
@@ -79,10 +78,11 @@ impl Solver {
             .stdin(Stdio::null())
             .stdout(Stdio::piped())
             .process_group(keeper.group());
-        // SAFETY: the call is allowed after a fork.
+        mark_command(&mut command);
+        // SAFETY: the calls are allowed after a fork.
         unsafe {
             command.pre_exec(|| {
-                system::by_default(system::SIGXFSZ);
+                system::hand_signals_on();
                 Ok(())
             })
         };
@@ -145,54 +145,64 @@ enum Ended {
     ByLength,
 }
 
+/// What came through the pipe.
+#[derive(PartialEq, Eq)]
+enum Heard {
+    Something,
+    Nothing,
+    TheEnd,
+}
+
 impl Running {
     /// Takes what the solver prints until it has ended, or has to be.
     fn wait(&mut self, until: Option<Instant>) -> io::Result<Ended> {
-        let is_over = || until.is_some_and(|until| Instant::now() >= until);
         let mut printed = Vec::new();
-        while self.hear(&mut printed)? {
-            if is_over() {
-                return Ok(Ended::ByTime);
+        let mut heard = Heard::Nothing;
+        loop {
+            let ended = self.child.try_wait()?;
+            if ended.is_some() {
+                // what it has printed is there; others that hold the pipe are not waited for
+                self.keeper.end_solver();
+                while self.hear(&mut printed, 0)? == Heard::Something {}
             }
             if printed.len() > MOST_PRINTED_BYTES {
                 return Ok(Ended::ByLength);
             }
-        }
-        loop {
-            if let Some(status) = self.child.try_wait()? {
+            if let Some(status) = ended {
                 return Ok(Ended::Itself(status, printed));
             }
-            if is_over() {
+            if until.is_some_and(|until| Instant::now() >= until) {
                 return Ok(Ended::ByTime);
             }
-            sleep(LOOK_AGAIN);
+            match heard {
+                Heard::TheEnd => sleep(LOOK_AGAIN),
+                _ => heard = self.hear(&mut printed, LOOK_EVERY)?,
+            }
         }
     }
 
-    /// Takes what there is to read for now; false at the end.
-    fn hear(&mut self, printed: &mut Vec<u8>) -> io::Result<bool> {
+    /// Takes what comes within so many milliseconds.
+    fn hear(&mut self, printed: &mut Vec<u8>, milliseconds: i32) -> io::Result<Heard> {
         let Some(pipe) = &mut self.child.stdout else {
-            return Ok(false);
+            return Ok(Heard::TheEnd);
         };
+        if printed.len() > MOST_PRINTED_BYTES || !system::readable(&*pipe, milliseconds)? {
+            return Ok(Heard::Nothing);
+        }
         let mut part = [0; 1 << 16];
-        if system::readable(&*pipe, LOOK_EVERY)? {
-            let count = pipe.read(&mut part)?;
-            printed.extend_from_slice(&part[..count]);
-            return Ok(count > 0);
+        let count = pipe.read(&mut part)?;
+        printed.extend_from_slice(&part[..count]);
+        match count {
+            0 => Ok(Heard::TheEnd),
+            _ => Ok(Heard::Something),
         }
-        if self.child.try_wait()?.is_some() {
-            // what the solver has left behind may still hold the pipe
-            system::kill_group(self.keeper.group());
-        }
-        Ok(true)
     }
 }
 
 impl Drop for Running {
     fn drop(&mut self) {
-        system::kill_group(self.keeper.group());
+        self.keeper.end_solver();
         let _ = self.child.wait();
-        cleanup::solver_is(0);
     }
 }
 

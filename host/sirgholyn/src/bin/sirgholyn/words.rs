@@ -50,7 +50,8 @@ pub fn help(command: &str, rest: &[OsString]) -> Option<&'static str> {
         let named = rest.first().and_then(|word| word.to_str());
         return Some(named.and_then(help_of).unwrap_or(HELP));
     }
-    let asked = rest.iter().any(|word| word == "--help" || word == "-h");
+    let mut options = rest.iter().take_while(|word| *word != "--");
+    let asked = options.any(|word| word == "--help" || word == "-h");
     help_of(command).filter(|_| asked)
 }
 

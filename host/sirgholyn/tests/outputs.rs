@@ -16,8 +16,22 @@ use std::process::{Command, Stdio};
 use std::thread;
 use std::time::Duration;
 
+/// The words for session F's new formula and log in a form.
+fn pair_words<'a>(input: &'a str, form: &'a str, formula: &'a str, log: &'a str) -> [&'a str; 8] {
+    [
+        "reencode",
+        input,
+        "--form",
+        form,
+        "--formula",
+        formula,
+        "--log",
+        log,
+    ]
+}
+
 /// The new formula and the log of session F in a form.
-fn pair(form: &str) -> (String, String) {
+fn pair(form: &str) -> [String; 2] {
     let text = |option: &str| {
         run_with(
             &["reencode", "-", "--form", form, option, "-"],
@@ -25,7 +39,7 @@ fn pair(form: &str) -> (String, String) {
         )
         .out
     };
-    (text("--formula"), text("--log"))
+    [text("--formula"), text("--log")]
 }
 
 /// A folder with session F as `in.cnf`, and the name of that.
@@ -173,7 +187,7 @@ fn one_output_is_not_given_twice() {
 #[test]
 fn standard_output_by_its_names() {
     let (folder, input) = folder_with_input();
-    let (formula, _) = pair("counter");
+    let [formula, _] = pair("counter");
     let link = folder.path("link");
     symlink("/dev/stdout", &link).unwrap();
     for name in ["-", "/dev/stdout", "/dev/fd/1", "/proc/self/fd/1", &link] {
@@ -211,7 +225,7 @@ fn links_devices_and_pipes_are_written_through() {
     let ran = run(&["reencode", &input, "--formula", &link, "--log", "/dev/null"]);
     assert_eq!(ran.status, 0, "{}", ran.err);
     assert!(fs::symlink_metadata(&link).unwrap().is_symlink());
-    assert_eq!(fs::read_to_string(&target).unwrap(), pair("counter").0);
+    assert_eq!(fs::read_to_string(&target).unwrap(), pair("counter")[0]);
     assert_eq!(
         fs::metadata(&target).unwrap().permissions().mode() & 0o777,
         0o640
@@ -223,13 +237,13 @@ fn links_devices_and_pipes_are_written_through() {
         "mkfifo \"$2\"; cat \"$2\" & \"$SIRGHOLYN\" reencode \"$1\" --log \"$2\" >&2; wait",
         &[&input, &pipe],
     );
-    assert_eq!((ran.status, ran.out), (0, pair("counter").1));
+    assert_eq!((ran.status, &ran.out), (0, &pair("counter")[1]));
 }
 
 #[test]
 fn names_of_all_kinds() {
     let (folder, input) = folder_with_input();
-    let (formula, log) = pair("counter");
+    let [formula, log] = pair("counter");
     let inside = |name: &[u8]| {
         let name = [folder.path("").as_bytes(), name].concat();
         OsString::from_vec(name)
@@ -312,7 +326,7 @@ fn a_refusal_leaves_files_as_they_were() {
     assert_eq!(fs::read(&formula).unwrap(), b"as it was");
     assert_eq!(folder.names(), ["in.cnf", "new.cnf", "wrong.cnf"]);
     assert_eq!(run(&["reencode", &input, "--formula", &formula]).status, 0);
-    assert_eq!(fs::read_to_string(&formula).unwrap(), pair("counter").0);
+    assert_eq!(fs::read_to_string(&formula).unwrap(), pair("counter")[0]);
 }
 
 /// Runs at once on the same names leave the pair of one of them.
@@ -331,16 +345,7 @@ fn runs_at_once_leave_one_pair() {
         thread::scope(|scope| {
             for turn in 0..8 {
                 let form = if turn % 2 == 0 { "counter" } else { "order" };
-                let words = [
-                    "reencode",
-                    &input,
-                    "--form",
-                    form,
-                    "--formula",
-                    &formula,
-                    "--log",
-                    &log,
-                ];
+                let words = pair_words(&input, form, &formula, &log);
                 scope.spawn(move || {
                     for _ in 0..5 {
                         let ran = run(&words);
@@ -349,10 +354,7 @@ fn runs_at_once_leave_one_pair() {
                 });
             }
         });
-        let found = (
-            fs::read_to_string(&formula).unwrap(),
-            fs::read_to_string(&log).unwrap(),
-        );
+        let found = [&formula, &log].map(|name| fs::read_to_string(name).unwrap());
         assert!(pairs.contains(&found));
     }
     assert_eq!(folder.names(), ["a", "b", "in.cnf", "new.cnf", "new.drat"]);
@@ -396,18 +398,7 @@ fn signals_leave_one_pair_and_nothing_else() {
     let (folder, input) = folder_with_input();
     let pairs = [pair("counter"), pair("order")];
     let (formula, log) = (folder.path("new.cnf"), folder.path("new.drat"));
-    let words = |form| {
-        [
-            "reencode",
-            &input,
-            "--form",
-            form,
-            "--formula",
-            &formula,
-            "--log",
-            &log,
-        ]
-    };
+    let words = |form| pair_words(&input, form, &formula, &log);
     assert_eq!(run(&words("counter")).status, 0);
     let (mut ended, mut done) = (0, 0);
     for turn in 0..400 {
@@ -430,10 +421,7 @@ fn signals_leave_one_pair_and_nothing_else() {
                 done += 1;
             }
         }
-        let found = (
-            fs::read_to_string(&formula).unwrap(),
-            fs::read_to_string(&log).unwrap(),
-        );
+        let found = [&formula, &log].map(|name| fs::read_to_string(name).unwrap());
         assert!(pairs.contains(&found));
         assert_eq!(folder.names(), ["in.cnf", "new.cnf", "new.drat"]);
     }

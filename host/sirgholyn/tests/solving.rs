@@ -489,24 +489,30 @@ fn an_answer_is_not_kept_back() {
     }
 }
 
-/// The proof that is written is the one that was checked, whatever a process that the solver has left does to its file.
+/// The proof that is written is the one that was checked: a process that the solver has left, and that is not found, waits until
+/// the command has opened the proof, and gives another file its name.
 #[test]
 fn the_proof_written_is_the_proof_checked() {
     let text = fs::read(example("no_plan.cnf")).unwrap();
     let scripted = Scripted::new(&text);
-    for _ in 0..5 {
-        let ran = scripted.solve(
-            "cadical -q --no-binary \"$1\" \"$2\"; cp \"$2\" \"$2.b\"; echo 9 9 9 garbage >>\"$2.b\"\n\
-             env -i setsid sh -c 'while [ -f \"$1\" ]; do cp \"$1.b\" \"$1.c\"; mv \"$1.c\" \"$1\"; done' sh \"$2\" >/dev/null 2>&1 &\n\
-             exit 20",
-        );
-        let proof = fs::read_to_string(&scripted.proof).unwrap();
-        match ran.status {
-            20 => check(std::str::from_utf8(&text).unwrap(), &proof),
-            _ => expect_failure(&ran, 69, "garbage"),
-        }
-        fs::write(&scripted.proof, b"older").unwrap();
-    }
+    // long enough to be renamed while it is checked
+    let ran = scripted.solve(
+        "clause=$(sed -n 2p \"$1\"); yes -- \"$clause\nd $clause\" | head -n 2000000 >\"$2\"\n\
+         cadical -q --no-binary \"$1\" \"$2.own\"; cat \"$2.own\" >>\"$2\"\n\
+         cp \"$2\" \"$2.bad\"; echo 9 9 9 garbage >>\"$2.bad\"\n\
+         env -i setsid sh -c 'echo >\"$1.ready\"; while [ -d /proc/$2 ]; do\n\
+         if ls -l /proc/$2/fd | grep -q \"$1\\$\"; then mv \"$1.bad\" \"$1\"; exit; fi; done' \\\n\
+         sh \"$2\" $PPID >/dev/null 2>&1 &\n\
+         until [ -f \"$2.ready\" ]; do sleep 0.01; done; exit 20",
+    );
+    assert_eq!(
+        (ran.status, ran.out.as_str()),
+        (20, "s UNSATISFIABLE\n"),
+        "{}",
+        ran.err
+    );
+    let proof = fs::read_to_string(&scripted.proof).unwrap();
+    check(std::str::from_utf8(&text).unwrap(), &proof);
 }
 
 /// What a solver leaves running is ended with it.
@@ -514,10 +520,13 @@ fn the_proof_written_is_the_proof_checked() {
 fn what_a_solver_leaves_running_is_ended() {
     let scripted = Scripted::new(F.as_bytes());
     let pid = scripted.folder.path("pid");
+    let start = Instant::now();
     let ran = scripted.solve(&format!(
         "sleep 100 & echo $! >{pid}; printf 's SATISFIABLE\\nv 1 6 7 8 9 10 0\\n'"
     ));
     assert_eq!(ran.status, 10, "{}", ran.err);
+    // else it has ended by itself
+    assert!(start.elapsed() < Duration::from_secs(50));
     expect_ended(&[fs::read_to_string(&pid).unwrap().trim().to_string()]);
 }
 

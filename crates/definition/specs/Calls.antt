@@ -58,11 +58,11 @@ reencoded s i =
       formula = formula;
     }
 
--- 11: fewer 32-bit entries than 20L + 2C + 6V + 8,192
+-- 11: fewer 32-bit entries than 20L + 2C + 6V + 8,192; L counts what is kept, C is the header's
 unfoldable pub workspace-need : Input → ℕ
 workspace-need i = 20 * literals-of (i .formula) + 2 * i .clauses + 6 * i .highest + 8_192
 
--- 1 to 9, 11, 12, 13; the three numbers are the entries of workspace and the bytes of the two buffers
+-- 1 to 4, 7 to 9, 11, 12, 13; the three numbers are the entries of workspace and the bytes of the two buffers
 unfoldable pub reencode : Settings → ℕ → ℕ → ℕ → Bytes → Checked Reencoded
 reencode s workspace log-room formula-room t =
     read-input t >>= λ i.
@@ -72,7 +72,7 @@ reencode s workspace log-room formula-room t =
     (refuse-if (ltb formula-room (length (r .formula))) 13
     (value r)))
 
--- ---- the new formula read back: 1 to 9, then 11
+-- ---- the new formula read back: 1 to 4, 7 to 9, then 11
 unfoldable pub read-back : ℕ → Bytes → Checked Input
 read-back workspace t =
     read-formula read-back-limits t >>= λ i.
@@ -89,7 +89,7 @@ unfoldable pub answer-text : ℕ → Assignment → Bytes
 answer-text v a =
     bytes "v" ++ for-from 1 v (λ i. bytes " " ++ literal-text (cond (a i) (pos i) (negℤ (pos i)))) ++ bytes " 0\n"
 
--- N, the numbers after the formula's header, zeros counted
+-- N, the numbers after the formula's header, zeros counted; of a clause left out not even its 0
 unfoldable pub numbers-of : Formula → ℕ
 numbers-of f = literals-of f + length f
 
@@ -110,7 +110,7 @@ carry-answer room i ss standing a =
     (let text = answer-text (i .variables) back in
     refuse-if (ltb room (length text)) 14 (value text)))
 
--- 1 to 9, then 31 or 34, 41 to 43, 11, 32, 44, 33, 14
+-- 1 to 4, 7 to 9, then 31 or 34, 41 to 43, 11, 32, 44, 33, 14
 unfoldable pub walk-back : ℕ → ℕ → ℕ → Bytes → Bytes → Bytes → Checked Bytes
 walk-back workspace room kept formula log answer =
     read-input formula >>= λ i.

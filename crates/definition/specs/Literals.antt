@@ -1,7 +1,7 @@
 -- "Text and literals": a literal is a whole number, negative for a negated variable; a clause is a list of literals; a formula a list of clauses.
 -- ℤ is the value of an i32 in a contract.
-use mathlib.Core.Bool.{Bool, false, not, _&&_, _||_}
-use mathlib.Core.List.{List, [], _∷_}
+use mathlib.Core.Bool.{Bool, false, not, _&&_, _||_, cond}
+use mathlib.Core.List.{List, [], _∷_, _++_}
 use Prim.Native.Nat.{ℕ, max}
 use lib.Dec.{eqb}
 use lib.IntN.{ℤ, pos, negsuc, negℤ, natAbs}
@@ -34,6 +34,10 @@ without l c = those (λ m. not (same l m)) c
 -- l written first, the other literals in order
 unfoldable pub with-first : ℤ → Clause → Clause
 with-first l c = l ∷ without l c
+
+-- l at the end, unless it is there already
+abbrev pub with-literal : ℤ → Clause → Clause
+with-literal l c = cond (holds l c) c (c ++ (l ∷ []))
 
 -- a literal of c whose negation is in d
 unfoldable pub opposes : Clause → Clause → Bool

@@ -1,12 +1,12 @@
--- "Text and literals" and "Who can be turned back", 1 to 9: reading DIMACS CNF.
+-- "Text and literals" and "Who can be turned back", 1 to 4 and 7 to 9: reading DIMACS CNF.
 use mathlib.Core.Bool.{false, not, _&&_, _||_, cond}
 use mathlib.Core.List.{List, [], _∷_, _++_}
 use Prim.Native.Nat.{ℕ, suc, _+_}
 use lib.Dec.{eqb, leb, ltb}
-use lib.IntN.{ℤ, negℤ, natAbs}
+use lib.IntN.{ℤ, natAbs}
 use lib.ListN.{length, getD, drop}
 use Rattle.definition.specs.Checked.{Checked, fault, value, _>>=_, refuse-if, or-fault, through}
-use Rattle.definition.specs.Literals.{Clause, Formula, holds, literals-of}
+use Rattle.definition.specs.Literals.{Clause, Formula, with-literal, opposed, literals-of}
 use Rattle.definition.specs.Text.{Bytes, bytes, TextLine, text-lines, line-text, past-comments, same-bytes, words, fields, natural, number}
 
 -- the most that a text may have
@@ -24,7 +24,7 @@ unfoldable pub read-back-limits : Limits
 read-back-limits = record { variables = 70_000; clauses = 300_000; literals = 1_000_000 }
 
 -- the input of a call: V; the highest variable in use, V or the last that a wish joins; C, the header's and the clauses that a wish joins; and
--- the list of clauses read, followed by those that a wish joins
+-- the list of clauses kept, followed by those that a wish joins
 pub record Input : Type 0 where
   pub variables : ℕ
   pub highest : ℕ
@@ -59,38 +59,46 @@ read-header-line most (l ∷ ls) t = read-header-fields most (fields (line-text 
 unfoldable pub read-header : Limits → Bytes → Checked Header
 read-header most t = let u = past-comments false t in read-header-line most (text-lines u) u
 
--- between two words: the clauses read, and the literals of the one being read
+-- what is kept of a clause: a clause that holds a literal and its negation is left out
+unfoldable pub kept-of : Clause → Formula
+kept-of c = cond (opposed c) [] (c ∷ [])
+
+-- between two words: how many clauses are read, what is kept of them, and the literals of the one being read
 pub record Reader : Type 0 where
+  pub count : ℕ
   pub done : Formula
   pub here : Clause
 
--- a literal of the clause being read: its faults in number order
-unfoldable pub read-literal : Limits → ℕ → Reader → ℤ → Checked Reader
-read-literal most v r l =
-    refuse-if (ltb v (natAbs l)) 4
-    (refuse-if (holds l (r .here)) 5
-    (refuse-if (holds (negℤ l) (r .here)) 6
-    (refuse-if (leb (most .literals) (literals-of (r .done) + length (r .here))) 9
-    (value (record { done = r .done; here = r .here ++ (l ∷ []) })))))
+abbrev pub nothing-read : Reader
+nothing-read = record { count = 0; done = []; here = [] }
 
--- 0 ends a clause
-unfoldable pub end-clause : Reader → Checked Reader
-end-clause r = value (record { done = r .done ++ (r .here ∷ []); here = [] })
+-- a repeated literal stays at its first place only
+unfoldable pub read-literal : ℕ → Reader → ℤ → Checked Reader
+read-literal v r l =
+    refuse-if (ltb v (natAbs l)) 4
+    (value (record { count = r .count; done = r .done; here = with-literal l (r .here) }))
+
+-- 0 ends a clause, which counts towards C though it may be left out; L counts what is kept
+unfoldable pub end-clause : Limits → Reader → Checked Reader
+end-clause most r =
+    let done = r .done ++ kept-of (r .here) in
+    refuse-if (ltb (most .literals) (literals-of done)) 9
+    (value (record { count = r .count + 1; done = done; here = [] }))
 
 unfoldable pub read-word : Limits → ℕ → ℕ → Reader → Bytes → Checked Reader
 read-word most v c r w =
-    refuse-if (leb c (length (r .done))) 8
+    refuse-if (leb c (r .count)) 8
     (or-fault (number w) 3 >>= λ n.
-    cond (eqb 0 (natAbs n)) (end-clause r) (read-literal most v r n))
+    cond (eqb 0 (natAbs n)) (end-clause most r) (read-literal v r n))
 
 -- at the text's end: inside a clause, or with fewer than C
 unfoldable pub end-text : ℕ → Reader → Checked Formula
-end-text c r = refuse-if (ltb 0 (length (r .here))) 7 (refuse-if (ltb (length (r .done)) c) 8 (value (r .done)))
+end-text c r = refuse-if (ltb 0 (length (r .here))) 7 (refuse-if (ltb (r .count) c) 8 (value (r .done)))
 
 -- exactly C clauses follow
 unfoldable pub read-clauses : Limits → Header → Checked Input
 read-clauses most h =
-    through (read-word most (h .variables) (h .clauses)) (record { done = []; here = [] }) (h .after) >>= λ r.
+    through (read-word most (h .variables) (h .clauses)) nothing-read (h .after) >>= λ r.
     end-text (h .clauses) r >>= λ f.
     value (as-read (h .variables) (h .clauses) f)
 
@@ -99,5 +107,5 @@ read-formula most t = read-header most t >>= λ h. read-clauses most h
 
 -- all of this file, for a proof that computes: `unfolding computing` opens every name of the next line
 unfoldable pub computing : Unit {0}
-unfolding input-limits read-back-limits read-header-fields read-header-line read-header read-literal end-clause read-word end-text read-clauses read-formula
+unfolding input-limits read-back-limits read-header-fields read-header-line read-header kept-of read-literal end-clause read-word end-text read-clauses read-formula
 computing = tt

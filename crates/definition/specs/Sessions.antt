@@ -12,7 +12,7 @@ use Rattle.definition.specs.Literals
 use Rattle.definition.specs.Text
 use Rattle.definition.specs.Text.{bytes, same-bytes}
 use Rattle.definition.specs.Reading
-use Rattle.definition.specs.Reading.{input-limits, read-formula}
+use Rattle.definition.specs.Reading.{Input, input-limits, read-formula}
 use Rattle.definition.specs.Standing
 use Rattle.definition.specs.Assignments
 use Rattle.definition.specs.Clearing
@@ -50,6 +50,10 @@ pub data Session : Type 0 where
   reads-back : Settings → String → Session
   -- the choices of a formula without clashes and pure literals, aligned
   aligns : String → String → Session
+  -- the clauses kept of a text that may have so many literals
+  reads : ℕ → String → String → Session
+  -- the number that such a text is refused with
+  not-read : ℕ → String → ℕ → Session
   -- the number that a text is refused with
   refused : String → ℕ → Session
   -- the number that reencoding is refused with, given so many entries of workspace and bytes of the two buffers
@@ -59,6 +63,9 @@ pub data Session : Type 0 where
 
 unfoldable pub run : Settings → String → Checked Reencoded
 run s t = reencode s 100_000 100_000 100_000 (bytes t)
+
+unfoldable pub read-within : ℕ → String → Checked Input
+read-within n t = read-formula (record { variables = 9; clauses = 9; literals = n }) (bytes t)
 
 -- a value that passes the test
 unfoldable pub good : {A : Type 0} → Checked A → (A → Bool) → Bool
@@ -85,6 +92,8 @@ passes (aligns t out) =
     good (read-formula input-limits (bytes t)) (λ i.
     let cs = choices (i .formula) in
     same-bytes (for-each (map (arranged alignment (i .formula) cs) cs) clause-text) (bytes out))
+passes (reads n t out) = good (read-within n t) (λ i. same-bytes (for-each (i .formula) clause-text) (bytes out))
+passes (not-read n t m) = is-fault (read-within n t) m
 passes (refused t n) = is-fault (run counter t) n
 passes (short s t workspace log-room formula-room n) = is-fault (reencode s workspace log-room formula-room (bytes t)) n
 passes (not-walked t log kept answer n) = is-fault (walk-back 100_000 1_000 kept (bytes t) (bytes log) (bytes answer)) n
@@ -129,9 +138,22 @@ sessions =
     ∷ aligns "p cnf 11 4\n1 2 3 4 5 0\n6 7 8 9 10 0\n-1 -8 0\n-6 -2 0\n" "1 2 3 4 5 0\n8 6 7 9 10 0\n"
     -- 1-8-2: not alignable
     ∷ aligns "p cnf 11 4\n1 2 3 4 5 0\n6 7 8 9 10 0\n-1 -8 0\n-8 -2 0\n" "1 2 3 4 5 0\n6 7 8 9 10 0\n"
+    -- a repeated literal stays at its first place only; a clause with a literal and its negation is left out, but counts towards C
+    ∷ reads 1 "p cnf 1 1\n1 1 0\n" "1 0\n"
+    ∷ reads 0 "p cnf 1 1\n1 -1 0\n" ""
+    ∷ reads 3 "p cnf 3 3\n2 1 2 -3 1 0\n1 -1 1 0\n0\n" "2 1 -3 0\n0\n"
+    ∷ not-read 2 "p cnf 3 3\n2 1 2 -3 1 0\n1 -1 1 0\n0\n" 9
+    ∷ not-read 0 "p cnf 1 2\n1 -1 0 1 0\n" 9
+    ∷ not-read 0 "p cnf 1 1\n1 1" 7
+    ∷ refused "p cnf 1 1\n1 -1 x 0\n" 3
+    ∷ refused "p cnf 1 1\n1 -1 2 0\n" 4
+    ∷ refused "p cnf 1 1\n1 -1 1" 7
+    ∷ refused "p cnf 1 1\n1 -1 0 1 0\n" 8
+    ∷ refused "p cnf 1 2\n1 -1 0\n" 8
+    ∷ short counter "p cnf 1 1\n1 -1 0\n" 8_199 0 0 11
+    ∷ short counter "p cnf 1 1\n1 -1 0\n" 8_200 0 0 13
+    ∷ walks counter "p cnf 3 3\n1 2 1 0\n2 -2 0\n-1 3 -1 0\n" "s SATISFIABLE\nv 0\n" 4 "v -1 2 -3 0\n"
     -- refusals
-    ∷ refused "p cnf 1 1\n1 1 0\n" 5
-    ∷ refused "p cnf 1 1\n1 -1 0\n" 6
     ∷ refused "p cnf 1 1\n2 0\n" 4
     ∷ refused "p cnf 1 1\n-0\n" 3
     ∷ refused "p cnf 1 1\n1" 7
@@ -157,5 +179,5 @@ sessions =
     ∷ []
 
 pub sessions-hold : T (all passes sessions)
-unfolding sessions passes run good is-fault Lists.computing Checked.computing Literals.computing Text.computing Reading.computing Standing.computing Assignments.computing Clearing.computing Counter.computing Order.computing Alignment.computing Reencoding.computing Log.computing LogReading.computing Answer.computing Calls.computing
+unfolding sessions passes run read-within good is-fault Lists.computing Checked.computing Literals.computing Text.computing Reading.computing Standing.computing Assignments.computing Clearing.computing Counter.computing Order.computing Alignment.computing Reencoding.computing Log.computing LogReading.computing Answer.computing Calls.computing
 sessions-hold = tt

@@ -90,18 +90,17 @@ module _ (most : Limits) where
   unfolding read-header
   header-listed t = header-line-listed _ _
 
-  -- a literal: 4, 5, 6, 9
-  literal-listed : (v : ℕ) (r : Reader) (l : ℤ) → Listed formula-numbers (read-literal most v r l)
+  -- a literal: 4
+  literal-listed : (v : ℕ) (r : Reader) (l : ℤ) → Listed formula-numbers (read-literal v r l)
   unfolding read-literal formula-numbers any
-  literal-listed v r l =
-      refuse-listed 4 _ tt (refuse-listed 5 _ tt (refuse-listed 6 _ tt (refuse-listed 9 _ tt accepted)))
+  literal-listed v r l = refuse-listed 4 _ tt accepted
 
-  -- the end of a clause: no number
-  end-clause-listed : (r : Reader) → Listed formula-numbers (end-clause r)
-  unfolding end-clause
-  end-clause-listed r = accepted
+  -- the end of a clause: 9
+  end-clause-listed : (r : Reader) → Listed formula-numbers (end-clause most r)
+  unfolding end-clause formula-numbers any
+  end-clause-listed r = refuse-listed 9 _ tt accepted
 
-  -- a word: 8, 3, and those of a literal
+  -- a word: 8, 3, and those of a literal or of the end of a clause
   word-listed : (v c : ℕ) (r : Reader) (w : Bytes) → Listed formula-numbers (read-word most v c r w)
   unfolding read-word formula-numbers any
   word-listed v c r w =

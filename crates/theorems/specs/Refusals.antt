@@ -13,10 +13,10 @@ use Rattle.definition.specs.Calls.{reencode, read-back, walk-back, buffer-after
 
 -- ---- the listed numbers
 
--- "Formula's writer: 1 no header line as above; 2 V or C too large; 3 not a number; 4 variable above V; 5 literal repeated in its clause; 6 its negation already there;
--- 7 text ends inside a clause; 8 a word after C clauses (tested before 3), or fewer at the end; 9 L above 60,000."
+-- "Formula's writer: 1 no header line as above; 2 V or C too large; 3 not a number; 4 variable above V; .. 7 text ends inside a clause;
+-- 8 a word after C clauses (tested before 3), or fewer at the end; 9 L above 60,000." M-100: "Numbers 5 and 6 are withdrawn".
 unfoldable pub formula-numbers : List ℕ
-formula-numbers = 1 ∷ 2 ∷ 3 ∷ 4 ∷ 5 ∷ 6 ∷ 7 ∷ 8 ∷ 9 ∷ []
+formula-numbers = 1 ∷ 2 ∷ 3 ∷ 4 ∷ 7 ∷ 8 ∷ 9 ∷ []
 
 -- "Log's writer: 31 a kept line not in the layout above (its LF included), with a literal repeated or opposed, or a variable above 70,000; .. 34 fewer lines than kept."
 -- 32 and 33 are found with the formula.
@@ -27,15 +27,15 @@ log-numbers = 31 ∷ 34 ∷ []
 unfoldable pub answer-numbers : List ℕ
 answer-numbers = 41 ∷ 42 ∷ 43 ∷ []
 
--- "Reencoding: 1 to 9, 11, 12, 13."
+-- reencoding: 1 to 4, 7 to 9, 11, 12, 13
 unfoldable pub reencode-numbers : List ℕ
 reencode-numbers = formula-numbers ++ (11 ∷ 12 ∷ 13 ∷ [])
 
--- the new formula read back: 1 to 9, with 2 and 9 at the read-back limits, and 11
+-- the new formula read back: 1 to 4, 7 to 9, with 2 and 9 at the read-back limits, and 11
 unfoldable pub read-back-numbers : List ℕ
 read-back-numbers = formula-numbers ++ (11 ∷ [])
 
--- "Walk-back: 1 to 9, then 31 or 34, 41 to 43, 11, 32, 44, 33, 14."
+-- walk-back: 1 to 4, 7 to 9, "then 31 or 34, 41 to 43, 11, 32, 44, 33, 14"
 unfoldable pub walk-back-numbers : List ℕ
 walk-back-numbers = formula-numbers ++ log-numbers ++ answer-numbers ++ (11 ∷ 32 ∷ 44 ∷ 33 ∷ 14 ∷ [])
 

@@ -1,18 +1,18 @@
 -- Proper clauses: with a literal more at the end, and what the tests for repeated and opposed literals say. Assumes nothing.
 use Rattle.definition.specs.Calls.{numbers-of}
 use mathlib.Core.Path.{_≡_, refl, sym, ap, ap₂, _∙_}
-use mathlib.Core.Bool.{false, true}
+use mathlib.Core.Bool.{Bool, false, true, cond}
 use mathlib.Core.Logic.{_≢_, ⊎-elim, _⊎_, inl, inr}
 use mathlib.Core.List.{List, [], _∷_, _++_, List·Memᴰ, List·Memᴰ·head as here, List·Memᴰ·tail as there, List·Memᴰ·not-nil, List·Memᴰ·cases-cons, List·Memᴰ·append-cases, List·Memᴰ·eq-of-singleton, Memᴰ·append-right, Memᴰ·append-left, Memᴰ·cast}
 use Prim.Native.Nat.{ℕ, _+_, _≤_}
 use native.Mathlib.Omega.{arith}
 use lib.IntN.{ℤ, pos, negsuc, negℤ, natAbs}
 use lib.ListN.{length}
-use Rattle.definition.specs.Lists.{sum-of}
-use Rattle.definition.specs.Literals.{Clause, Formula, holds, literals-of, repeated, opposed}
+use Rattle.definition.specs.Lists.{any, sum-of}
+use Rattle.definition.specs.Literals.{Clause, Formula, same, holds, with-literal, literals-of, repeated, opposed}
 use Rattle.theory_base.proofs.Tests.{to-false, differ, or-false-both, to-true, of-true, or-l, or-r}
 use Rattle.theory_base.proofs.Sums.{sum-++, count-length, Distinct, sum-within}
-use Rattle.theory_base.proofs.Members.{turn, holds-false, mem-holds, opposes-mem, mem-opposes, proper-unopposed, proper-literal}
+use Rattle.theory_base.proofs.Members.{unlike, unlike-false, turn, holds-snoc, holds-false, mem-holds, opposes-mem, mem-opposes, proper-unopposed, proper-literal}
 use Rattle.theory_base.specs.Clauses.{Same, Proper}
 
 -- a literal of a proper clause, and those before it
@@ -69,6 +69,33 @@ tests-proper c r o z = by-members c r (λ x i j. differ (mem-opposes c c x i j) 
     by-members (l ∷ c) r o z =
         let q = or-false-both (holds l c) (repeated c) r in
         (z l (here refl), λ i. differ (mem-holds l c i) (q .0), λ i. o l (here refl) (there i), by-members c (q .1) (λ x i j. o x (there i) (there j)) (λ x i. z x (there i)))
+
+-- ---- a literal at the end, unless it is there already
+pub none-repeated : repeated [] ≡ false
+unfolding repeated
+none-repeated = refl
+
+unrepeated-snoc : (c : Clause) (l : ℤ) → repeated c ≡ false → holds l c ≡ false → repeated (c ++ (l ∷ [])) ≡ false
+unfolding repeated holds any
+unrepeated-snoc [] l r h = refl
+unrepeated-snoc (m ∷ c) l r h =
+    let q = or-false-both (holds m c) (repeated c) r in
+    let d = or-false-both (same l m) (holds l c) h in
+    rw (holds-snoc m c l, q .0, unlike-false m l (λ e. unlike l m (d .0) (sym e)), unrepeated-snoc c l (q .1) (d .1))
+
+pub unrepeated-with : (l : ℤ) (c : Clause) → repeated c ≡ false → repeated (with-literal l c) ≡ false
+unrepeated-with l c r = go (holds l c) refl
+  where
+    go : (b : Bool) → holds l c ≡ b → repeated (cond b c (c ++ (l ∷ []))) ≡ false
+    go true e = r
+    go false e = unrepeated-snoc c l r e
+
+pub members-with : (P : ℤ → Type 0) (l : ℤ) (c : Clause) → ((x : ℤ) → List·Memᴰ x c → P x) → P l → (x : ℤ) → List·Memᴰ x (with-literal l c) → P x
+members-with P l c h p = go (holds l c)
+  where
+    go : (b : Bool) → (x : ℤ) → List·Memᴰ x (cond b c (c ++ (l ∷ []))) → P x
+    go true = h
+    go false = members-snoc P c l h p
 
 -- ---- two proper clauses with the same literals have the same sums
 proper-distinct : (c : Clause) → Proper c → Distinct c

@@ -7,7 +7,6 @@ use Prim.Native.Char.{code}
 use native.Mathlib.Omega.{arith}
 use lib.Dec.{eqb}
 use lib.IntN.{ℤ, pos, negℤ, natAbs}
-use lib.ListN.{length}
 use borrow.Author.Tests.{le-ltb, ne-eqb, eqb-true, eqb-false}
 use Rattle.definition.specs.Lists.{for-each, for-from}
 use Rattle.definition.specs.Checked.{value, _>>=_, refuse-if, or-fault, through}
@@ -104,7 +103,7 @@ module _ (x : ℕ) (c : Clause) (proper : Proper c) (fit : (l : ℤ) → List·M
   words-read =
       rw (
         through-++ (read-answer-word x) (open-at []) (literal-words c) (bytes "0" ∷ []) (open-at c)
-            (literals-through (read-answer-word x) open-at x (length c) (λ d l q n m r. literal-read x d l q n m) [] c proper fit (omega arith)),
+            (literals-through (read-answer-word x) open-at x (literal-read x) [] c proper fit),
         zero-read x c,
       )
 

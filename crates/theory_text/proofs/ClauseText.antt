@@ -2,11 +2,10 @@
 use mathlib.Core.Path.{_≡_, refl, sym}
 use mathlib.Core.Bool.{Bool, true, false}
 use mathlib.Core.List.{List, [], _∷_, _++_, append-assoc, append-nil, List·Memᴰ, List·Memᴰ·head as here, List·Memᴰ·tail as there}
-use Prim.Native.Nat.{ℕ, _≤_, _<_}
+use Prim.Native.Nat.{ℕ, _≤_}
 use Prim.Native.Char.{code}
 use native.Mathlib.Omega.{arith}
 use lib.IntN.{ℤ, pos, negℤ}
-use lib.ListN.{length, length-append}
 use lib.Seq.{append-snoc}
 use borrow.Author.Tests.{ne-eqb}
 use Rattle.definition.specs.Lists.{for-each}
@@ -15,7 +14,7 @@ use Rattle.definition.specs.Literals.{Clause}
 use Rattle.definition.specs.Text.{Bytes, bytes, is, blank, words-by, words, fields, digits, literal-text}
 use Rattle.definition.specs.Log.{clause-text}
 use Rattle.definition.specs.Answer.{space-or-tab}
-use Rattle.theory_base.specs.Clauses.{Proper, Fit}
+use Rattle.theory_base.specs.Clauses.{Proper, Fit, Fit-all}
 use Rattle.theory_base.proofs.Clauses.{proper-apart}
 use Rattle.theory_text.proofs.Digits.{literal-between, literal-some}
 use Rattle.theory_text.proofs.Words.{free-++, between-free, first-word, only-word, first-field, only-field}
@@ -111,14 +110,13 @@ module _ (p : ℕ → Bool) (outside : Outside p) (at-blank : p (code " ") ≡ f
   clause-line-free c = free-++ p (literals-text c) (bytes "0") (literals-text-free c) (zero-free p outside)
 
 -- ---- steps through the words of a clause's literals: none is 0, repeated or opposed, or has a variable above v
-pub literals-through : {S : Type 0} (step : S → Bytes → Checked S) (state : Clause → S) (v room : ℕ) →
-    ((a : Clause) (l : ℤ) → Fit v l → (List·Memᴰ l a → ⊥) → (List·Memᴰ (negℤ l) a → ⊥) → length a < room → step (state a) (literal-text l) ≡ value (state (a ++ (l ∷ [])))) →
-    (a c : Clause) → Proper (a ++ c) → ((x : ℤ) → List·Memᴰ x c → Fit v x) → length (a ++ c) ≤ room →
-    through step (state a) (literal-words c) ≡ value (state (a ++ c))
+pub literals-through : {S : Type 0} (step : S → Bytes → Checked S) (state : Clause → S) (v : ℕ) →
+    ((a : Clause) (l : ℤ) → Fit v l → (List·Memᴰ l a → ⊥) → (List·Memᴰ (negℤ l) a → ⊥) → step (state a) (literal-text l) ≡ value (state (a ++ (l ∷ [])))) →
+    (a c : Clause) → Proper (a ++ c) → Fit-all v c → through step (state a) (literal-words c) ≡ value (state (a ++ c))
 unfolding through literal-words for-each _>>=_
-literals-through step state v room one a [] p f h = rw (append-nil a)
-literals-through step state v room one a (l ∷ c) p f h =
+literals-through step state v one a [] p f = rw (append-nil a)
+literals-through step state v one a (l ∷ c) p f =
     let r = proper-apart a l c p in
     let e = append-snoc a l c in
-    rw (one a l (f l (here refl)) (r .0) (r .1) (omega (arith, length-append a (l ∷ c))))
-    (rw e at (literals-through step state v room one (a ++ (l ∷ [])) c (rw e p) (λ x i. f x (there i)) (rw e h)))
+    rw (one a l (f l (here refl)) (r .0) (r .1))
+    (rw e at (literals-through step state v one (a ++ (l ∷ [])) c (rw e p) (λ x i. f x (there i))))

@@ -2,10 +2,10 @@
 use mathlib.Core.Path.{_≡_, refl, sym, _∙_, ap}
 use mathlib.Core.Bool.{Bool, false}
 use mathlib.Core.List.{List, [], _∷_, _++_, append-assoc, append-nil, List·Memᴰ, List·Memᴰ·head as here, List·Memᴰ·tail as there}
-use Prim.Native.Nat.{ℕ, _+_, _-_, _≤_, _<_}
+use Prim.Native.Nat.{ℕ, _+_, _≤_, _<_}
 use Prim.Native.Char.{code}
 use native.Mathlib.Omega.{arith}
-use lib.IntN.{ℤ, negℤ, natAbs}
+use lib.IntN.{ℤ, natAbs}
 use lib.ListN.{length, length-append}
 use lib.Seq.{append-snoc}
 use borrow.Author.Tests.{le-ltb, lt-leb, ne-eqb}
@@ -14,10 +14,10 @@ use Rattle.definition.specs.Checked.{value, _>>=_, or-fault, refuse-if, through
 use Rattle.definition.specs.Literals.{Clause, Formula, literals-of}
 use Rattle.definition.specs.Text.{Bytes, bytes, is, line-text, past-comments, add-part, parts, words-by, words, fields, digits, same-bytes, literal-text, number, natural, not-negated, digit, digit-value}
 use Rattle.definition.specs.Log.{clause-text, formula-text}
-use Rattle.definition.specs.Reading.{Limits, Reader, as-read, read-header-fields, read-header-line, read-header, read-literal, end-clause, read-word, end-text, read-clauses, read-formula}
+use Rattle.definition.specs.Reading.{Limits, Reader, as-read, read-header-fields, read-header-line, read-header, kept-of, read-literal, end-clause, read-word, end-text, read-clauses, read-formula}
 use Rattle.theory_base.proofs.Members.{holds-false}
-use Rattle.theory_base.specs.Clauses.{Proper, Proper-all, Fit, Fits}
-use Rattle.theory_base.proofs.Clauses.{literals-snoc, natAbs-zero}
+use Rattle.theory_base.specs.Clauses.{Proper, Proper-all, Fit, Fit-all, Fits}
+use Rattle.theory_base.proofs.Clauses.{literals-snoc, natAbs-zero, proper-not-opposed}
 use Rattle.theory_base.proofs.Outcomes.{through-++}
 use Rattle.theory_text.proofs.Digits.{natural-digits, number-literal}
 use Rattle.theory_text.proofs.Words.{free-++, any-free, first-field, only-field, first-line, no-last-cr, past-line}
@@ -75,35 +75,40 @@ header-read most v c t f g =
     )
     (header-fields-read most v c t f g)
 
--- ---- a clause: the clauses read, and the literals of the one being read
+-- ---- a clause: the clauses read, all of them kept, and the literals of the one being read
 abbrev reader : Formula → Clause → Reader
-reader g a = record { done = g; here = a }
+reader g a = record { count = length g; done = g; here = a }
 
 module _ (most : Limits) (v c : ℕ) (g : Formula) (more : length g < c) where
-  literal-read : (a : Clause) (l : ℤ) → Fit v l → (List·Memᴰ l a → ⊥) → (List·Memᴰ (negℤ l) a → ⊥) → literals-of g + length a < most .literals → read-word most v c (reader g a) (literal-text l) ≡ value (reader g (a ++ (l ∷ [])))
+  literal-read : (a : Clause) (l : ℤ) → Fit v l → (List·Memᴰ l a → ⊥) → read-word most v c (reader g a) (literal-text l) ≡ value (reader g (a ++ (l ∷ [])))
   unfolding read-word read-literal refuse-if or-fault _>>=_
-  literal-read a l f n m h =
+  literal-read a l f n =
       rw (
         lt-leb c (length g) more,
         number-literal l,
         ne-eqb 0 (natAbs l) (λ e. f .0 (natAbs-zero l (sym e))),
         le-ltb v (natAbs l) (f .1),
         holds-false l a n,
-        holds-false (negℤ l) a m,
-        lt-leb (most .literals) (literals-of g + length a) h,
       )
 
-  zero-read : (a : Clause) → read-word most v c (reader g a) (bytes "0") ≡ value (reader (g ++ (a ∷ [])) [])
-  unfolding read-word refuse-if or-fault _>>=_ bytes number natural not-negated is digit digit-value end-clause
-  zero-read a = rw (lt-leb c (length g) more)
+  zero-read : (a : Clause) → Proper a → literals-of g + length a ≤ most .literals → read-word most v c (reader g a) (bytes "0") ≡ value (reader (g ++ (a ∷ [])) [])
+  unfolding read-word refuse-if or-fault _>>=_ bytes number natural not-negated is digit digit-value end-clause kept-of
+  zero-read a p h =
+      rw (
+        lt-leb c (length g) more,
+        proper-not-opposed a p,
+        literals-snoc g a,
+        le-ltb (most .literals) (literals-of g + length a) h,
+        length-append g (a ∷ []),
+      )
 
-  clause-read : (d : Clause) → Proper d → ((x : ℤ) → List·Memᴰ x d → Fit v x) → literals-of g + length d ≤ most .literals → through (read-word most v c) (reader g []) (clause-words d) ≡ value (reader (g ++ (d ∷ [])) [])
+  clause-read : (d : Clause) → Proper d → Fit-all v d → literals-of g + length d ≤ most .literals → through (read-word most v c) (reader g []) (clause-words d) ≡ value (reader (g ++ (d ∷ [])) [])
   unfolding clause-words through _>>=_
   clause-read d p f h =
       rw (
         through-++ (read-word most v c) (reader g []) (literal-words d) (bytes "0" ∷ []) (reader g d)
-            (literals-through (read-word most v c) (reader g) v (most .literals - literals-of g) (λ a l q n m r. literal-read a l q n m (omega arith)) [] d p f (omega arith)),
-        zero-read d,
+            (literals-through (read-word most v c) (reader g) v (λ a l q n _. literal-read a l q n) [] d p f),
+        zero-read d p h,
       )
 
 -- ---- the clauses

@@ -18,9 +18,13 @@ unfolding entries for-each numbers-of literals-of sum-of
 entries-numbers [] = refl
 entries-numbers (c ∷ f) = omega (arith, length-append (entry c) (entries f), entries-numbers f)
 
-pub entries-snoc : (f : Formula) (c : Clause) → entries (f ++ (c ∷ [])) ≡ entries f ++ entry c
+pub entries-one : (c : Clause) → entries (c ∷ []) ≡ entry c
 unfolding entries for-each
-entries-snoc f c = rw (for-each-++ f (c ∷ []) entry, append-nil (entry c)) refl
+entries-one c = append-nil (entry c)
+
+pub entries-++ : (f g : Formula) → entries (f ++ g) ≡ entries f ++ entries g
+unfolding entries
+entries-++ f g = for-each-++ f g entry
 
 -- lengths that an i32 can hold
 entries-store : (f : Formula) → literals-of f < 2 ^ 31 → Formed (entries f) × (stored (entries f) ≡ f)

@@ -2,6 +2,6 @@ pub mod Entries
 pub mod Outcome
 pub mod HeaderLine
 pub mod Clauses
-pub mod Marking
+pub mod Gathering
 pub mod Reading
 pub mod FormulaText

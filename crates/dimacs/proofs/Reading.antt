@@ -3,23 +3,27 @@ use mathlib.Core.Path.{_≡_, refl, sym, ap, subst, _∙_}
 use mathlib.Core.List.{List, [], _∷_, _++_}
 use Prim.Native.Nat.{ℕ, _+_, _-_, _≤_, _<_, min}
 use native.Mathlib.Omega.{arith}
+use lib.Dec.{ltb}
 use lib.IntN.{ℤ}
 use lib.ListN.{length, take, drop, replicate, length-append, length-drop}
 use lib.Seq.{sets, length-sets, drop-drop}
+use borrow.Author.Tests.{lt-ltb, le-ltb}
 use Rattle.definition.specs.Lists.{for-each, sum-of}
-use Rattle.definition.specs.Checked.{Checked, fault, value, _>>=_}
-use Rattle.definition.specs.Literals.{Formula, literals-of}
+use Rattle.definition.specs.Checked.{Checked, fault, value, _>>=_, refuse-if}
+use Rattle.definition.specs.Literals.{Clause, Formula, literals-of}
 use Rattle.definition.specs.Text.{Bytes, blank, words-by, words}
-use Rattle.definition.specs.Reading.{Limits, Input, as-read, read-clauses, read-header, read-formula}
+use Rattle.definition.specs.Reading.{Limits, Input, as-read, kept-of, read-clauses, read-header, read-formula}
 use Rattle.definition.specs.Calls.{numbers-of}
-use Rattle.theory_base.proofs.Clauses.{literals-snoc}
+use Rattle.theory_base.proofs.Clauses.{literals-++, numbers-++}
 use Rattle.theory_base.proofs.Outcomes.{fault-value, value-same}
 use Rattle.theory_base.proofs.Parts.{sets-capped}
 use Rattle.theory_base.proofs.Slices.{sets-then}
-use Rattle.theory_text.proofs.Accepted.{Header-few, header-few}
+use Rattle.theory_text.proofs.Accepted.{Header-few, header-few, kept-opposed, kept-proper}
 use Rattle.theory_text.proofs.Runs.{words-blank}
 use Rattle.tables.specs.Stamps.{At-most, Fresh}
 use Rattle.tables.proofs.Laws.{zeros-at-most, fresh-more}
+use Rattle.dimacs.specs.declared.Gathered.{Gathered}
+use Rattle.dimacs.specs.declared.Gathered.the-variants as Gathered
 use Rattle.dimacs.specs.declared.ClauseRead.{ClauseRead}
 use Rattle.dimacs.specs.declared.ClauseRead.the-variants as ClauseRead
 use Rattle.dimacs.specs.declared.FormulaRead.{FormulaRead}
@@ -29,10 +33,10 @@ use Rattle.dimacs.specs.declared.Header as Code-header
 use Rattle.dimacs.specs.declared.Header.the-variants as Found-header
 use Rattle.dimacs.specs.Limits.{limits-of}
 use Rattle.dimacs.specs.HeaderLine.{Header-post}
-use Rattle.dimacs.specs.Entries.{entry, entries}
-use Rattle.dimacs.specs.Clause.{Clause-read, finished, first-clause, Clause-post}
+use Rattle.dimacs.specs.Entries.{entries}
+use Rattle.dimacs.specs.Clause.{finished, first-clause, Kept, Gather-post, Kept-read, first-kept, Read, Clause-post}
 use Rattle.dimacs.specs.Outcome.{header-of, read-of, Filled}
-use Rattle.dimacs.proofs.Entries.{entries-numbers, entries-snoc}
+use Rattle.dimacs.proofs.Entries.{entries-one, entries-numbers, entries-++}
 use Rattle.dimacs.proofs.Clauses.{read-rest, by-clause, rest-none, rest-some}
 
 -- ---- the answers
@@ -50,27 +54,92 @@ numbers-is f = refl
 
 -- ---- the clauses
 
--- the clauses read so far fill the store up to end, and the rest of the words gives the whole
+-- what is kept of a clause, by how its reading ended
+module _ (t : Bytes) (v stamp : ℕ) (held : List ℤ) (table : List ℕ) (a : Gathered) (p : Gather-post t (first-clause v [] (words t)) held table stamp v a) (room : ℕ) where
+  abbrev kept-here : Checked Kept-read
+  kept-here = first-kept v room [] (words t)
+
+  abbrev Ends : Gathered → Type 0
+  Ends x = Gather-post t (first-clause v [] (words t)) held table stamp v x
+
+  by-kept : {c : Clause} {ws : List Bytes} {f : Formula} → first-clause v [] (words t) ≡ finished c ws → kept-of c ≡ f → kept-here ≡ refuse-if (ltb room (literals-of f)) 9 (value (record { kept = f; after = ws }))
+  unfolding first-kept _>>=_
+  by-kept e k = rw (e, k) refl
+
+  pub kept-fault : {n : ℕ} → a ≡ Gathered.Fault n → kept-here ≡ fault n
+  unfolding first-kept _>>=_
+  kept-fault q = rw (subst Ends q p) refl
+
+  pub kept-nothing : {next : ℕ} → a ≡ Gathered.LeftOut next → (old : List ℤ) → Read t kept-here room old old table stamp next 0 0
+  unfolding literals-of numbers-of sum-of entries for-each refuse-if
+  kept-nothing {next} q old =
+      let e = subst Ends q p in
+      record {
+        kept = [];
+        is = by-kept (e .is) (kept-opposed (e .clause) (e .tautology)) ∙ rw (le-ltb room 0 (omega arith)) refl;
+        one = omega arith;
+        literals = refl;
+        numbers = refl;
+        within = e .within;
+        few = omega arith;
+        stored = refl;
+        below = e .below;
+      }
+
+  module _ {next n : ℕ} (q : a ≡ Gathered.Kept next n) where
+    told : Kept t (first-clause v [] (words t)) held table stamp v next n
+    told = subst Ends q p
+
+    one-literals : literals-of (told .clause ∷ []) ≡ n
+    unfolding literals-of sum-of
+    one-literals = omega (arith, told .size)
+
+    by-size : kept-here ≡ refuse-if (ltb room n) 9 (value (record { kept = told .clause ∷ []; after = words (drop next t) }))
+    by-size = by-kept (told .is) (kept-proper (told .clause) (told .proper)) ∙ ap (λ (k : ℕ). refuse-if (ltb room k) 9 (value (record { kept = told .clause ∷ []; after = words (drop next t) }))) one-literals
+
+    pub kept-few : n ≤ v
+    kept-few = told .few
+
+    pub kept-full : room < n → kept-here ≡ fault 9
+    unfolding refuse-if
+    kept-full h = by-size ∙ rw (lt-ltb room n h) refl
+
+    pub kept-stored : n ≤ room → {old new : List ℤ} → new ≡ sets old 0 (take (n + 1) held) → Read t kept-here room old new table stamp next n (n + 1)
+    unfolding numbers-of refuse-if
+    kept-stored h {old} {new} z =
+        record {
+          kept = told .clause ∷ [];
+          is = by-size ∙ rw (le-ltb room n h) refl;
+          one = omega arith;
+          literals = sym one-literals;
+          numbers = omega (arith, one-literals);
+          within = told .within;
+          few = h;
+          stored = z ∙ ap (sets old 0) (told .entered ∙ sym (entries-one (told .clause)));
+          below = told .below;
+        }
+
+-- the clauses kept so far fill the store up to end, and the rest of the words gives the whole
 pub record Reading (most : Limits) (v c : ℕ) (text : Bytes) (old : List ℤ) (table : List ℕ) (store : List ℤ) (at done total end : ℕ) : Type 0 where
   pub read : Formula
   pub inside : at ≤ length text
-  pub count : done ≡ length read
   pub few : done ≤ c
+  pub fewer : length read ≤ done
   pub literals : total ≡ literals-of read
   pub low : total ≤ most .literals
   pub filled : end ≡ numbers-of read
   pub below : At-most table done
   pub size : length store ≡ length old
   pub stored : store ≡ sets old 0 (entries read)
-  pub same : read-rest most v c read [] (words (drop at text)) ≡ read-clauses most (header-of v c text)
+  pub same : read-rest most v c done read [] (words (drop at text)) ≡ read-clauses most (header-of v c text)
 
 pub reading-start : (most : Limits) (v c : ℕ) (text : Bytes) (old : List ℤ) (n : ℕ) → Reading most v c text old (replicate n 0) old 0 0 0 0
 unfolding read-rest read-clauses literals-of numbers-of sum-of entries for-each
 reading-start most v c text old n = record {
   read = [];
   inside = omega arith;
-  count = refl;
   few = omega arith;
+  fewer = omega arith;
   literals = refl;
   low = omega arith;
   filled = refl;
@@ -84,34 +153,34 @@ module _ {most : Limits} {v c : ℕ} {text : Bytes} {old : List ℤ} {table : Li
   abbrev whole : Checked Input
   whole = read-clauses most (header-of v c text)
 
-  pub reading-filled : end ≡ total + done
-  reading-filled = omega (arith, g .filled, g .literals, g .count, numbers-is (g .read))
+  pub reading-filled : end ≤ total + done
+  reading-filled = omega (arith, g .filled, g .literals, g .fewer, numbers-is (g .read))
 
   pub reading-fresh : Fresh table (done + 1)
   reading-fresh = fresh-more table done (g .below)
 
   -- all clauses are read
-  rest-is : (ws : List Bytes) → words-by blank (drop at text) ≡ ws → read-rest most v c (g .read) [] ws ≡ whole
-  rest-is ws e = ap (read-rest most v c (g .read) []) (sym (words-blank (drop at text) ∙ e)) ∙ g .same
+  rest-is : (ws : List Bytes) → words-by blank (drop at text) ≡ ws → read-rest most v c done (g .read) [] ws ≡ whole
+  rest-is ws e = ap (read-rest most v c done (g .read) []) (sym (words-blank (drop at text) ∙ e)) ∙ g .same
 
   pub reading-end : c ≤ done → words-by blank (drop at text) ≡ [] → (FormulaRead.Formula v c total end ≡ read-of whole) × Filled whole old store
   reading-end h e =
-      let o : whole ≡ value (as-read v c (g .read)) = sym (rest-is [] e) ∙ rest-none most v c (g .read) (omega (arith, g .count)) in
+      let o : whole ≡ value (as-read v c (g .read)) = sym (rest-is [] e) ∙ rest-none most v c done (g .read) h in
       rw (g .literals, g .filled) (read-accepted old store o (g .stored))
 
   pub reading-more : c ≤ done → {w : Bytes} {ws : List Bytes} → words-by blank (drop at text) ≡ w ∷ ws → (FormulaRead.Fault 8 ≡ read-of whole) × Filled whole old store
-  reading-more h {w} {ws} e = read-refused old store (sym (rest-is (w ∷ ws) e) ∙ rest-some most v c (g .read) (omega (arith, g .count)) w ws)
+  reading-more h {w} {ws} e = read-refused old store (sym (rest-is (w ∷ ws) e) ∙ rest-some most v c done (g .read) h w ws)
 
   -- a clause more, read from the rest of the text into the rest of the store
   module _ (h : done < c) {rest : Bytes} (r : rest ≡ drop at text) {to : ℕ} (m : to ≡ min end (length store)) where
-    abbrev read-on : Checked Clause-read
-    read-on = first-clause v (most .literals - total) [] (words rest)
+    abbrev read-on : Checked Kept-read
+    read-on = first-kept v (most .literals - total) [] (words rest)
 
-    next : (o : Checked Clause-read) → read-on ≡ o → (o >>= λ d. read-rest most v c (g .read ++ (d .clause ∷ [])) [] (d .after)) ≡ whole
+    next : (o : Checked Kept-read) → read-on ≡ o → (o >>= λ d. read-rest most v c (done + 1) (g .read ++ d .kept) [] (d .after)) ≡ whole
     next o q =
-        ap (λ (x : Checked Clause-read). x >>= λ d. read-rest most v c (g .read ++ (d .clause ∷ [])) [] (d .after)) (sym q ∙ ap (λ (n : ℕ). first-clause v (most .literals - n) [] (words rest)) (g .literals))
-        ∙ sym (by-clause most v c (g .read) (omega (arith, g .count)) [] (words rest))
-        ∙ ap (λ (u : Bytes). read-rest most v c (g .read) [] (words u)) r
+        ap (λ (x : Checked Kept-read). x >>= λ d. read-rest most v c (done + 1) (g .read ++ d .kept) [] (d .after)) (sym q ∙ ap (λ (n : ℕ). first-kept v (most .literals - n) [] (words rest)) (g .literals))
+        ∙ sym (by-clause most v c done (g .read) h (omega (arith, g .low, g .literals)) [] (words rest))
+        ∙ ap (λ (u : Bytes). read-rest most v c done (g .read) [] (words u)) r
         ∙ g .same
 
     module _ (after : List ℕ) (new : List ℤ) (a : ClauseRead) (p : Clause-post rest read-on (most .literals - total) (take (length store - to) (drop to store)) new after (done + 1) a) where
@@ -125,31 +194,30 @@ module _ {most : Limits} {v c : ℕ} {text : Bytes} {old : List ℤ} {table : Li
       unfolding _>>=_
       reading-fault {n} q = read-refused old stored-on (sym (next (fault n) (subst Told q p)))
 
-      pub reading-on : {j n : ℕ} → a ≡ ClauseRead.Done j n → Reading most v c text old after stored-on (at + j) (done + 1) (total + n) (end + n + 1)
+      pub reading-on : {j n k : ℕ} → a ≡ ClauseRead.Done j n k → Reading most v c text old after stored-on (at + j) (done + 1) (total + n) (end + k)
       unfolding _>>=_
-      reading-on {j} {n} q =
+      reading-on {j} {n} {k} q =
           let e = subst Told q p in
-          let s : stored-on ≡ sets store end (entry (e .clause)) = sets-capped (entry (e .clause)) store new end to m (e .stored) in
-          let l : literals-of (g .read ++ (e .clause ∷ [])) ≡ total + n = literals-snoc (g .read) (e .clause) ∙ omega (arith, g .literals, e .size) in
-          let k : length (g .read ++ (e .clause ∷ [])) ≡ done + 1 = length-append (g .read) (e .clause ∷ []) ∙ omega (arith, g .count) in
+          let f = e .kept in
+          let s : stored-on ≡ sets store end (entries f) = sets-capped (entries f) store new end to m (e .stored) in
           let z : end ≡ 0 + length (entries (g .read)) = omega (arith, g .filled, entries-numbers (g .read)) in
           record {
-            read = g .read ++ (e .clause ∷ []);
+            read = g .read ++ f;
             inside = omega (arith, e .within, ap length r, length-drop at text);
-            count = sym k;
             few = omega arith;
-            literals = sym l;
+            fewer = rw (length-append (g .read) f) (omega (arith, e .one, g .fewer));
+            literals = omega (arith, literals-++ (g .read) f, g .literals, e .literals);
             low = omega (arith, e .few, g .low);
-            filled = omega (arith, l, k, g .filled, g .literals, g .count, numbers-is (g .read), numbers-is (g .read ++ (e .clause ∷ [])));
+            filled = omega (arith, numbers-++ (g .read) f, g .filled, e .numbers);
             below = e .below;
-            size = ap length s ∙ length-sets store end (entry (e .clause)) ∙ g .size;
+            size = ap length s ∙ length-sets store end (entries f) ∙ g .size;
             stored =
                 s
-                ∙ ap (λ (x : List ℤ). sets x end (entry (e .clause))) (g .stored)
-                ∙ ap (λ (x : ℕ). sets (sets old 0 (entries (g .read))) x (entry (e .clause))) z
-                ∙ sets-then (entries (g .read)) (entry (e .clause)) old 0
-                ∙ ap (sets old 0) (sym (entries-snoc (g .read) (e .clause)));
-            same = ap (λ (u : Bytes). read-rest most v c (g .read ++ (e .clause ∷ [])) [] (words u)) (sym (ap (drop j) r ∙ drop-drop j at text)) ∙ next (finished (e .clause) (words (drop j rest))) (e .is);
+                ∙ ap (λ (x : List ℤ). sets x end (entries f)) (g .stored)
+                ∙ ap (λ (x : ℕ). sets (sets old 0 (entries (g .read))) x (entries f)) z
+                ∙ sets-then (entries (g .read)) (entries f) old 0
+                ∙ ap (sets old 0) (sym (entries-++ (g .read) f));
+            same = ap (λ (u : Bytes). read-rest most v c (done + 1) (g .read ++ f) [] (words u)) (sym (ap (drop j) r ∙ drop-drop j at text)) ∙ next (value (record { kept = f; after = words (drop j rest) })) (e .is);
           }
 
 -- ---- after the header

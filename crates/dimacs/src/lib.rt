@@ -6,8 +6,9 @@ use text::Number;
 use text::Word;
 ghost use mathlib.Core.Path.{_≡_};
 ghost use mathlib.Core.Bool.{false};
-ghost use mathlib.Core.List.{[], _++_};
+ghost use mathlib.Core.List.{List, [], _++_};
 ghost use Prim.Native.Nat.{_+_, _*_, _-_, _≤_, _<_, _^_};
+ghost use lib.IntN.{ℤ};
 ghost use lib.ListN.{length, drop};
 ghost use Rattle.definition.specs.Lists.{for-each};
 ghost use Rattle.definition.specs.Literals.{Clause};
@@ -19,10 +20,11 @@ ghost use Rattle.theory_text.specs.HeaderLine.{marker};
 ghost use Rattle.text.specs.Output.{Put};
 ghost use Rattle.store.specs.Store.{Formed, stored, past};
 ghost use Rattle.tables.specs.Sizes.{log-reach, log-size};
-ghost use Rattle.tables.specs.Stamps.{Marks, Fresh};
+ghost use Rattle.theory_base.specs.Clauses.{Fit};
+ghost use Rattle.tables.specs.Stamps.{Fresh};
 ghost use Rattle.dimacs.specs.Limits.{limits-of, Countable};
 ghost use Rattle.dimacs.specs.HeaderLine.{counts-by, counts-of, Header-post};
-ghost use Rattle.dimacs.specs.Clause.{number-item, Item-post, ended, first-clause, Clause-post};
+ghost use Rattle.dimacs.specs.Clause.{number-item, ended, first-clause, past-clause, Skip-post, Holding, Hold-post, left-out, Gather-post, first-kept, Clause-post};
 ghost use Rattle.dimacs.specs.Outcome.{header-of, read-of, Filled};
 ghost use Rattle.dimacs.specs.FormulaText.{header-text, entry-text};
 
@@ -193,13 +195,7 @@ enum Item {
     Fault(u8),
 }
 
-// How the reading of a clause ends: the place past it and the number of its literals, or the number of a fault.
-enum ClauseRead {
-    Done(usize, usize),
-    Fault(u8),
-}
-
-// What a word says by itself: 3, 4.
+// What a word says: 3, 4.
 fn number_item(word: &[u8], variables: u32) -> Item
     requires { ⌜ variables ≤ log-reach ⌝ }
     ensures { λ r. ⌜ r ≡ number-item variables (number (now (word .entry))) ⌝ }
@@ -219,23 +215,6 @@ fn number_item(word: &[u8], variables: u32) -> Item
     }
 }
 
-// What a word says in its clause: 3, 4, 5, 6.
-fn read_item(word: &[u8], seen: &mut [u32], stamp: u32, variables: u32) -> Item
-    requires { ⌜ variables ≤ log-reach ⌝ }
-    requires { ⌜ log-size ≤ length (now seen) ⌝ }
-    ensures { λ r. ⌜ ((here : Clause) → Marks (now (seen .entry)) stamp here → Item-post variables here (now (word .entry)) (now (seen .exit)) stamp r) ⌝ }
-{
-    match number_item(word, variables) {
-        Item::Zero => Item::Zero,
-        Item::Fault(n) => Item::Fault(n),
-        Item::Literal(l) => match tables::mark(seen, stamp, l) {
-            Marked::Repeated => Item::Fault(5),
-            Marked::Opposed => Item::Fault(6),
-            Marked::New => Item::Literal(l),
-        },
-    }
-}
-
 // The number of a text that ends after so many literals of a clause: 7, or 8 where the clause is missing.
 fn ended(count: usize) -> u8
     ensures { λ r. ⌜ r ≡ ended count ⌝ }
@@ -243,46 +222,158 @@ fn ended(count: usize) -> u8
     if count == 0 { 8 } else { 7 }
 }
 
-// Reads the clause at the start of a text, of at most room literals, and stores it at the start of a store. The table seen
-// has an entry for each literal, the stamp of the clause in which it was last read.
-fn read_clause(
+// The place past a clause that is left out, or the number of a fault.
+enum Skipped {
+    To(usize),
+    Fault(u8),
+}
+
+// Reads from a place inside a clause to its end: 3, 4, 7.
+fn skip_clause(text: &[u8], from: usize, variables: u32) -> Skipped
+    requires { ⌜ variables ≤ log-reach ⌝ }
+    requires { ⌜ from ≤ length (now text) ⌝ }
+    ensures { λ r. ⌜ Skip-post (now (text .entry)) (past-clause variables (words (drop from (now (text .entry))))) r ⌝ }
+{
+    let mut at = from;
+    loop {
+        match text::next_word(text, at) {
+            Word::End => {
+                return Skipped::Fault(7);
+            }
+            Word::At(start, end) => match number_item(&text[start..end], variables) {
+                Item::Fault(f) => {
+                    return Skipped::Fault(f);
+                }
+                Item::Zero => {
+                    return Skipped::To(end);
+                }
+                Item::Literal(_) => {
+                    at = end;
+                }
+            },
+        }
+    }
+}
+
+// The number of literals held with one more, or its negation is held.
+enum Held {
+    Count(usize),
+    Opposed,
+}
+
+// Holds a literal behind n others unless it is one of them. The table seen has an entry for each literal, the stamp of the
+// clause in which it was last read.
+fn hold_literal(seen: &mut [u32], stamp: u32, held: &mut [i32], n: usize, l: i32) -> Held
+    requires { ⌜ Fit log-reach l ⌝ }
+    requires { ⌜ log-size ≤ length (now seen) ⌝ }
+    requires { ⌜ n + 1 < 2 ^ 64 ⌝ }
+    ensures { λ r. ⌜ ((old : List ℤ) (here : Clause) → Holding old (now (held .entry)) (now (seen .entry)) stamp here n → Hold-post old (now (held .exit)) (now (seen .exit)) stamp here l r) ⌝ }
+{
+    match tables::mark(seen, stamp, l) {
+        Marked::Repeated => Held::Count(n),
+        Marked::Opposed => Held::Opposed,
+        Marked::New => {
+            store::put(held, n + 1, l);
+            Held::Count(n + 1)
+        }
+    }
+}
+
+// A clause's literals: the place past it and how many are held, the place past a clause that is left out, or the number of a
+// fault.
+enum Gathered {
+    Kept(usize, usize),
+    LeftOut(usize),
+    Fault(u8),
+}
+
+// A clause that is left out ends so.
+fn left_out(s: Skipped) -> Gathered
+    ensures { λ r. ⌜ r ≡ left-out s ⌝ }
+{
+    match s {
+        Skipped::To(next) => Gathered::LeftOut(next),
+        Skipped::Fault(n) => Gathered::Fault(n),
+    }
+}
+
+// Reads the clause at the start of a text and holds it as an entry, each literal at its first place, unless it has a literal
+// and its negation.
+fn gather_clause(
     text: &[u8],
     seen: &mut [u32],
     stamp: u32,
     variables: u32,
-    room: usize,
-    store: &mut [i32],
-) -> ClauseRead
+    held: &mut [i32],
+) -> Gathered
     requires { ⌜ variables ≤ log-reach ⌝ }
     requires { ⌜ log-size ≤ length (now seen) ⌝ }
     requires { ⌜ Fresh (now seen) stamp ⌝ }
-    requires { ⌜ room ≤ 1000000 ⌝ }
-    ensures { λ r. ⌜ Clause-post (now (text .entry)) (first-clause variables room [] (words (now (text .entry)))) room (now (store .entry)) (now (store .exit)) (now (seen .exit)) stamp r ⌝ }
+    requires { ⌜ log-reach < length (now held) ⌝ }
+    ensures { λ r. ⌜ Gather-post (now (text .entry)) (first-clause variables [] (words (now (text .entry)))) (now (held .exit)) (now (seen .exit)) stamp variables r ⌝ }
 {
     let mut at = 0;
     let mut n: usize = 0;
     loop {
         match text::next_word(text, at) {
             Word::End => {
-                return ClauseRead::Fault(ended(n));
+                return Gathered::Fault(ended(n));
             }
-            Word::At(start, end) => match read_item(&text[start..end], seen, stamp, variables) {
+            Word::At(start, end) => match number_item(&text[start..end], variables) {
                 Item::Fault(f) => {
-                    return ClauseRead::Fault(f);
+                    return Gathered::Fault(f);
                 }
                 Item::Zero => {
-                    store::put(store, 0, literals::header(n));
-                    return ClauseRead::Done(end, n);
+                    store::put(held, 0, literals::header(n));
+                    return Gathered::Kept(end, n);
                 }
-                Item::Literal(l) => {
-                    if room <= n {
-                        return ClauseRead::Fault(9);
+                Item::Literal(l) => match hold_literal(seen, stamp, held, n, l) {
+                    Held::Opposed => {
+                        return left_out(skip_clause(text, end, variables));
                     }
-                    n += 1;
-                    store::put(store, n, l);
-                    at = end;
-                }
+                    Held::Count(count) => {
+                        n = count;
+                        at = end;
+                    }
+                },
             },
+        }
+    }
+}
+
+// How the reading of a clause ends: the place past it, and of what is kept the literals and the elements that are stored; or
+// the number of a fault.
+enum ClauseRead {
+    Done(usize, usize, usize),
+    Fault(u8),
+}
+
+// Reads the clause at the start of a text, and stores what is kept of it, at most room literals, at the start of a store.
+fn read_clause(
+    text: &[u8],
+    seen: &mut [u32],
+    stamp: u32,
+    variables: u32,
+    room: usize,
+    held: &mut [i32],
+    store: &mut [i32],
+) -> ClauseRead
+    requires { ⌜ variables ≤ log-reach ⌝ }
+    requires { ⌜ log-size ≤ length (now seen) ⌝ }
+    requires { ⌜ Fresh (now seen) stamp ⌝ }
+    requires { ⌜ log-reach < length (now held) ⌝ }
+    ensures { λ r. ⌜ Clause-post (now (text .entry)) (first-kept variables room [] (words (now (text .entry)))) room (now (store .entry)) (now (store .exit)) (now (seen .exit)) stamp r ⌝ }
+{
+    match gather_clause(text, seen, stamp, variables, held) {
+        Gathered::Fault(n) => ClauseRead::Fault(n),
+        Gathered::LeftOut(next) => ClauseRead::Done(next, 0, 0),
+        Gathered::Kept(next, n) => {
+            if room < n {
+                return ClauseRead::Fault(9);
+            }
+            let filled = n + 1;
+            store::copy_at(store, 0, &held[..filled]);
+            ClauseRead::Done(next, n, filled)
         }
     }
 }
@@ -295,8 +386,11 @@ pub enum FormulaRead {
     Fault(u8),
 }
 
-// Reads the clauses of a text that begins after its header into a store. What lies past the store's end is counted, but not
-// stored.
+// A clause's header, and as many literals as a clause without opposed ones can have.
+const HELD: usize = 70001;
+
+// Reads the clauses of a text that begins after its header, and stores what is kept. What lies past the store's end is counted,
+// but not stored.
 fn read_clauses(
     text: &[u8],
     variables: u32,
@@ -311,6 +405,7 @@ fn read_clauses(
     ensures stored { λ _. ⌜ Filled (read-clauses (limits-of most) (header-of variables clauses (now (text .entry)))) (now (store .entry)) (now (store .exit)) ⌝ }
 {
     let mut seen = [0u32; tables::LOG_SIZE];
+    let mut held = [0i32; HELD];
     let mut at = 0;
     let mut done: u32 = 0;
     let mut total: usize = 0;
@@ -324,16 +419,17 @@ fn read_clauses(
             done + 1,
             variables,
             room,
+            &mut held,
             &mut store[to..],
         ) {
             ClauseRead::Fault(n) => {
                 return FormulaRead::Fault(n);
             }
-            ClauseRead::Done(next, n) => {
+            ClauseRead::Done(next, n, filled) => {
                 at = at + next;
                 done += 1;
                 total = total + n;
-                end = end + n + 1;
+                end = end + filled;
             }
         }
     }

@@ -25,30 +25,6 @@ fn counter(arrangement: Arrangement) -> Settings {
     Settings { form, arrangement }
 }
 
-// Prints the number of the outcome: 0, or that of the refusal.
-fn print_outcome(text: &[u8]) {
-    let mut work = [0i32; 16384];
-    let mut log = [0u8; 1024];
-    let mut formula = [0u8; 1024];
-    io::write_all(STDOUT_FILENO, b"refusal");
-    let s = counter(Arrangement::AsListed);
-    match call_reencode::reencode(text, s, &mut work, &mut log, &mut formula) {
-        Reencoding::Done(_) => print_number(0),
-        Reencoding::Refused(n) => print_number(n as usize),
-    }
-    print_end();
-}
-
-// The six refusals with V 1, C 1.
-fn print_refusals() {
-    print_outcome(b"p cnf 1 1\n1 1 0\n");
-    print_outcome(b"p cnf 1 1\n1 -1 0\n");
-    print_outcome(b"p cnf 1 1\n2 0\n");
-    print_outcome(b"p cnf 1 1\n-0\n");
-    print_outcome(b"p cnf 1 1\n1\n");
-    print_outcome(b"p cnf 1 1\n1 0 1 0\n");
-}
-
 // Prints choices, H, M, lines and both lengths.
 fn print_tally(t: Tally) {
     print_number(t.choices);
@@ -57,6 +33,32 @@ fn print_tally(t: Tally) {
     print_number(t.lines);
     print_number(t.log_bytes);
     print_number(t.formula_bytes);
+}
+
+// Prints the result, or the number of the refusal.
+fn print_outcome(text: &[u8]) {
+    let mut work = [0i32; 16384];
+    let mut log = [0u8; 1024];
+    let mut formula = [0u8; 1024];
+    let s = counter(Arrangement::AsListed);
+    match call_reencode::reencode(text, s, &mut work, &mut log, &mut formula) {
+        Reencoding::Done(t) => {
+            io::write_all(STDOUT_FILENO, b"accepted");
+            print_tally(t);
+            print_end();
+        }
+        Reencoding::Refused(k) => prog_common::print_refusal(k),
+    }
+}
+
+// The six texts with V 1, C 1.
+fn print_outcomes() {
+    print_outcome(b"p cnf 1 1\n1 1 0\n");
+    print_outcome(b"p cnf 1 1\n1 -1 0\n");
+    print_outcome(b"p cnf 1 1\n2 0\n");
+    print_outcome(b"p cnf 1 1\n-0\n");
+    print_outcome(b"p cnf 1 1\n1\n");
+    print_outcome(b"p cnf 1 1\n1 0 1 0\n");
 }
 
 // Prints the result for a formula with one unique literal clause of a size.
@@ -97,7 +99,7 @@ fn print_alignment(arrangement: Arrangement) {
 }
 
 fn main() {
-    print_refusals();
+    print_outcomes();
     print_size(4);
     print_size(5);
     print_size(64);

@@ -1,7 +1,7 @@
 // Clauses in a lent slice, the store: a clause is a header and its literals; -1 - n in place of the header n says that it is deleted.
 ghost use mathlib.Core.Path.{_≡_};
 ghost use mathlib.Core.Bool.{cond};
-ghost use Prim.Native.Nat.{_+_, _≤_, _<_};
+ghost use Prim.Native.Nat.{_+_, _≤_, _<_, _^_};
 ghost use lib.ListN.{length, set, take, drop};
 ghost use lib.Seq.{sets};
 ghost use Rattle.definition.specs.Lists.{all};
@@ -239,14 +239,14 @@ pub fn put(store: &mut [i32], at: usize, l: i32)
     }
 }
 
-// Copies a clause's literals to a place.
-fn copy_at(work: &mut [i32], at: usize, clause: &[i32])
-    requires { ⌜ at + length (now clause) ≤ length (now work) ⌝ }
-    ensures { λ _. ⌜ now (work .exit) ≡ sets (now (work .entry)) at (now (clause .entry)) ⌝ }
+// Copies elements to a place, as far as the store goes.
+pub fn copy_at(store: &mut [i32], at: usize, elements: &[i32])
+    requires { ⌜ at + length (now elements) < 2 ^ 64 ⌝ }
+    ensures { λ _. ⌜ now (store .exit) ≡ sets (now (store .entry)) at (now (elements .entry)) ⌝ }
 {
     let mut i = 0;
-    while i < clause.len() {
-        work[at + i] = clause[i];
+    while i < elements.len() {
+        put(store, at + i, elements[i]);
         i += 1;
     }
 }

@@ -28,10 +28,14 @@ pub natAbs-zero : (l : ℤ) → natAbs l ≡ 0 → l ≡ pos 0
 natAbs-zero (pos n) e = ap pos e
 natAbs-zero (negsuc n) e = let k : _≡_ {A = ℕ} 0 1 = omega arith in cc
 
+pub literals-++ : (f g : Formula) → literals-of (f ++ g) ≡ literals-of f + literals-of g
+unfolding literals-of
+literals-++ f g = sum-++ length f g
+
 -- a clause at the end of a formula
 pub literals-snoc : (f : Formula) (c : Clause) → literals-of (f ++ (c ∷ [])) ≡ literals-of f + length c
 unfolding literals-of sum-of
-literals-snoc f c = omega (arith, sum-++ length f (c ∷ []))
+literals-snoc f c = omega (arith, literals-++ f (c ∷ []))
 
 -- a property of the members of f and of c, with c put after f
 pub members-snoc : {A : Type 0} (P : A → Type 0) (f : List A) (c : A) → ((d : A) → List·Memᴰ d f → P d) → P c → (d : A) → List·Memᴰ d (f ++ (c ∷ [])) → P d
@@ -96,6 +100,17 @@ members-with P l c h p = go (holds l c)
     go : (b : Bool) → (x : ℤ) → List·Memᴰ x (cond b c (c ++ (l ∷ []))) → P x
     go true = h
     go false = members-snoc P c l h p
+
+pub opposed-with : (l : ℤ) (c : Clause) → opposed c ≡ true → opposed (with-literal l c) ≡ true
+unfolding opposed
+opposed-with l c e = go (holds l c)
+  where
+    go : (b : Bool) → opposed (cond b c (c ++ (l ∷ []))) ≡ true
+    go true = e
+    go false =
+        let d = c ++ (l ∷ []) in
+        let m = opposes-mem c c (of-true e) in
+        to-true (mem-opposes d d (m .0) (Memᴰ·append-left (l ∷ []) (m .1)) (Memᴰ·append-left (l ∷ []) (m .2)))
 
 -- ---- two proper clauses with the same literals have the same sums
 proper-distinct : (c : Clause) → Proper c → Distinct c

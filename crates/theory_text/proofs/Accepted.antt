@@ -16,12 +16,20 @@ use Rattle.definition.specs.Text.{Bytes, TextLine, number, natural, fields, lin
 use Rattle.definition.specs.Reading.{Limits, Input, as-read, Header, Reader, nothing-read, read-header-fields, read-header-line, read-header, kept-of, read-literal, end-clause, read-word, end-text, read-clauses, read-formula, input-limits}
 use Rattle.theory_base.proofs.Tests.{or-false-both}
 use Rattle.theory_base.specs.Clauses.{Proper, Proper-all, Fit, Fit-all, Fits}
-use Rattle.theory_base.proofs.Clauses.{members-snoc, members-with, none-repeated, unrepeated-with, tests-proper}
+use Rattle.theory_base.proofs.Clauses.{members-snoc, members-with, none-repeated, unrepeated-with, proper-not-opposed, tests-proper}
 use Rattle.theory_base.proofs.Outcomes.{fault-value, value-same, refuse-value, bind-value, through-keeps}
 use Rattle.theory_text.specs.Accepted.{Accepted}
 use Rattle.definition.specs.Calls.{read-input}
 
 -- ---- what is kept of a clause
+pub kept-opposed : (c : Clause) → opposed c ≡ true → kept-of c ≡ []
+unfolding kept-of
+kept-opposed c e = rw e refl
+
+pub kept-proper : (c : Clause) → Proper c → kept-of c ≡ c ∷ []
+unfolding kept-of
+kept-proper c p = rw (proper-not-opposed c p) refl
+
 kept-length : (c : Clause) → length (kept-of c) ≤ 1
 unfolding kept-of
 kept-length c = go (opposed c)

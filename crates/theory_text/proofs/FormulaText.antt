@@ -14,11 +14,12 @@ use Rattle.definition.specs.Checked.{value, _>>=_, or-fault, refuse-if, through
 use Rattle.definition.specs.Literals.{Clause, Formula, literals-of}
 use Rattle.definition.specs.Text.{Bytes, bytes, is, line-text, past-comments, add-part, parts, words-by, words, fields, digits, same-bytes, literal-text, number, natural, not-negated, digit, digit-value}
 use Rattle.definition.specs.Log.{clause-text, formula-text}
-use Rattle.definition.specs.Reading.{Limits, Reader, as-read, read-header-fields, read-header-line, read-header, kept-of, read-literal, end-clause, read-word, end-text, read-clauses, read-formula}
+use Rattle.definition.specs.Reading.{Limits, Reader, as-read, read-header-fields, read-header-line, read-header, read-literal, end-clause, read-word, end-text, read-clauses, read-formula}
 use Rattle.theory_base.proofs.Members.{holds-false}
 use Rattle.theory_base.specs.Clauses.{Proper, Proper-all, Fit, Fit-all, Fits}
-use Rattle.theory_base.proofs.Clauses.{literals-snoc, natAbs-zero, proper-not-opposed}
+use Rattle.theory_base.proofs.Clauses.{literals-snoc, natAbs-zero}
 use Rattle.theory_base.proofs.Outcomes.{through-++}
+use Rattle.theory_text.proofs.Accepted.{kept-proper}
 use Rattle.theory_text.proofs.Digits.{natural-digits, number-literal}
 use Rattle.theory_text.proofs.Words.{free-++, any-free, first-field, only-field, first-line, no-last-cr, past-line}
 use Rattle.theory_text.specs.Words.{Free}
@@ -92,11 +93,11 @@ module _ (most : Limits) (v c : ℕ) (g : Formula) (more : length g < c) where
       )
 
   zero-read : (a : Clause) → Proper a → literals-of g + length a ≤ most .literals → read-word most v c (reader g a) (bytes "0") ≡ value (reader (g ++ (a ∷ [])) [])
-  unfolding read-word refuse-if or-fault _>>=_ bytes number natural not-negated is digit digit-value end-clause kept-of
+  unfolding read-word refuse-if or-fault _>>=_ bytes number natural not-negated is digit digit-value end-clause
   zero-read a p h =
       rw (
         lt-leb c (length g) more,
-        proper-not-opposed a p,
+        kept-proper a p,
         literals-snoc g a,
         le-ltb (most .literals) (literals-of g + length a) h,
         length-append g (a ∷ []),

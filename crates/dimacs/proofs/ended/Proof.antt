@@ -1,4 +1,4 @@
-use Rattle.dimacs.proofs.Marking.{ended-some}
+use Rattle.dimacs.proofs.Gathering.{ended-some}
 use borrow.Author.Needs.{needs}
 use Rattle.dimacs.proofs.ended.Statement.{statement}
 use Rattle.dimacs.proofs.ended.Tie as tie

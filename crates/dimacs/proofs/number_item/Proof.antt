@@ -6,7 +6,7 @@ use denote.Ref.{now}
 use Rattle.definition.specs.Text.{number}
 use Rattle.literals.proofs.Laws.{at-arg, answer, answered}
 use Rattle.dimacs.specs.declared.Item.the-variants as Item
-use Rattle.dimacs.proofs.Marking.{item-none, item-large, item-zero, item-high, item-literal}
+use Rattle.dimacs.proofs.Gathering.{item-none, item-large, item-zero, item-high, item-literal}
 use borrow.Author.Needs.{needs}
 use Rattle.dimacs.proofs.number_item.Statement.{statement}
 use Rattle.dimacs.proofs.number_item.Tie as tie

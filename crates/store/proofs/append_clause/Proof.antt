@@ -43,7 +43,7 @@ add-copy-at : tie.Need-add-copy-at
 add-copy-at c = search needs
 
 copy-at-requires : tie.Need-copy-at-requires
-copy-at-requires c κs = simp length-set (omega arith)
+copy-at-requires c κs = search needs
 
 add-t6 : tie.Need-add-t6
 add-t6 c = search needs

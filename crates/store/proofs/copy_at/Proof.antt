@@ -13,28 +13,25 @@ use Rattle.store.proofs.copy_at.Statement.{statement}
 use Rattle.store.proofs.copy_at.Tie as tie
 
 abbrev Inv-loop : tie.InvT-loop
-Inv-loop work₀ at clause i₀ work i = (i ≤ length clause) × (length work ≡ length work₀) × (sets work (at + i) (drop i clause) ≡ sets work₀ at clause)
+Inv-loop store₀ at elements i₀ store i = (i ≤ length elements) × (length store ≡ length store₀) × (sets store (at + i) (drop i elements) ≡ sets store₀ at elements)
 
 abbrev μ-loop : tie.MeasureT-loop
-μ-loop work₀ at clause i₀ work i = length clause - i
+μ-loop store₀ at elements i₀ store i = length elements - i
 
 loop-holds : tie.Need-loop-holds Inv-loop μ-loop
 loop-holds c = (search needs, refl, simp add-zero)
 
-mul-work : tie.Need-mul-work Inv-loop μ-loop
-mul-work c = search needs
+add-put : tie.Need-add-put Inv-loop μ-loop
+add-put c = search needs
 
-shared-slice-copy-out-work : tie.Need-shared-slice-copy-out-work Inv-loop μ-loop
-shared-slice-copy-out-work c = search needs
+mul-put : tie.Need-mul-put Inv-loop μ-loop
+mul-put c = search needs
 
-add-t9 : tie.Need-add-t9 Inv-loop μ-loop
-add-t9 c = search needs
+shared-slice-copy-out-put : tie.Need-shared-slice-copy-out-put Inv-loop μ-loop
+shared-slice-copy-out-put c = search needs
 
-mul-t10 : tie.Need-mul-t10 Inv-loop μ-loop
-mul-t10 c = search needs
-
-slice-set-from-work : tie.Need-slice-set-from-work Inv-loop μ-loop
-slice-set-from-work c = search needs
+put-requires : tie.Need-put-requires Inv-loop μ-loop
+put-requires c κs = search needs
 
 add-i : tie.Need-add-i Inv-loop μ-loop
 add-i c = search needs
@@ -44,16 +41,20 @@ loop-less c = search needs
 
 loop-again : tie.Need-loop-again Inv-loop μ-loop
 loop-again c =
-    let back = c .before .before in let loop = back .loop in
+    let back = c .before in let put = back .put in
+    let back = back .before in let put-arg2 = back .put-arg2 in
+    let back = back .before .before in let loop-test = back .loop-test in
+    let back = back .before in let loop = back .loop in
     let start = back .before in
     let a = start .args in
     let i = loop .i in
-    let x = getD (now (a .clause)) i (pos 0) in (
+    let x = getD (now (a .elements)) i (pos 0) in (
       search needs,
-      simp length-set (loop .inv .1),
-      at-arg (λ (z : ℤ). sets (set (loop .work) (a .at + i) z) (a .at + (i + 1)) (drop (i + 1) (now (a .clause)))) x
-          (sfits-of (c .work .given))
-          ∙ sets-step (loop .work) (now (a .clause)) (a .at) i (pos 0) (c .before .loop-test .taken)
+      put .kept .0 ∙ loop .inv .1,
+      ap (λ (s : List ℤ). sets s (a .at + (i + 1)) (drop (i + 1) (now (a .elements)))) (put .ensures)
+          ∙ at-arg (λ (z : ℤ). sets (set (loop .store) (a .at + i) z) (a .at + (i + 1)) (drop (i + 1) (now (a .elements)))) x
+          (sfits-of (put-arg2 .given))
+          ∙ sets-step (loop .store) (now (a .elements)) (a .at) i (pos 0) (loop-test .taken)
           ∙ loop .inv .2,
     )
 
@@ -64,8 +65,8 @@ returns : tie.Need-returns Inv-loop μ-loop
 returns c =
     let back = c .before in let loop = back .loop in
     let start = back .before in
-    ap (λ (r : List ℤ). sets (loop .work) (start .args .at + loop .i) r)
-    (sym (drop-end (now (start .args .clause)) (loop .i) (c .loop-test .left)))
+    ap (λ (r : List ℤ). sets (loop .store) (start .args .at + loop .i) r)
+    (sym (drop-end (now (start .args .elements)) (loop .i) (c .loop-test .left)))
     ∙ loop .inv .2
 
 pub copy-at-spec : {M : Type 1} → statement M
@@ -75,11 +76,10 @@ copy-at-spec =
     Inv-loop
     μ-loop
     loop-holds
-    mul-work
-    shared-slice-copy-out-work
-    add-t9
-    mul-t10
-    slice-set-from-work
+    add-put
+    mul-put
+    shared-slice-copy-out-put
+    put-requires
     add-i
     loop-less
     loop-again

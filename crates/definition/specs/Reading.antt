@@ -78,7 +78,7 @@ read-literal v r l =
     refuse-if (ltb v (natAbs l)) 4
     (value (record { count = r .count; done = r .done; here = with-literal l (r .here) }))
 
--- 0 ends a clause, which counts towards C though it may be left out; L counts what is kept
+-- 0 ends a clause, which counts towards C though it may be left out; 9 is tested here, as L counts what is kept
 unfoldable pub end-clause : Limits → Reader → Checked Reader
 end-clause most r =
     let done = r .done ++ kept-of (r .here) in

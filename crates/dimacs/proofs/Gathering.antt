@@ -111,25 +111,28 @@ module _ {v : ℕ} {text : Bytes} {from at : ℕ} (g : Skipping v text from at) 
     pub skipping-on : {l : ℤ} → a ≡ Item.Literal l → Skipping v text from e
     skipping-on {l} q = record { inside = f .within; same = sym (by-word (Item.Literal l) q) }
 
--- ---- a literal more
+-- ---- a literal more, by its mark; x is the literal as it was handed on
 
-module _ {old held : List ℤ} {table : List ℕ} {stamp : ℕ} {here : Clause} {n : ℕ} (g : Holding old held table stamp here n) (l : ℤ) (after : List ℕ) (m : Marked) (k : Mark-post here l after stamp m) where
+module _ {old held : List ℤ} {table : List ℕ} {stamp : ℕ} {here : Clause} {n : ℕ} (g : Holding old held table stamp here n) {l x : ℤ} (e : x ≡ l) (after : List ℕ) (m : Marked) (k : Mark-post here x after stamp m) where
+  marked : (a : Marked) → m ≡ a → Mark-post here l after stamp a
+  marked a z = subst (λ (y : ℤ). Mark-post here y after stamp a) e (subst (Mark-post here x after stamp) z k)
+
   pub hold-repeated : m ≡ Mark.Repeated → Hold-post old held after stamp here l (Held.Count n)
   hold-repeated z =
-      let q = subst (Mark-post here l after stamp) z k in
+      let q = marked Mark.Repeated z in
       rw (q .0) (record { counted = g .counted; stored = g .stored; proper = g .proper; marks = q .1 })
 
   pub hold-opposed : m ≡ Mark.Opposed → (new : List ℤ) → Hold-post old new after stamp here l Held.Opposed
   hold-opposed z new =
-      let q = subst (Mark-post here l after stamp) z k in
+      let q = marked Mark.Opposed z in
       rw (q .0) (opposed-after here l [] (holds-mem (negℤ l) here (of-true (q .1))), q .2 .below)
 
-  pub hold-new : m ≡ Mark.New → Fit log-reach l → {new : List ℤ} → new ≡ set held (n + 1) l → Hold-post old new after stamp here l (Held.Count (n + 1))
-  hold-new z f {new} e =
-      let q = subst (Mark-post here l after stamp) z k in
+  pub hold-new : m ≡ Mark.New → Fit log-reach l → {new : List ℤ} → new ≡ set held (n + 1) x → Hold-post old new after stamp here l (Held.Count (n + 1))
+  hold-new z f {new} put =
+      let q = marked Mark.New z in
       rw (q .0) (record {
         counted = rw (length-append here (l ∷ [])) (omega (arith, g .counted));
-        stored = e ∙ rw (g .stored, g .counted) (ap (λ (k : ℕ). sets (sets old 1 here) k (l ∷ [])) (omega arith) ∙ sets-then here (l ∷ []) old 1);
+        stored = put ∙ rw (e, g .stored, g .counted) (ap (λ (k : ℕ). sets (sets old 1 here) k (l ∷ [])) (omega arith) ∙ sets-then here (l ∷ []) old 1);
         proper = proper-snoc here l (g .proper) (f .0) (λ i. differ (mem-holds l here i) (q .0)) (λ i. differ (mem-holds (negℤ l) here i) (q .1));
         marks = q .2;
       })

@@ -1,4 +1,4 @@
-use borrow.Author.Needs.{needs}
+-- The literals read so far are held behind the header's place; the header is stored at the closing 0.
 use mathlib.Core.Path.{_≡_, refl, sym, ap, subst, _∙_}
 use Prim.Native.Nat.{_-_}
 use native.Mathlib.Omega.{arith}

@@ -1,10 +1,6 @@
-use mathlib.Core.Path.{_∙_, subst}
 use native.Mathlib.Omega.{arith}
 use lib.IntN.{ℤ, natAbs}
-use lib.ListN.{set}
-use Prim.Native.Nat.{_+_}
 use denote.Ref.{now}
-use Rattle.tables.specs.Stamps.{Mark-post}
 use Rattle.literals.proofs.Laws.{at-arg}
 use Rattle.dimacs.proofs.Gathering.{hold-repeated, hold-opposed, hold-new}
 use borrow.Author.Needs.{needs}
@@ -41,10 +37,7 @@ returns : tie.Need-returns
 returns c =
     let back = c .before .before .before .before in let mark = back .mark in
     let start = back .before .before .before in
-    λ old here h. let l = start .args .l in
-    let k = subst (λ (z : ℤ). Mark-post here z (mark .last .0) (start .args .stamp) (mark .result))
-    (at-arg (λ (z : ℤ). z) l (start .fits .l)) (mark .ensures here (h .marks)) in
-    hold-repeated h l (mark .last .0) (mark .result) k (c .enum-told .given .1)
+    λ old here h. hold-repeated h (at-arg (λ (z : ℤ). z) (start .args .l) (start .fits .l)) _ _ (mark .ensures here (h .marks)) (c .enum-told .given .1)
 
 same-length-2 : tie.Need-same-length-2
 same-length-2 c = search needs
@@ -53,10 +46,8 @@ returns-2 : tie.Need-returns-2
 returns-2 c =
     let back = c .before .before .before .before in let mark = back .mark in
     let start = back .before .before .before in
-    λ old here h. let l = start .args .l in
-    let k = subst (λ (z : ℤ). Mark-post here z (mark .last .0) (start .args .stamp) (mark .result))
-    (at-arg (λ (z : ℤ). z) l (start .fits .l)) (mark .ensures here (h .marks)) in
-    hold-opposed h l (mark .last .0) (mark .result) k (c .enum-told2 .given .1) (now (start .args .held))
+    λ old here h. hold-opposed h (at-arg (λ (z : ℤ). z) (start .args .l) (start .fits .l)) _ _ (mark .ensures here (h .marks)) (c .enum-told2 .given .1)
+    (now (start .args .held))
 
 same-length-3 : tie.Need-same-length-3
 same-length-3 c = search needs
@@ -69,11 +60,8 @@ returns-3 c =
     let back = c .before .before .before in let enum-told3 = back .enum-told3 in
     let back = back .before .before .before .before in let mark = back .mark in
     let start = back .before .before .before in
-    λ old here h. let l = start .args .l in
-    let k = subst (λ (z : ℤ). Mark-post here z (mark .last .0) (start .args .stamp) (mark .result))
-    (at-arg (λ (z : ℤ). z) l (start .fits .l)) (mark .ensures here (h .marks)) in
-    hold-new h l (mark .last .0) (mark .result) k (enum-told3 .given .1) (start .pre .0)
-    (c .before .put .ensures ∙ at-arg (set (now (start .args .held)) (start .args .n + 1)) l (start .fits .l))
+    λ old here h. hold-new h (at-arg (λ (z : ℤ). z) (start .args .l) (start .fits .l)) _ _ (mark .ensures here (h .marks)) (enum-told3 .given .1)
+    (start .pre .0) (c .before .put .ensures)
 
 pub hold-literal-spec : {M : Type 1} → statement M
 hold-literal-spec =

@@ -1,4 +1,4 @@
-use borrow.Author.Needs.{needs}
+-- The words read so far change nothing in what follows.
 use mathlib.Core.Path.{refl, sym, _∙_}
 use Prim.Native.Nat.{_-_}
 use native.Mathlib.Omega.{arith}

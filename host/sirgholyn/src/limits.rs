@@ -9,7 +9,7 @@ pub struct Limits {
     pub variables: usize,
     /// The header's C, or M.
     pub clauses: usize,
-    /// Literals of all clauses.
+    /// Literals of all clauses that are kept.
     pub literals: usize,
 }
 

@@ -1,9 +1,12 @@
 //! Seeded random formulas, made so that the remarkable cases occur often, and
 //! random damage for texts.
 
+use crate::encoding::Encoding;
 use crate::reading::Formula;
+use crate::standing::holds_opposites;
 use crate::texts::{formula_text, Line};
 use crate::walk_back::{highest_allowed, is_true, replay};
+use std::collections::HashSet;
 
 /// An xorshift generator.
 pub struct Random(u64);
@@ -73,10 +76,7 @@ pub fn noise(random: &mut Random, variables: usize, clause_count: usize) -> Form
         }
         clauses.push(clause);
     }
-    Formula {
-        variables: variables as i32,
-        clauses,
-    }
+    Formula::new(variables as i32, clauses)
 }
 
 /// Sizes of the clauses that are meant to be unique, before clashes join them.
@@ -157,10 +157,7 @@ pub fn planned(random: &mut Random, variables: usize, clause_limit: usize) -> Fo
         clauses.insert(place, Vec::new());
     }
     clauses.truncate(clause_limit);
-    Formula {
-        variables: variables as i32,
-        clauses,
-    }
+    Formula::new(variables as i32, clauses)
 }
 
 /// Clauses of negated chosen literals and fillers: pairs (also repeated, in both
@@ -261,6 +258,109 @@ pub fn largest_with(size: usize) -> Vec<u8> {
 
 pub fn text_of(formula: &Formula) -> Vec<u8> {
     formula_text(formula.variables, &formula.clauses)
+}
+
+/// A text, and the formula that is read of it.
+#[derive(Debug, Clone)]
+pub struct Joined {
+    pub text: Vec<u8>,
+    pub formula: Formula,
+}
+
+impl From<Formula> for Joined {
+    fn from(formula: Formula) -> Joined {
+        Joined {
+            text: text_of(&formula),
+            formula,
+        }
+    }
+}
+
+/// Writes a literal of the clause once more, anywhere behind it.
+fn repeat(random: &mut Random, clause: &mut Vec<i32>) {
+    let place = random.below(clause.len());
+    let later = random.between(place + 1, clause.len());
+    clause.insert(later, clause[place]);
+}
+
+/// Writes the negation of a literal of the clause, anywhere.
+fn oppose(random: &mut Random, clause: &mut Vec<i32>) {
+    let negation = -*random.one_of(clause);
+    let place = random.below(clause.len() + 1);
+    clause.insert(place, negation);
+}
+
+/// Writes about a third of the clauses with literals repeated or opposed, as where clauses of several
+/// formulas are joined. Those with a literal and its negation are left out where the text is read.
+pub fn joined(random: &mut Random, formula: &Formula) -> Joined {
+    let mut written = Vec::new();
+    let mut read = Formula::new(formula.variables, Vec::new());
+    for clause in &formula.clauses {
+        let mut changed = clause.clone();
+        let is_changed = !clause.is_empty() && random.chance(33);
+        let is_opposed = is_changed && random.chance(40);
+        if is_opposed {
+            oppose(random, &mut changed);
+            read.left_out += 1;
+        } else {
+            read.clauses.push(clause.clone());
+        }
+        if is_changed && (!is_opposed || random.chance(50)) {
+            for _ in 0..random.between(1, 3) {
+                repeat(random, &mut changed);
+            }
+        }
+        written.push(changed);
+    }
+    Joined {
+        text: formula_text(formula.variables, &written),
+        formula: read,
+    }
+}
+
+/// One of three formulas joined, the others as they are.
+pub fn one_of_three_joined(random: &mut Random, formula: Formula) -> Joined {
+    if random.chance(33) {
+        joined(random, &formula)
+    } else {
+        formula.into()
+    }
+}
+
+/// The clauses of an accepted text as they are written.
+pub fn written_clauses(text: &[u8]) -> Vec<Vec<i32>> {
+    let text = String::from_utf8_lossy(text);
+    let body = text
+        .lines()
+        .skip_while(|line| line.starts_with('c'))
+        .skip(1);
+    let numbers: Vec<i32> = body
+        .flat_map(str::split_whitespace)
+        .map(|word| word.parse().expect("a number"))
+        .collect();
+    let mut clauses: Vec<Vec<i32>> = numbers.split(|&n| n == 0).map(<[i32]>::to_vec).collect();
+    let after = clauses.pop();
+    assert_eq!(after, Some(Vec::new()), "the text ends inside a clause");
+    clauses
+}
+
+/// The clauses (by index) that are kept of an accepted text, though a literal is written more than once.
+pub fn clauses_with_repeat(text: &[u8]) -> Vec<usize> {
+    let mut kept = written_clauses(text);
+    kept.retain(|clause| !holds_opposites(clause));
+    let repeats = |clause: &[i32]| {
+        let different: HashSet<&i32> = clause.iter().collect();
+        different.len() < clause.len()
+    };
+    (0..kept.len()).filter(|&p| repeats(&kept[p])).collect()
+}
+
+/// How many of those go into some choice.
+pub fn repeats_in_choices(text: &[u8], encoding: &Encoding) -> usize {
+    let mut places = clauses_with_repeat(text);
+    let in_choices = encoding.input_clauses_in_choices();
+    places.retain(|place| in_choices.contains(place));
+    places.len()
 }
 
 /// One random change of a text.
@@ -401,4 +501,29 @@ pub fn answer_after(random: &mut Random, formula: &Formula, kept: &[Line]) -> Ve
     let highest = highest_allowed(formula, kept);
     let values = values_for(random, &standing, highest as usize);
     answer_for(random, &values)
+}
+
+#[cfg(test)]
+mod tests {
+    use super::*;
+    use crate::reading::{read_formula, INPUT_LIMITS};
+
+    #[test]
+    fn joined_formulas_are_read_as_told() {
+        let (mut clauses, mut with_repeat, mut left_out) = (0, 0, 0);
+        for seed in 0..2_000 {
+            let random = &mut Random::new(seed);
+            let (variables, count) = (random.below(12), random.below(20));
+            let formula = planned(random, variables, count);
+            let Joined { text, formula } = joined(random, &formula);
+            assert_eq!(read_formula(&text, &INPUT_LIMITS), Ok(formula.clone()));
+            clauses += formula.header_clauses();
+            with_repeat += clauses_with_repeat(&text).len();
+            left_out += formula.left_out;
+        }
+        println!("of {clauses} clauses {with_repeat} with a repeat, {left_out} left out");
+        let share = |of: usize| 100 * of / clauses;
+        assert!((25..=40).contains(&share(with_repeat + left_out)));
+        assert!(share(with_repeat) >= 15 && share(left_out) >= 10);
+    }
 }

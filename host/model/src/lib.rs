@@ -1,4 +1,4 @@
-//! A plain model of document 01: choice clauses, counters and the way back.
+//! A plain model of document 01 (choice clauses, counters and the way back) and of M-100 in document 02.
 //!
 //! Three calls: [`reencode`], [`read_back`] and [`walk_back`]. Each gives its
 //! result or the number of its refusal.
@@ -51,7 +51,7 @@ pub struct Reencoded {
     pub formula: Vec<u8>,
 }
 
-/// Refuses with 1 to 9, then 11, 12, 13.
+/// Refuses with 1 to 4 or 7 to 9, then 11, 12, 13.
 pub fn reencode(
     text: &[u8],
     form: Form,
@@ -84,7 +84,7 @@ pub fn reencode(
     })
 }
 
-/// Reads a new formula: its variables and clauses. Refuses with 1 to 9, then 11.
+/// Reads a new formula: its variables and the clauses kept. Refuses with 1 to 4 or 7 to 9, then 11.
 pub fn read_back(text: &[u8], workspace: u64) -> Result<(i32, Vec<Vec<i32>>), u8> {
     let formula = read_formula(text, &READ_BACK_LIMITS)?;
     if workspace < formula.workspace_needed() {

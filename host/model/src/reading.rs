@@ -1,5 +1,6 @@
-//! Reading DIMACS CNF: refusals 1 to 9.
+//! Reading DIMACS CNF: refusals 1 to 4 and 7 to 9.
 
+use crate::standing::holds_opposites;
 use std::collections::HashSet;
 
 pub struct Limits {
@@ -25,11 +26,28 @@ pub const READ_BACK_LIMITS: Limits = Limits {
 #[derive(Debug, Clone, PartialEq, Eq)]
 pub struct Formula {
     pub variables: i32,
+    /// The clauses that are kept.
     pub clauses: Vec<Vec<i32>>,
+    /// How many clauses more the text has: those that hold a literal and its negation.
+    pub left_out: usize,
 }
 
 impl Formula {
-    /// L, the non-zero literals.
+    /// All clauses are kept.
+    pub fn new(variables: i32, clauses: Vec<Vec<i32>>) -> Formula {
+        Formula {
+            variables,
+            clauses,
+            left_out: 0,
+        }
+    }
+
+    /// C, the clauses of the header.
+    pub fn header_clauses(&self) -> usize {
+        self.clauses.len() + self.left_out
+    }
+
+    /// L, the non-zero literals that are kept.
     pub fn literal_count(&self) -> u64 {
         self.clauses.iter().map(|clause| clause.len() as u64).sum()
     }
@@ -37,7 +55,7 @@ impl Formula {
     /// The 32-bit entries that reencoding and reading back ask for.
     pub fn workspace_needed(&self) -> u64 {
         20 * self.literal_count()
-            + 2 * self.clauses.len() as u64
+            + 2 * self.header_clauses() as u64
             + 6 * self.variables as u64
             + 8_192
     }
@@ -87,60 +105,67 @@ fn header_numbers(line: &[u8]) -> Option<(i64, i64)> {
     Some((number(words[0])?, number(words[1])?))
 }
 
-/// The formula, or the number of the first fault in reading order.
-pub fn read_formula(text: &[u8], limits: &Limits) -> Result<Formula, u8> {
+/// V, C and what follows the header.
+fn read_header<'a>(text: &'a [u8], limits: &Limits) -> Result<(i64, i64, &'a [u8]), u8> {
     let mut rest = text;
     while rest.starts_with(b"c") {
         rest = cut_line(rest).1;
     }
     let (header, body) = cut_line(rest);
-    let (variables, clause_count) = header_numbers(header).ok_or(1)?;
-    if variables > limits.variables || clause_count > limits.clauses {
+    let (variables, clauses) = header_numbers(header).ok_or(1)?;
+    if variables > limits.variables || clauses > limits.clauses {
         return Err(2);
     }
+    Ok((variables, clauses, body))
+}
 
-    let mut clauses: Vec<Vec<i32>> = Vec::new();
+/// The words up to the next `0` as a clause: a repeated literal is kept at its first place only. Without a
+/// word left the clause is missing.
+fn read_clause<'a>(
+    words: &mut impl Iterator<Item = &'a [u8]>,
+    variables: i64,
+) -> Result<Vec<i32>, u8> {
     let mut clause: Vec<i32> = Vec::new();
     let mut in_clause: HashSet<i32> = HashSet::new();
-    let mut literal_count = 0;
-    let words = body
-        .split(|byte| b" \t\r\n".contains(byte))
-        .filter(|word| !word.is_empty());
-    for word in words {
-        if clauses.len() as i64 == clause_count {
-            return Err(8);
-        }
+    loop {
+        let word = words.next().ok_or(if clause.is_empty() { 8 } else { 7 })?;
         let value = number(word).ok_or(3)?;
         if value == 0 {
-            clauses.push(std::mem::take(&mut clause));
-            in_clause.clear();
-            continue;
+            return Ok(clause);
         }
         if value.abs() > variables {
             return Err(4);
         }
         let literal = value as i32;
-        if in_clause.contains(&literal) {
-            return Err(5);
+        if in_clause.insert(literal) {
+            clause.push(literal);
         }
-        if in_clause.contains(&-literal) {
-            return Err(6);
+    }
+}
+
+/// The formula, or the number of the first fault in reading order. A clause that holds a literal and its
+/// negation is left out: it counts towards C alone.
+pub fn read_formula(text: &[u8], limits: &Limits) -> Result<Formula, u8> {
+    let (variables, clause_count, body) = read_header(text, limits)?;
+    let mut words = body
+        .split(|byte| b" \t\r\n".contains(byte))
+        .filter(|word| !word.is_empty());
+    let mut formula = Formula::new(variables as i32, Vec::new());
+    let mut literal_count = 0;
+    for _ in 0..clause_count {
+        let clause = read_clause(&mut words, variables)?;
+        if holds_opposites(&clause) {
+            formula.left_out += 1;
+            continue;
         }
-        literal_count += 1;
+        literal_count += clause.len();
         if literal_count > limits.literals {
             return Err(9);
         }
-        clause.push(literal);
-        in_clause.insert(literal);
+        formula.clauses.push(clause);
     }
-    if !clause.is_empty() {
-        return Err(7);
+    match words.next() {
+        Some(_) => Err(8),
+        None => Ok(formula),
     }
-    if (clauses.len() as i64) < clause_count {
-        return Err(8);
-    }
-    Ok(Formula {
-        variables: variables as i32,
-        clauses,
-    })
 }

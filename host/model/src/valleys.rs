@@ -75,10 +75,7 @@ impl Valley {
                 }
             }
         }
-        Formula {
-            variables: (self.traps * self.lures) as i32,
-            clauses,
-        }
+        Formula::new((self.traps * self.lures) as i32, clauses)
     }
 
     /// The formula with its clauses, and the literals of each, in random order.

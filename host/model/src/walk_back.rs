@@ -56,7 +56,7 @@ pub fn highest_allowed(formula: &Formula, kept: &[Line]) -> i32 {
         .fold(formula.variables, i32::max)
 }
 
-/// The 32-bit entries that walking back asks for.
+/// The 32-bit entries that walking back asks for. N counts the clauses that are kept.
 pub fn workspace_needed(formula: &Formula, kept: &[Line]) -> u64 {
     let formula_numbers = formula.literal_count() + formula.clauses.len() as u64;
     let line_numbers: u64 = kept.iter().map(|line| line.literals.len() as u64 + 1).sum();

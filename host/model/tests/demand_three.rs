@@ -2,11 +2,13 @@
 //! log, every assignment.
 
 use model::encoding::{Encoding, Tally};
-use model::generator::{noise, planned, Random};
-use model::reading::Formula;
+use model::generator::{
+    clauses_with_repeat, noise, one_of_three_joined, planned, repeats_in_choices, written_clauses,
+    Joined, Random,
+};
 use model::texts::{answer_text, formula_text, log_text, Line};
 use model::walk_back::{carry_back, is_true, satisfies};
-use model::{read_back, walk_back, Arrangement, Form};
+use model::{read_back, reencode, walk_back, Arrangement, Form};
 
 /// One bit for each assignment; assignment a gives variable v the bit v - 1 of a.
 #[derive(Clone, PartialEq)]
@@ -170,11 +172,17 @@ fn apply(standing: &mut Vec<Vec<i32>>, line: &Line) {
 }
 
 /// All of demand 3 for one formula; the answer is whether it can be satisfied.
-fn check(formula: &Formula, form: Form, arrangement: Arrangement, random: &mut Random) -> bool {
+fn check(joined: &Joined, form: Form, arrangement: Arrangement, random: &mut Random) -> bool {
+    let Joined { text, formula } = joined;
     let encoding = Encoding::run(formula, form, arrangement);
-    let seen = format!("{formula:?} {form:?} {arrangement:?}");
+    let seen = format!(
+        "{:?} {form:?} {arrangement:?}",
+        String::from_utf8_lossy(text)
+    );
     let tables = Tables::new(encoding.highest as usize);
     let input = tables.list(&formula.clauses);
+    let written = tables.list(&written_clauses(text));
+    assert!(input == written, "as it is written, {seen}");
     let in_choices: Vec<usize> = encoding.input_clauses_in_choices();
     let mut exactly_one = Table::all(tables.variables, true);
     for &place in &in_choices {
@@ -197,7 +205,7 @@ fn check(formula: &Formula, form: Form, arrangement: Arrangement, random: &mut R
         assert!(satisfying.within(&good), "back, {after} lines of {seen}");
         if random.chance(5) || after == encoding.log.len() {
             let kept = &encoding.log[..after];
-            walk_once(formula, kept, &standing, &satisfying, random, &seen);
+            walk_once(joined, kept, &standing, &satisfying, random, &seen);
         }
     }
     assert!(
@@ -206,18 +214,31 @@ fn check(formula: &Formula, form: Form, arrangement: Arrangement, random: &mut R
     );
 
     assert_eq!(standing, encoding.standing.clauses(), "{seen}");
-    let text = formula_text(encoding.highest, &standing);
-    assert_eq!(
-        read_back(&text, 1 << 40),
-        Ok((encoding.highest, standing)),
-        "{seen}"
-    );
+    reencode_once(text, form, arrangement, &encoding, &seen);
     !input.is_empty()
+}
+
+/// The reencode call gives what the run gives, and its new formula is read back as what stands.
+fn reencode_once(
+    text: &[u8],
+    form: Form,
+    arrangement: Arrangement,
+    encoding: &Encoding,
+    seen: &str,
+) {
+    let standing = encoding.standing.clauses();
+    let log = log_text(&encoding.log);
+    let new = formula_text(encoding.highest, &standing);
+    let result = reencode(text, form, arrangement, 1 << 40, log.len(), new.len());
+    let written = result.map(|result| (result.log, result.formula));
+    assert_eq!(written, Ok((log, new.clone())), "{seen}");
+    let read = read_back(&new, 1 << 40);
+    assert_eq!(read, Ok((encoding.highest, standing)), "{seen}");
 }
 
 /// The walk-back call on one satisfying assignment, against the steps one by one.
 fn walk_once(
-    formula: &Formula,
+    Joined { text, formula }: &Joined,
     kept: &[Line],
     standing: &[Vec<i32>],
     satisfying: &Table,
@@ -243,14 +264,7 @@ fn walk_once(
     answer.extend(answer_text(highest, |variable| is_true(variable, &values)));
     carry_back(kept, &mut values);
     let expected = answer_text(formula.variables, |variable| is_true(variable, &values));
-    let line = walk_back(
-        &formula_text(formula.variables, &formula.clauses),
-        &log_text(kept),
-        kept.len(),
-        &answer,
-        1 << 40,
-        1 << 20,
-    );
+    let line = walk_back(text, &log_text(kept), kept.len(), &answer, 1 << 40, 1 << 20);
     assert_eq!(line, Ok(expected), "{seen}");
     assert!(satisfies(&values, &formula.clauses), "{seen}");
 }
@@ -263,11 +277,17 @@ struct Occurred {
     with_choice: usize,
     with_two_choices: usize,
     with_joined_choice: usize,
+    with_repeat: usize,
+    /// A clause with a repeat that goes into a choice.
+    with_repeat_in_choice: usize,
+    left_out: usize,
+    /// A clause left out of a formula with a choice.
+    left_out_beside_choice: usize,
     tally: Tally,
 }
 
 impl Occurred {
-    fn count(&mut self, encoding: &Encoding) {
+    fn count(&mut self, joined: &Joined, encoding: &Encoding) {
         let tally = &encoding.tally;
         let total = &mut self.tally;
         self.formulas += 1;
@@ -280,6 +300,12 @@ impl Occurred {
                 .iter()
                 .any(|&(place, _)| place >= encoding.input_clauses),
         );
+        self.with_repeat += clauses_with_repeat(&joined.text).len();
+        self.with_repeat_in_choice += repeats_in_choices(&joined.text, encoding);
+        self.left_out += joined.formula.left_out;
+        if !encoding.choices.is_empty() {
+            self.left_out_beside_choice += joined.formula.left_out;
+        }
         total.clashes += tally.clashes;
         total.chained_clashes += tally.chained_clashes;
         total.double_clashes += tally.double_clashes;
@@ -313,13 +339,14 @@ fn run(seeds: std::ops::Range<u64>, variables: (usize, usize), highest: i32) -> 
         } else {
             planned(&mut random, variable_count, clause_limit)
         };
+        let joined = one_of_three_joined(&mut random, formula);
         let (form, arrangement) = *random.one_of(&WAYS);
-        let encoding = Encoding::run(&formula, form, arrangement);
+        let encoding = Encoding::run(&joined.formula, form, arrangement);
         if encoding.highest > highest {
             continue;
         }
-        occurred.count(&encoding);
-        let satisfiable = check(&formula, form, arrangement, &mut random);
+        occurred.count(&joined, &encoding);
+        let satisfiable = check(&joined, form, arrangement, &mut random);
         occurred.satisfiable += usize::from(satisfiable);
     }
     occurred
@@ -333,6 +360,10 @@ fn small_formulas() {
     for count in [
         occurred.with_choice,
         occurred.with_joined_choice,
+        occurred.with_repeat,
+        occurred.with_repeat_in_choice,
+        occurred.left_out,
+        occurred.left_out_beside_choice,
         tally.chained_clashes,
         tally.double_clashes,
         tally.empty_resolvents,
@@ -347,9 +378,11 @@ fn small_formulas() {
 
 #[test]
 fn formulas_with_two_choices() {
-    let occurred = run(0..400, (10, 11), 19);
+    let occurred = run(0..600, (10, 11), 19);
     println!("{occurred:#?}");
     assert!(occurred.with_two_choices > 10);
+    assert!(occurred.with_repeat_in_choice > 10);
+    assert!(occurred.left_out_beside_choice > 10);
     assert!(occurred.tally.aligned > 2);
     assert!(occurred.tally.unalignable > 2);
 }

@@ -1,6 +1,7 @@
 //! Formulas at the reader's limits.
 
 use model::generator::largest_with;
+use model::reading::{read_formula, Formula, Limits, INPUT_LIMITS, READ_BACK_LIMITS};
 use model::{read_back, reencode, walk_back, Arrangement, Form};
 
 #[test]
@@ -23,5 +24,99 @@ fn twenty_thousand_clauses() {
                 Err(44)
             );
         }
+    }
+}
+
+/// The clause that holds the literals, each written so many times.
+fn clause(literals: impl Iterator<Item = i32>, times: usize) -> String {
+    let words: String = literals.map(|l| format!("{l} ").repeat(times)).collect();
+    words + "0\n"
+}
+
+fn read(header: &str, body: &str, limits: &Limits) -> Result<Formula, u8> {
+    read_formula(format!("{header}\n{body}").as_bytes(), limits)
+}
+
+/// How many literals are kept, and how many clauses left out.
+fn counts(read: Result<Formula, u8>) -> Result<(u64, usize), u8> {
+    read.map(|formula| (formula.literal_count(), formula.left_out))
+}
+
+#[test]
+fn sixty_thousand_literals_kept() {
+    for times in [1, 2] {
+        let full = clause(1..=6_000, times).repeat(10);
+        for (clauses, more, expected) in [
+            (10, "", Ok((60_000, 0))),
+            (11, "0", Ok((60_000, 0))),
+            (11, "1 -1 0", Ok((60_000, 1))),
+            (12, "1 -1 0 0", Ok((60_000, 1))),
+            (11, "1 0", Err(9)),
+            (11, "1 1 0", Err(9)),
+            (12, "1 -1 0 1 0", Err(9)),
+            // before the closing 0
+            (11, "1 x 0", Err(3)),
+            (11, "1 6001 0", Err(4)),
+            (11, "1", Err(7)),
+            (11, "1 -1 x 0", Err(3)),
+            (11, "1 -1", Err(7)),
+            // after it
+            (11, "1 0 x", Err(9)),
+            (12, "1 0 6001", Err(9)),
+            (12, "1 0", Err(9)),
+            (11, "1 -1 0 x", Err(8)),
+        ] {
+            let read = read(
+                &format!("p cnf 6000 {clauses}"),
+                &format!("{full}{more}"),
+                &INPUT_LIMITS,
+            );
+            assert_eq!(counts(read), expected, "{more:?}");
+        }
+    }
+}
+
+#[test]
+fn a_million_literals_kept_in_reading_back() {
+    let full = clause(1..=70_000, 2).repeat(14);
+    for (last, expected) in [(20_000, Ok((1_000_000, 1))), (20_001, Err(9))] {
+        let body = full.clone() + "1 -1 0\n" + &clause(1..=last, 1);
+        let read = read("p cnf 70000 16", &body, &READ_BACK_LIMITS);
+        assert_eq!(counts(read), expected, "{last}");
+    }
+}
+
+#[test]
+fn a_clause_left_out_adds_nothing() {
+    let both_signs = || (1..=8_000).chain((1..=8_000).map(|variable| -variable));
+    let full = clause(1..=6_000, 1).repeat(10);
+    for times in [1, 5] {
+        let left_out = clause(both_signs(), times);
+        for body in [format!("{left_out}{full}"), format!("{full}{left_out}")] {
+            let read = read("p cnf 8000 11", &body, &INPUT_LIMITS);
+            assert_eq!(counts(read), Ok((60_000, 1)), "{times}");
+        }
+    }
+}
+
+#[test]
+fn twenty_thousand_clauses_left_out() {
+    let encode = |more: &str, workspace| {
+        let text = format!("p cnf 1 20000\n{}{more}", "1 -1 0\n".repeat(20_000));
+        let (form, arrangement) = (Form::Counter, Arrangement::AsListed);
+        reencode(text.as_bytes(), form, arrangement, workspace, 0, 100).map(|result| result.formula)
+    };
+    let needed = 2 * 20_000 + 6 + 8_192;
+    assert_eq!(encode("", needed), Ok(b"p cnf 1 0\n".to_vec()));
+    assert_eq!(encode("", needed - 1), Err(11));
+    assert_eq!(encode("1 -1 0\n", needed), Err(8));
+}
+
+#[test]
+fn a_million_repeats_of_a_literal() {
+    let repeats = "1 ".repeat(1_000_000);
+    for (end, expected) in [("0", Ok((1, 0))), ("-1 0", Ok((0, 1))), ("", Err(7))] {
+        let read = read("p cnf 1 1", &format!("{repeats}{end}"), &INPUT_LIMITS);
+        assert_eq!(counts(read), expected, "{end:?}");
     }
 }

@@ -1,6 +1,7 @@
-//! The sessions listed in document 01, and the example vectors of its readings.
+//! The sessions listed in document 01, two of them as M-100 has them, and the example vectors of its readings.
 
-use model::sessions::F;
+use model::reading::{read_formula, INPUT_LIMITS};
+use model::sessions::{F, JOINED_E};
 use model::{read_back, reencode, walk_back, Arrangement, Form, Reencoded};
 
 const PLENTY: usize = 1 << 30;
@@ -67,14 +68,15 @@ fn sessions_a_to_e() {
         "d 1 2 0\nd -1 -2 0\n",
         "p cnf 2 0\n",
     );
-    let e = "p cnf 3 2\n1 2 0\n-1 3 0\n";
-    let log = "2 3 0\nd 1 2 0\nd -1 3 0\nd 2 3 0\n";
-    expect(e, log, "p cnf 3 0\n");
-    for answer in ["s SATISFIABLE\nv -1 -2 -3 0\n", "s SATISFIABLE\nv 0"] {
-        assert_eq!(
-            walk(e, log.as_bytes(), 4, answer),
-            Ok("v -1 2 -3 0\n".into())
-        );
+    for e in ["p cnf 3 2\n1 2 0\n-1 3 0\n", JOINED_E] {
+        let log = "2 3 0\nd 1 2 0\nd -1 3 0\nd 2 3 0\n";
+        expect(e, log, "p cnf 3 0\n");
+        for answer in ["s SATISFIABLE\nv -1 -2 -3 0\n", "s SATISFIABLE\nv 0"] {
+            assert_eq!(
+                walk(e, log.as_bytes(), 4, answer),
+                Ok("v -1 2 -3 0\n".into())
+            );
+        }
     }
 }
 
@@ -98,19 +100,31 @@ fn sessions_g_and_h_order_form() {
     assert_eq!(line, "v -1 -2 -3 4 -5 -6 0\n");
 }
 
-#[test]
-fn the_six_refusals() {
-    let cases = [
-        ("1 1 0", 5),
-        ("1 -1 0", 6),
-        ("2 0", 4),
-        ("-0", 3),
-        ("1", 7),
-        ("1 0 1 0", 8),
-    ];
+/// Each body after the header is refused with its number.
+fn expect_refusals(header: &str, cases: &[(&str, u8)]) {
     for (body, number) in cases {
-        assert_eq!(refusal(&format!("p cnf 1 1\n{body}\n")), number, "{body}");
+        assert_eq!(refusal(&format!("{header}\n{body}\n")), *number, "{body}");
     }
+}
+
+#[test]
+fn the_four_refusals() {
+    let cases = [("2 0", 4), ("-0", 3), ("1", 7), ("1 0 1 0", 8)];
+    expect_refusals("p cnf 1 1", &cases);
+}
+
+#[test]
+fn the_two_sessions_let_in() {
+    let (repeated, opposed) = ("p cnf 1 1\n1 1 0\n", "p cnf 1 1\n1 -1 0\n");
+    expect(repeated, "d 1 0\n", "p cnf 1 0\n");
+    expect(opposed, "", "p cnf 1 0\n");
+    for (text, clauses) in [(repeated, vec![vec![1]]), (opposed, vec![])] {
+        assert_eq!(read_back(text.as_bytes(), 1 << 40), Ok((1, clauses)));
+    }
+    let answer = "s SATISFIABLE\nv 0\n";
+    assert_eq!(walk(repeated, b"", 0, answer), Err(44));
+    assert_eq!(walk(repeated, b"d 1 0\n", 1, answer), Ok("v 1 0\n".into()));
+    assert_eq!(walk(opposed, b"", 0, answer), Ok("v -1 0\n".into()));
 }
 
 /// A clause of the given size, its literals' negations in clauses that are not unique.
@@ -292,22 +306,98 @@ fn words() {
         ("1\u{c}0", 3),
         ("1000000000000000000000000000000 0", 4),
         ("-2 0", 4),
-        ("-1 -1 0", 5),
-        ("-1 1 x 0", 6),
         ("", 8),
         ("1 0 0", 8),
     ];
-    for (body, number) in cases {
-        assert_eq!(refusal(&format!("p cnf 1 1\n{body}\n")), number, "{body}");
+    expect_refusals("p cnf 1 1", &cases);
+}
+
+#[test]
+fn repeats_and_opposed_literals() {
+    let cases: [(&str, &[&[i32]], usize); 10] = [
+        ("1 1 0", &[&[1]], 0),
+        ("3 1 3 2 1 1 0", &[&[3, 1, 2]], 0),
+        ("-2 1 -2 0", &[&[-2, 1]], 0),
+        ("1 -1 0", &[], 1),
+        ("1 -1 1 0", &[], 1),
+        ("-2 -2 1 3 2 0", &[], 1),
+        ("1 2 3 -2 -1 0", &[], 1),
+        ("1 0 1 0 -1 0", &[&[1], &[1], &[-1]], 0),
+        ("3 -3 0 0 2 2 0 0", &[&[], &[2], &[]], 1),
+        ("1 1 0 2 -2 0 -1 2 -1 0 3 -3 3 0", &[&[1], &[-1, 2]], 2),
+    ];
+    for (body, clauses, left_out) in cases {
+        let text = format!("p cnf 3 {}\n{body}\n", clauses.len() + left_out);
+        let read = read_formula(text.as_bytes(), &INPUT_LIMITS).unwrap();
+        let clauses: Vec<Vec<i32>> = clauses.iter().map(|clause| clause.to_vec()).collect();
+        assert_eq!((read.clauses, read.left_out), (clauses, left_out), "{body}");
     }
-    let full = |extra: &str| {
-        let clause: String = (1..=6_000).map(|v| format!("{v} ")).collect();
-        format!("p cnf 6000 11\n{}{extra}", (clause + "0\n").repeat(10))
+}
+
+#[test]
+fn refusals_with_repeats_and_opposed_literals() {
+    let in_the_last_clause = [
+        ("1 1 x 0", 3),
+        ("1 -1 x 0", 3),
+        ("1 -1 -0", 3),
+        ("1 1 2 0", 4),
+        ("1 -1 -2 0", 4),
+        ("1 -1 2 x", 4),
+        ("1 1", 7),
+        ("1 -1", 7),
+        ("1 -1 1", 7),
+        ("1 1 0 1", 8),
+        ("1 -1 0 1 0", 8),
+        ("1 -1 0 0", 8),
+        ("1 -1 0 x", 8),
+    ];
+    expect_refusals("p cnf 1 1", &in_the_last_clause);
+    let in_the_first_clause = [
+        ("1 -1 0", 8),
+        ("1 1 0", 8),
+        ("1 -1 x 0 0", 3),
+        ("1 -1 0 x", 3),
+        ("1 -1 0 2 0", 4),
+        ("1 -1 0 1", 7),
+        ("1 -1 0 -1 1 0 0", 8),
+    ];
+    expect_refusals("p cnf 1 2", &in_the_first_clause);
+}
+
+#[test]
+fn log_lines_keep_their_strictness() {
+    for (log, number) in [
+        ("d 1 1 2 0\n", 31),
+        ("d 3 -3 0\n", 31),
+        ("d 3 0\n", 32),
+        ("d 2 1 0\nd 1 2 0\n", 32),
+    ] {
+        let kept = log.lines().count();
+        let walked = walk(JOINED_E, log.as_bytes(), kept, "s SATISFIABLE\nv 0\n");
+        assert_eq!(walked, Err(number), "{log:?}");
+    }
+}
+
+/// L 4, C 3; without the clause left out, 6 numbers follow the header.
+#[test]
+fn workspace_of_session_e_joined() {
+    let text = JOINED_E.as_bytes();
+    let needed = 20 * 4 + 2 * 3 + 6 * 3 + 8_192;
+    let encode = |workspace| {
+        let (form, arrangement) = (Form::Counter, Arrangement::AsListed);
+        reencode(text, form, arrangement, workspace, PLENTY, PLENTY)
     };
-    assert_eq!(encode(&full("0"), Form::Counter).clauses, 11);
-    assert_eq!(refusal(&full("1 0")), 9);
-    assert_eq!(refusal(&full("x")), 3);
-    assert_eq!(refusal(&full("6001")), 4);
+    assert_eq!(encode(needed), Ok(encode(1 << 40).unwrap()));
+    assert_eq!(encode(needed - 1), Err(11));
+    let clauses = vec![vec![1, 2], vec![-1, 3]];
+    assert_eq!(read_back(text, needed), Ok((3, clauses)));
+    assert_eq!(read_back(text, needed - 1), Err(11));
+
+    let needed = 4 * (6 + 3) + 4 * 3 + 64;
+    let (log, answer) = (b"d 2 1 0\n", b"s SATISFIABLE\nv 0\n");
+    let call = |workspace| walk_back(text, log, 1, answer, workspace, PLENTY);
+    assert_eq!(call(needed), Ok(b"v -1 2 -3 0\n".to_vec()));
+    assert_eq!(call(needed - 1), Err(11));
 }
 
 #[test]

@@ -2,7 +2,9 @@
 
 use crate::rows::{Call, Reencode, Text, WalkBack, PLENTY};
 use model::encoding::Encoding;
-use model::generator::{answer_after, damage, damage_log, noise, planned, text_of, Random};
+use model::generator::{
+    answer_after, damage, damage_log, noise, one_of_three_joined, planned, Joined, Random,
+};
 use model::reading::Formula;
 use model::texts::log_text;
 use model::walk_back::workspace_needed;
@@ -12,13 +14,14 @@ pub const FORMS: [Form; 2] = [Form::Counter, Form::Order];
 pub const ARRANGEMENTS: [Arrangement; 2] = [Arrangement::AsListed, Arrangement::Alignment];
 
 /// A formula that the checker computes in little time.
-pub fn small(random: &mut Random) -> Formula {
+pub fn small(random: &mut Random) -> Joined {
     let (variables, clauses) = (random.below(13), random.between(1, 14));
-    if random.chance(15) {
+    let formula = if random.chance(15) {
         noise(random, variables, clauses)
     } else {
         planned(random, variables, clauses)
-    }
+    };
+    one_of_three_joined(random, formula)
 }
 
 /// Literals of the variables 1 up to the size, and their negations in another order.
@@ -49,10 +52,7 @@ pub fn choice_of_20(random: &mut Random) -> Formula {
         clauses.push(clause);
     }
     random.shuffle(&mut clauses);
-    Formula {
-        variables: 21,
-        clauses,
-    }
+    Formula::new(21, clauses)
 }
 
 /// A clause of the size without a clash or a pure literal, in a formula of few clauses: its negated
@@ -62,10 +62,7 @@ pub fn unique_clause(random: &mut Random, size: usize) -> Formula {
     let rest = negated.split_off(random.between(1, size - 1));
     let mut clauses = vec![clause, negated.clone(), rest.clone(), rest, negated];
     random.shuffle(&mut clauses);
-    Formula {
-        variables: size as i32,
-        clauses,
-    }
+    Formula::new(size as i32, clauses)
 }
 
 /// Three choices of 5 with links, each a part of a chain over all three.
@@ -81,10 +78,7 @@ pub fn linked_choices(random: &mut Random) -> Formula {
     let rest = negated.split_off(random.between(5, 10));
     clauses.extend([negated.clone(), rest.clone(), rest, negated]);
     random.shuffle(&mut clauses);
-    Formula {
-        variables: 15,
-        clauses,
-    }
+    Formula::new(15, clauses)
 }
 
 /// As much as is needed or more; in so many of a hundred cases one too few.
@@ -113,13 +107,14 @@ fn perhaps_damaged(random: &mut Random, mut text: Text, damaged: usize) -> Text 
 
 /// In so many of a hundred cases, the text is damaged, the workspace short, a buffer short.
 pub fn reencoding(
-    formula: Formula,
+    formula: impl Into<Joined>,
     random: &mut Random,
     form: Form,
     arrangement: Arrangement,
     damaged: usize,
 ) -> Call {
-    let text = perhaps_damaged(random, text_of(&formula), damaged);
+    let Joined { text, formula } = formula.into();
+    let text = perhaps_damaged(random, text, damaged);
     let result = reencode(&text, form, arrangement, PLENTY as u64, PLENTY, PLENTY);
     let (log, new) = result.map_or((100, 100), |r| (r.log.len(), r.formula.len()));
     Call::Reencode(Reencode {
@@ -134,18 +129,22 @@ pub fn reencoding(
 
 pub fn reading_back(formula: Formula, random: &mut Random, form: Form, damaged: usize) -> Call {
     let run = Encoding::run(&formula, form, *random.one_of(&ARRANGEMENTS));
-    let new = Formula {
-        variables: run.highest,
-        clauses: run.standing.clauses(),
-    };
+    let new = Formula::new(run.highest, run.standing.clauses());
+    let Joined { text, formula } = one_of_three_joined(random, new);
     Call::ReadBack {
-        work: room(random, new.workspace_needed() as usize, damaged),
-        text: perhaps_damaged(random, text_of(&new), damaged),
+        work: room(random, formula.workspace_needed() as usize, damaged),
+        text: perhaps_damaged(random, text, damaged),
     }
 }
 
 /// With the lines of a log damaged too, and other numbers of lines kept than all of them.
-pub fn walking_back(formula: Formula, random: &mut Random, form: Form, damaged: usize) -> Call {
+pub fn walking_back(
+    formula: impl Into<Joined>,
+    random: &mut Random,
+    form: Form,
+    damaged: usize,
+) -> Call {
+    let Joined { text, formula } = formula.into();
     let mut lines = Encoding::run(&formula, form, *random.one_of(&ARRANGEMENTS)).log;
     if random.chance(damaged) {
         lines = damage_log(random, &lines);
@@ -157,7 +156,7 @@ pub fn walking_back(formula: Formula, random: &mut Random, form: Form, damaged: 
     };
     let kept_lines = &lines[..kept.min(lines.len())];
     let answer = answer_after(random, &formula, kept_lines);
-    let text = perhaps_damaged(random, text_of(&formula), damaged / 2);
+    let text = perhaps_damaged(random, text, damaged / 2);
     let log = perhaps_damaged(random, log_text(&lines), damaged / 2);
     let answer = perhaps_damaged(random, answer, damaged / 2);
     let line = walk_back(&text, &log, kept, &answer, PLENTY as u64, PLENTY);

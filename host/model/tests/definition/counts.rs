@@ -2,6 +2,8 @@
 
 use crate::rows::{Call, Row};
 use model::encoding::Encoding;
+use model::generator::clauses_with_repeat;
+use model::reading::{read_formula, READ_BACK_LIMITS};
 use model::Arrangement;
 use std::collections::BTreeMap;
 
@@ -19,6 +21,9 @@ pub fn counts(rows: &[Row]) -> Counts {
         count(&mut counts, format!("{call} {:02}", row.number()), 1);
         let is_ascii = texts.iter().all(|text| text.is_ascii());
         count(&mut counts, "not in ASCII", usize::from(!is_ascii));
+        if row.number() == 0 {
+            count_reading(&mut counts, call, texts[0]);
+        }
         count_reencoding(&mut counts, row);
         count_walk_back(&mut counts, row);
     }
@@ -27,6 +32,22 @@ pub fn counts(rows: &[Row]) -> Counts {
 
 fn count(counts: &mut Counts, what: impl Into<String>, times: usize) {
     *counts.entry(what.into()).or_default() += times;
+}
+
+/// What is taken out of the formula's text, in a row with a result.
+fn count_reading(counts: &mut Counts, call: &str, text: &[u8]) {
+    let formula = read_formula(text, &READ_BACK_LIMITS).expect("the row has a result");
+    let with_repeat = clauses_with_repeat(text).len();
+    count(
+        counts,
+        format!("{call}, clauses with a repeat"),
+        with_repeat,
+    );
+    count(
+        counts,
+        format!("{call}, clauses left out"),
+        formula.left_out,
+    );
 }
 
 fn count_reencoding(counts: &mut Counts, row: &Row) {
@@ -47,6 +68,7 @@ fn count_reencoding(counts: &mut Counts, row: &Row) {
         let joined = *place >= run.input_clauses;
         count(counts, "choices joined by clashes", usize::from(joined));
     }
+    count(counts, "repeats in choices", row.repeats_in_choices());
     count_run(counts, &run);
 }
 

@@ -4,9 +4,10 @@ use crate::calls::{
     choice_of_20, linked_choices, reading_back, reencoding, small, unique_clause, walking_back,
     ARRANGEMENTS, FORMS,
 };
-use crate::rows::{Call, Row};
+use crate::rows::{Call, Row, READER};
 use model::encoding::Encoding;
-use model::generator::{text_of, Random};
+use model::generator::{clauses_with_repeat, joined, text_of, Random};
+use model::reading::{read_formula, INPUT_LIMITS};
 use model::{Arrangement, Form};
 
 pub fn rows(seed: u64) -> Vec<Row> {
@@ -35,6 +36,17 @@ struct Drawn {
 
 fn has(row: &Row, what: impl Fn(&Encoding) -> bool) -> bool {
     row.run().is_some_and(|run| what(&run))
+}
+
+/// The clause of the size is written with a repeat, and no clause is left out.
+fn has_repeat_in_clause_of(row: &Row, size: usize) -> bool {
+    let Call::Choose { text } = &row.call else {
+        return false;
+    };
+    read_formula(text, &INPUT_LIMITS).is_ok_and(|formula| {
+        let is_of_size = |&place: &usize| formula.clauses[place].len() == size;
+        formula.left_out == 0 && clauses_with_repeat(text).iter().any(is_of_size)
+    })
 }
 
 impl Drawn {
@@ -71,6 +83,7 @@ impl Drawn {
                 has(row, |run| run.tally.empty_resolvents > 0)
             });
             self.add(4, draw, |row| has(row, |run| run.tally.pure > 0));
+            self.add(3, draw, |row| row.repeats_in_choices() > 0);
         }
     }
 
@@ -101,7 +114,7 @@ impl Drawn {
     }
 
     fn read_backs(&mut self, form: Form) {
-        let draw = |random: &mut Random| reading_back(small(random), random, form, 0);
+        let draw = |random: &mut Random| reading_back(small(random).formula, random, form, 0);
         self.add(10, draw, |_| true);
     }
 
@@ -120,7 +133,7 @@ impl Drawn {
             let (form, arrangement) = (*random.one_of(&FORMS), *random.one_of(&ARRANGEMENTS));
             reencoding(small(random), random, form, arrangement, 50)
         };
-        for number in (1..=8).chain(11..=13) {
+        for number in READER.into_iter().chain(11..=13) {
             self.add(6, draw, |row| row.number() == number);
         }
     }
@@ -128,9 +141,9 @@ impl Drawn {
     fn refused_read_backs(&mut self) {
         let draw = |random: &mut Random| {
             let form = *random.one_of(&FORMS);
-            reading_back(small(random), random, form, 50)
+            reading_back(small(random).formula, random, form, 50)
         };
-        for number in (1..=8).chain([11]) {
+        for number in READER.into_iter().chain([11]) {
             self.add(2, draw, |row| row.number() == number);
         }
     }
@@ -140,7 +153,7 @@ impl Drawn {
             let form = *random.one_of(&FORMS);
             walking_back(small(random), random, form, 40)
         };
-        for number in 1..=8 {
+        for number in READER {
             self.add(1, draw, |row| row.number() == number);
         }
         for number in [11, 14, 31, 32, 33, 34, 41, 42, 43, 44] {
@@ -155,6 +168,12 @@ impl Drawn {
                 text: text_of(&unique_clause(random, size)),
             };
             self.add(2, draw, |_| true);
+            let draw = |random: &mut Random| {
+                let formula = unique_clause(random, size);
+                let text = joined(random, &formula).text;
+                Call::Choose { text }
+            };
+            self.add(1, draw, |row| has_repeat_in_clause_of(row, size));
         }
         for size in [4, 5, 65] {
             let draw = |random: &mut Random| {

@@ -1,18 +1,39 @@
-//! Rows that are not drawn: the limits, and all formulas of a small kind.
+//! Rows that are not drawn: the limits, repeated and opposed literals, and all formulas of a small kind.
 
-use crate::rows::{Call, Reencode, Row, Text, WalkBack, PLENTY};
+use crate::rows::{Call, Reencode, Row, WalkBack, PLENTY};
+use model::log_reading::read_kept_lines;
+use model::reading::{read_formula, INPUT_LIMITS};
+use model::sessions::JOINED_E;
 use model::texts::formula_text;
+use model::walk_back::workspace_needed;
 use model::{Arrangement, Form};
 
-fn reencoding(text: Text) -> Row {
-    Row::of(Call::Reencode(Reencode {
+fn reencoding(work: usize, text: &[u8]) -> Call {
+    Call::Reencode(Reencode {
         form: Form::Counter,
         arrangement: Arrangement::AsListed,
-        work: PLENTY,
+        work,
         log_room: PLENTY,
         formula_room: PLENTY,
-        text,
-    }))
+        text: text.to_vec(),
+    })
+}
+
+fn reading_back(work: usize, text: &[u8]) -> Call {
+    let text = text.to_vec();
+    Call::ReadBack { work, text }
+}
+
+/// The answer names the variables that are true.
+fn walking_back(work: usize, text: &[u8], log: &str, kept: usize, answer: &str) -> Call {
+    Call::WalkBack(WalkBack {
+        work,
+        room: PLENTY,
+        kept,
+        text: text.to_vec(),
+        log: log.into(),
+        answer: format!("s SATISFIABLE\nv {answer}0\n").into(),
+    })
 }
 
 /// The largest V and C of both readers and the largest variable of a log, and one more.
@@ -26,22 +47,78 @@ pub fn limits() -> Vec<Row> {
             (0, clauses + 1),
         ] {
             let text = format!("p cnf {variables} {clauses}\n").into_bytes();
-            rows.push(reencoding(text.clone()));
-            let work = PLENTY;
-            rows.push(Row::of(Call::ReadBack { work, text }));
+            rows.push(Row::of(reencoding(PLENTY, &text)));
+            rows.push(Row::of(reading_back(PLENTY, &text)));
         }
     }
     for variable in [70_000, 70_001] {
-        rows.push(Row::of(Call::WalkBack(WalkBack {
-            work: PLENTY,
-            room: PLENTY,
-            kept: 1,
-            text: b"p cnf 1 0\n".to_vec(),
-            log: format!("{variable} 0\n").into_bytes(),
-            answer: format!("s SATISFIABLE\nv {variable} 0\n").into_bytes(),
-        })));
+        let (log, answer) = (format!("{variable} 0\n"), format!("{variable} "));
+        let call = walking_back(PLENTY, b"p cnf 1 0\n", &log, 1, &answer);
+        rows.push(Row::of(call));
     }
     rows
+}
+
+/// V, C, and what follows the header: accepted, then refused in a clause with repeated or opposed literals
+/// and after it.
+const JOINED: [(usize, usize, &str); 18] = [
+    (1, 1, "1 1 0"),
+    (1, 1, "1 -1 0"),
+    (1, 1, "1 -1 1 0"),
+    (1, 2, "-1 1 0 1 1 1 0"),
+    (3, 4, "3 1 3 2 1 0 2 3 -2 0 0 -1 -1 0"),
+    (3, 5, "1 -1 2 0 -3 2 -3 0 -2 1 2 0 3 2 2 3 0 1 -2 -2 1 0"),
+    (1, 1, "1 -1 x 0"),
+    (1, 1, "1 1 2 0"),
+    (1, 1, "1 -1 2 0"),
+    (1, 1, "1 1"),
+    (1, 1, "1 -1"),
+    (1, 1, "1 -1 0 1 0"),
+    (1, 1, "1 -1 0 x"),
+    (1, 2, "1 -1 0"),
+    (1, 2, "1 -1 0 x"),
+    (1, 2, "1 -1 0 2 0"),
+    (1, 2, "1 -1 0 -1"),
+    (1, 2, "1 -1 0 -1 1 0 0"),
+];
+
+/// Repeated and opposed literals in each text that a call reads.
+pub fn joined() -> Vec<Row> {
+    let mut rows = Vec::new();
+    for (variables, clauses, body) in JOINED {
+        let text = format!("p cnf {variables} {clauses}\n{body}\n").into_bytes();
+        rows.push(Row::of(reencoding(PLENTY, &text)));
+        rows.push(Row::of(reading_back(PLENTY, &text)));
+        rows.push(Row::of(walking_back(PLENTY, &text, "", 0, "1 ")));
+    }
+    let walk = |log: &str, kept, answer| {
+        Row::of(walking_back(PLENTY, JOINED_E.as_bytes(), log, kept, answer))
+    };
+    let log = "2 3 0\nd 1 2 0\nd -1 3 0\nd 2 3 0\n";
+    for kept in 0..=4 {
+        rows.extend([walk(log, kept, ""), walk(log, kept, "2 ")]);
+    }
+    rows.extend(["d 1 1 2 0\n", "d 3 -3 0\n"].map(|log| walk(log, 1, "")));
+    rows.push(walk("d 2 1 0\nd 1 2 0\n", 2, ""));
+    rows.extend(workspaces().into_iter().flatten());
+    rows
+}
+
+/// Calls with just enough workspace, and with one entry less.
+pub fn workspaces() -> Vec<[Row; 2]> {
+    let mut pairs = Vec::new();
+    for text in [JOINED_E, "p cnf 2 2\n1 -1 0\n2 2 2 0\n"] {
+        let (text, log) = (text.as_bytes(), "1 2 0\n");
+        let formula = read_formula(text, &INPUT_LIMITS).expect("in order");
+        let lines = read_kept_lines(log.as_bytes(), 1).expect("in order");
+        let reading = formula.workspace_needed() as usize;
+        let walking = workspace_needed(&formula, &lines) as usize;
+        let walk = |work| walking_back(work, text, log, 1, "2 ");
+        pairs.push([reading, reading - 1].map(|work| Row::of(reencoding(work, text))));
+        pairs.push([reading, reading - 1].map(|work| Row::of(reading_back(work, text))));
+        pairs.push([walking, walking - 1].map(|work| Row::of(walk(work))));
+    }
+    pairs
 }
 
 const CLAUSES: [&[i32]; 13] = [
@@ -62,13 +139,34 @@ const CLAUSES: [&[i32]; 13] = [
 
 /// The reencoding of each formula with V 2 and up to 3 clauses.
 pub fn tiny_formulas() -> Vec<Row> {
-    let mut rows = Vec::new();
-    for size in 0..=3 {
-        for number in 0..CLAUSES.len().pow(size) {
-            let clause = |place| CLAUSES[number / CLAUSES.len().pow(place) % CLAUSES.len()];
-            let clauses: Vec<Vec<i32>> = (0..size).map(|place| clause(place).to_vec()).collect();
-            rows.push(reencoding(formula_text(2, &clauses)));
+    formulas(2, &CLAUSES.map(<[i32]>::to_vec), 3)
+}
+
+/// The reencoding of each formula with V 1 and up to 2 clauses, and with V 2 and up to 1 clause, of up to 3
+/// literals that may be repeated or opposed.
+pub fn tiny_joined() -> Vec<Row> {
+    let mut rows = formulas(1, &lists_of(&[1, -1], 3), 2);
+    rows.extend(formulas(2, &lists_of(&[1, -1, 2, -2], 3), 1));
+    rows
+}
+
+/// The reencoding of each formula with up to so many of the clauses.
+fn formulas(variables: i32, clauses: &[Vec<i32>], most: u32) -> Vec<Row> {
+    let row = |clauses: Vec<Vec<i32>>| {
+        let text = formula_text(variables, &clauses);
+        Row::of(reencoding(PLENTY, &text))
+    };
+    lists_of(clauses, most).into_iter().map(row).collect()
+}
+
+/// All lists of up to so many of the items.
+fn lists_of<T: Clone>(items: &[T], most: u32) -> Vec<Vec<T>> {
+    let mut lists = Vec::new();
+    for size in 0..=most {
+        for number in 0..items.len().pow(size) {
+            let item = |place| items[number / items.len().pow(place) % items.len()].clone();
+            lists.push((0..size).map(item).collect());
         }
     }
-    rows
+    lists
 }

@@ -2,12 +2,15 @@
 
 use model::answer::read_answer;
 use model::encoding::Encoding;
-use model::generator::text_of;
-use model::reading::{read_formula, Formula, INPUT_LIMITS};
-use model::texts::{answer_text, log_text, Line};
+use model::generator::repeats_in_choices;
+use model::reading::{read_formula, INPUT_LIMITS};
+use model::texts::{answer_text, formula_text, log_text, Line};
 use model::{read_back, reencode, walk_back, Arrangement, Form, Reencoded};
 
 pub type Text = Vec<u8>;
+
+/// The numbers of the reader that occur in rows; a text for 9 is too long for the checker.
+pub const READER: [u8; 6] = [1, 2, 3, 4, 7, 8];
 
 /// More workspace and room than any row wants.
 pub const PLENTY: usize = 1_000_000;
@@ -121,6 +124,14 @@ impl Row {
         }
     }
 
+    /// How many clauses with a repeat go into a choice of a reencoding.
+    pub fn repeats_in_choices(&self) -> usize {
+        match (&self.call, self.run()) {
+            (Call::Reencode(call), Some(run)) => repeats_in_choices(&call.text, &run),
+            _ => 0,
+        }
+    }
+
     /// Without the arrangement, the log would be another one.
     pub fn alignment_matters(&self) -> bool {
         match (&self.call, &self.outcome) {
@@ -164,7 +175,7 @@ fn given(call: &Call) -> Result<Outcome, u8> {
         Call::Reencode(call) => call.given().map(reencoded),
         Call::ReadBack { work, text } => {
             let (variables, clauses) = read_back(text, *work as u64)?;
-            Ok(Outcome::Read(text_of(&Formula { variables, clauses })))
+            Ok(Outcome::Read(formula_text(variables, &clauses)))
         }
         Call::WalkBack(call) => call.given().map(Outcome::Line),
         Call::Choose { text } => {

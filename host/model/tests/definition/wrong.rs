@@ -1,7 +1,9 @@
 //! Rows made wrong on purpose.
 
 use crate::antt::row_text;
-use crate::rows::{Call, Outcome, Row};
+use crate::fixed::workspaces;
+use crate::rows::{Call, Outcome, Row, PLENTY};
+use model::sessions::JOINED_E;
 
 /// Of the rows, the shortest with each kind of result, and the shortest refusal of each call.
 pub fn short_rows(rows: &[Row]) -> Vec<Row> {
@@ -58,4 +60,41 @@ fn change_byte(text: &mut [u8]) {
     let place = text.len() - 2;
     assert_eq!(text[place], b'0');
     text[place] = b'1';
+}
+
+/// Rows in which a repeated literal or a clause left out counts: the outcomes with just enough workspace and
+/// with one entry less, exchanged.
+pub fn miscounted() -> Vec<Row> {
+    let mut rows = Vec::new();
+    for [enough, short] in workspaces() {
+        assert_eq!((enough.number(), short.number()), (0, 11));
+        rows.push(Row {
+            call: enough.call,
+            outcome: short.outcome,
+        });
+        rows.push(Row {
+            call: short.call,
+            outcome: enough.outcome,
+        });
+    }
+    rows
+}
+
+/// Rows in which a repeated literal is kept, or at its last place only, or a clause is not left out.
+pub fn misread() -> Vec<Row> {
+    let wrong = |read: &str| Row {
+        call: Call::ReadBack {
+            work: PLENTY,
+            text: JOINED_E.into(),
+        },
+        outcome: Outcome::Read(read.into()),
+    };
+    [
+        JOINED_E,
+        "p cnf 3 2\n1 1 2 0\n-1 3 -1 0\n",
+        "p cnf 3 2\n1 2 0\n3 -1 0\n",
+        "p cnf 3 3\n1 2 0\n3 -3 0\n-1 3 0\n",
+    ]
+    .map(wrong)
+    .to_vec()
 }

@@ -14,11 +14,17 @@ b'p cnf 3 0\n'
 >>> plan(walk_back(formula, new.log, b"s SATISFIABLE\nv 0\n"))
 [-1, 2, -3]
 
-Texts are `bytes`; a `str` stands for its bytes in UTF-8. A text that is not accepted raises `Refused`:
+Texts are `bytes`; a `str` stands for its bytes in UTF-8. In a formula, a literal that is repeated in its clause is
+kept once, and a clause that holds a literal and its negation is left out:
 
->>> reencode(b"p cnf 1 1\n1 -1 0\n")
+>>> read_back(b"p cnf 3 3\n3 1 3 0\n2 1 -2 0\n-1 0\n").clauses
+[[3, 1], [-1]]
+
+A text that is not accepted raises `Refused`:
+
+>>> reencode(b"p cnf 1 1\n2 0\n")
 Traceback (most recent call last):
-sirgholyn.Refused: refused 6: a literal's negation is already in its clause; the formula's writer can mend it
+sirgholyn.Refused: refused 4: a literal's variable is above V; the formula's writer can mend it
 
 The library is `libsirgholyn.so`, which `host/shared-library` builds. The environment variable SIRGHOLYN_LIB may name
 another folder that holds it, and SIRGHOLYN_COMMAND another program for `solve`.
@@ -60,8 +66,6 @@ _MEANINGS = {
     2: "the header's V or C is too large",
     3: "a word of the formula is not a number",
     4: "a literal's variable is above V",
-    5: "a literal is repeated in its clause",
-    6: "a literal's negation is already in its clause",
     7: "the formula's text ends inside a clause",
     8: "the formula does not have exactly C clauses",
     9: "the formula has too many literals",
@@ -82,7 +86,7 @@ _MEANINGS = {
 
 
 _MENDERS = {
-    range(1, 10): "the formula's writer",
+    (*range(1, 5), *range(7, 10)): "the formula's writer",
     range(11, 15): "the caller",
     range(31, 35): "the log's writer",
     range(41, 45): "the solver",
@@ -139,7 +143,7 @@ def _library() -> ctypes.CDLL:
     return library
 
 
-# The library holds its tables on the stack, up to 1.8 MB, and does not ask whether they fit.
+# The library holds its tables on the stack, up to 2.0 MB, and does not ask whether they fit.
 _STACK_BYTES = 32 << 20
 
 # Python has one stack size for all threads that are started: it is changed for the start of ours alone.
@@ -286,7 +290,7 @@ def reencode(
     `form` is the form of the choices, 'counter' or 'order'; with `align` the literals of linked choices are put into
     the same order. `work` (32-bit entries), `log_room` and `formula_room` (bytes) set the size of a buffer exactly.
 
-    Raises Refused with 1 to 9; with 11, 12 and 13 only where the size of that buffer is set.
+    Raises Refused with 1 to 4, 7 to 9; with 11, 12 and 13 only where the size of that buffer is set.
 
     >>> new = reencode(b"p cnf 6 6\n1 2 3 4 5 0\n-1 6 0\n-2 6 0\n-3 6 0\n-4 -6 0\n-5 -6 0\n", form="order")
     >>> new.choices, new.highest, new.clauses, new.lines
@@ -340,7 +344,7 @@ def walk_back(
     `answer` is what the solver printed. `kept` is how many lines of the log are kept, all where it is None. `work`
     (32-bit entries) and `room` (bytes for the line) set the size of a buffer exactly.
 
-    Raises Refused with 1 to 9, 31 to 34, 41 to 44; with 11 and 14 only where the size of that buffer is set.
+    Raises Refused with 1 to 4, 7 to 9, 31 to 34, 41 to 44; with 11 and 14 only where the size of that buffer is set.
 
     >>> log = b"2 3 0\nd 1 2 0\nd -1 3 0\nd 2 3 0\n"
     >>> walk_back(b"p cnf 3 2\n1 2 0\n-1 3 0\n", log, b"s SATISFIABLE\nv 0\n")
@@ -392,7 +396,7 @@ def plan(line: Text) -> List[int]:
 
 
 class ReadBack(NamedTuple):
-    """The clauses of a new formula and its counts."""
+    """The clauses that are kept of a new formula, and its counts."""
 
     clauses: List[List[int]]
     variables: int  # V of the header
@@ -400,9 +404,9 @@ class ReadBack(NamedTuple):
 
 
 def read_back(text: Text, *, work: Optional[int] = None) -> ReadBack:
-    r"""The clauses of a new formula. `work` sets the 32-bit entries of the store exactly.
+    r"""The clauses that are kept of a new formula. `work` sets the 32-bit entries of the store exactly.
 
-    Raises Refused with 1 to 9; with 11 only where `work` is set.
+    Raises Refused with 1 to 4, 7 to 9; with 11 only where `work` is set.
 
     >>> read_back(b"p cnf 3 2\n1 -2 0\n0\n")
     ReadBack(clauses=[[1, -2], []], variables=3, literals=2)

@@ -30,8 +30,8 @@
 extern "C" {
 #endif
 
-/* A thread with a stack of this size has room for any call: reencoding takes about 0.8 MB,
- * walk-back 1.8 MB, reading back 0.6 MB. On a stack that is too small the process ends by a
+/* A thread with a stack of this size has room for any call: reencoding takes about 1.1 MB,
+ * walk-back 2.0 MB, reading back 0.8 MB. On a stack that is too small the process ends by a
  * segmentation fault. */
 #define SIRGHOLYN_STACK_BYTES ((size_t)4 << 20)
 
@@ -39,7 +39,7 @@ extern "C" {
 enum sirgholyn_number {
     SIRGHOLYN_DONE = 0,
 
-    /* 1 to 9: the formula's writer can mend it. */
+    /* 1 to 4, 7 to 9: the formula's writer can mend it. */
 
     /* the formula has no header line `p cnf V C` */
     SIRGHOLYN_NO_HEADER = 1,
@@ -49,10 +49,6 @@ enum sirgholyn_number {
     SIRGHOLYN_NOT_A_NUMBER = 3,
     /* a literal's variable is above V */
     SIRGHOLYN_VARIABLE_ABOVE_V = 4,
-    /* a literal is repeated in its clause */
-    SIRGHOLYN_LITERAL_REPEATED = 5,
-    /* a literal's negation is already in its clause */
-    SIRGHOLYN_LITERAL_OPPOSED = 6,
     /* the formula's text ends inside a clause */
     SIRGHOLYN_ENDS_INSIDE_CLAUSE = 7,
     /* the formula does not have exactly C clauses */
@@ -95,7 +91,10 @@ enum sirgholyn_number {
     SIRGHOLYN_STANDING_CLAUSE_FALSE = 44
 };
 
-/* The most variables, clauses and literals that reencoding and walk-back read in a formula.. */
+/* How every call reads a formula: a literal that is repeated in its clause is kept at its first
+ * place only, and a clause that holds a literal and its negation is left out, though C counts it. */
+
+/* The most variables, clauses and kept literals that reencoding and walk-back read in a formula.. */
 #define SIRGHOLYN_MOST_VARIABLES 8000
 #define SIRGHOLYN_MOST_CLAUSES 20000
 #define SIRGHOLYN_MOST_LITERALS 60000
@@ -117,7 +116,7 @@ enum sirgholyn_number {
 #define SIRGHOLYN_ALIGNED 1
 
 /* The 32-bit entries of workspace that are enough, with one fewer number 11; for reading back too.
- * By the formula's L literals, and the C and V of its header. */
+ * By the L literals that are kept, and the C and V of the header. */
 #define SIRGHOLYN_WORK(L, C, V) \
     ((size_t)20 * (L) + (size_t)2 * (C) + (size_t)6 * (V) + (size_t)8192)
 
@@ -140,7 +139,7 @@ enum sirgholyn_reencode_count {
  *   log          written: the log, DRAT in text
  *   formula      written: the new formula in DIMACS CNF
  *   tally        written: the counts, of enum sirgholyn_reencode_count
- * Returns 0, or 1 to 9, 11, 12, 13, in this order. */
+ * Returns 0, or 1 to 4, 7 to 9, 11, 12, 13, in this order. */
 uint32_t sirgholyn_reencode(
     const uint8_t *text, size_t text_len,
     uint32_t form,
@@ -153,7 +152,7 @@ uint32_t sirgholyn_reencode(
 /* ---- walk-back */
 
 /* The 32-bit entries of workspace that are enough, with one fewer number 11: N and G are the numbers
- * (zeros counted) after the formula's header and in the kept lines, X the greater of V and the
+ * (zeros counted) of the formula's kept clauses and of the kept lines, X the greater of V and the
  * highest variable in the kept lines. */
 #define SIRGHOLYN_WALK_BACK_WORK(N, G, X) \
     ((size_t)4 * ((size_t)(N) + (G)) + (size_t)4 * (X) + (size_t)64)
@@ -172,7 +171,7 @@ enum sirgholyn_walk_back_count {
  *   work         workspace: SIRGHOLYN_WALK_BACK_WORK(N, G, X) entries
  *   out          written: one line, `v`, the literals of 1..V, `0`, and LF
  *   tally        written: the counts, of enum sirgholyn_walk_back_count
- * Returns 0, or 1 to 9, 31 or 34, 41 to 43, 11, 32, 44, 33, 14, in this order. */
+ * Returns 0, or 1 to 4, 7 to 9, 31 or 34, 41 to 43, 11, 32, 44, 33, 14, in this order. */
 uint32_t sirgholyn_walk_back(
     const uint8_t *formula, size_t formula_len,
     const uint8_t *log, size_t log_len,
@@ -187,17 +186,17 @@ uint32_t sirgholyn_walk_back(
 /* The counts of reading back by their index in the tally, and how many there are. */
 enum sirgholyn_read_back_count {
     SIRGHOLYN_READ_BACK_VARIABLES = 0,    /* V of the header */
-    SIRGHOLYN_READ_BACK_CLAUSES = 1,
-    SIRGHOLYN_READ_BACK_LITERALS = 2,
+    SIRGHOLYN_READ_BACK_CLAUSES = 1,      /* clauses kept */
+    SIRGHOLYN_READ_BACK_LITERALS = 2,     /* their literals */
     SIRGHOLYN_READ_BACK_COUNTS = 3
 };
 
 /* Reads a new formula.
  *   text         read: the new formula in DIMACS CNF
- *   store        written: the clauses from entry 0 on, each as the number of its literals and then
- *                these; it wants SIRGHOLYN_WORK(L, C, V) entries, more than they fill
+ *   store        written: the clauses kept, from entry 0 on, each as the number of its literals and
+ *                then these; it wants SIRGHOLYN_WORK(L, C, V) entries, more than they fill
  *   tally        written: the counts, of enum sirgholyn_read_back_count
- * Returns 0, or 1 to 9, 11, in this order. */
+ * Returns 0, or 1 to 4, 7 to 9, 11, in this order. */
 uint32_t sirgholyn_read_back(
     const uint8_t *text, size_t text_len,
     int32_t *store, size_t store_len,

@@ -79,7 +79,7 @@ impl ReadBack {
 
 /// Gives a formula's log and new formula.
 ///
-/// Refuses with 1 to 9; with 11, 12 and 13 only where the room for it is set.
+/// Refuses with 1 to 4, 7 to 9; with 11, 12 and 13 only where the room for it is set.
 ///
 /// ```
 /// use sirgholyn::{reencode, Form, ReencodeRoom, Arrangement};
@@ -127,7 +127,7 @@ pub fn reencode(
 
 /// Carries a solver's answer back over the first `kept` lines of a log, to a line for the formula.
 ///
-/// Refuses with 1 to 9, 31 to 34, 41 to 44; with 11 and 14 only where the room for it is set.
+/// Refuses with 1 to 4, 7 to 9, 31 to 34, 41 to 44; with 11 and 14 only where the room for it is set.
 ///
 /// ```
 /// use sirgholyn::{walk_back, WalkBackRoom};
@@ -165,7 +165,7 @@ pub fn walk_back(
     }
 }
 
-/// Reads a new formula back. Refuses with 1 to 9; with 11 only where `store` is set.
+/// Reads a new formula back. Refuses with 1 to 4, 7 to 9; with 11 only where `store` is set.
 ///
 /// ```
 /// let new = sirgholyn::read_back(b"p cnf 3 2\n1 -2 0\n0\n", None).unwrap();

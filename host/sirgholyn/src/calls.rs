@@ -1,4 +1,7 @@
 //! The proved library's C functions on lent slices: one call each, the refusal's number as it comes.
+//!
+//! How a formula is read: a literal that is repeated in its clause is kept at its first place only, and a clause
+//! that holds a literal and its negation is left out, though the header's C counts it.
 
 use crate::limits::STACK_BYTES;
 use std::cell::Cell;
@@ -45,9 +48,9 @@ pub struct Tally {
 pub struct Counts {
     /// The header's variables.
     pub variables: u64,
-    /// Clauses.
+    /// Clauses that are kept.
     pub clauses: u64,
-    /// Literals of all clauses.
+    /// Their literals.
     pub literals: u64,
 }
 
@@ -133,7 +136,7 @@ fn outcome<R>(number: u32, result: R) -> Result<R, u32> {
     }
 }
 
-/// Writes the log and the new formula of a text. Refuses with 1 to 9, 11, 12, 13.
+/// Writes the log and the new formula of a text. Refuses with 1 to 4, 7 to 9, 11, 12, 13.
 pub fn reencode(
     text: &[u8],
     form: Form,
@@ -181,8 +184,8 @@ pub fn reencode(
     outcome(number, tally)
 }
 
-/// Writes the walked-back line, and gives its length. Refuses with 1 to 9, 31 or 34, 41 to 43, 11,
-/// 32, 44, 33, 14.
+/// Writes the walked-back line, and gives its length. Refuses with 1 to 4, 7 to 9, 31 or 34, 41 to 43,
+/// 11, 32, 44, 33, 14.
 pub fn walk_back(
     formula: &[u8],
     log: &[u8],
@@ -214,8 +217,8 @@ pub fn walk_back(
     outcome(number, tally[0] as usize)
 }
 
-/// Puts the clauses of a new formula into the store, each as its length and its literals, from entry
-/// 0 on. Refuses with 1 to 9, then 11.
+/// Puts the kept clauses of a new formula into the store, each as its length and its literals, from entry
+/// 0 on. Refuses with 1 to 4, 7 to 9, then 11.
 pub fn read_back(text: &[u8], store: &mut [i32]) -> Result<Counts, u32> {
     let mut tally = [0u64; 3];
     let lent = &mut tally;

@@ -44,8 +44,9 @@ impl fmt::Display for Location {
     }
 }
 
-/// Where a formula has the fault for which it was refused, numbers 1 to 9: the line that is no header, or the
-/// word. Where words are missing it is the text's end.
+/// Where a formula has the fault for which it was refused, numbers 1 to 4, 7 to 9: the line that is no header, or
+/// the word; of too many literals, the `0` after which they are counted. Where words are missing it is the text's
+/// end.
 ///
 /// ```
 /// use sirgholyn::{limits::Limits, location::in_formula};
@@ -198,10 +199,11 @@ impl LastRead {
     }
 }
 
-// A formula: 1 to 9
+// A formula: 1 to 4, 7 to 9
 
 struct Formula {
     variables: i64,
+    /// Those that are kept.
     clauses: Vec<Vec<i32>>,
 }
 
@@ -216,11 +218,13 @@ fn read_formula(text: &[u8], limits: &Limits) -> Result<Formula, Fault> {
     let header = read_header(text, limits)?;
     let body = header.next..text.len();
     let mut reader = FormulaReader {
+        header,
         literals_left: limits.literals,
         last_read: LastRead::default(),
+        clauses_read: 0,
         clauses: Vec::new(),
         clause: Vec::new(),
-        header,
+        is_opposed: false,
     };
     for word in words(text, body, b" \t\r\n") {
         reader
@@ -269,42 +273,49 @@ struct FormulaReader {
     header: Header,
     literals_left: usize,
     last_read: LastRead,
+    /// The clauses up to the last `0`, those left out among them.
+    clauses_read: usize,
     clauses: Vec<Vec<i32>>,
-    /// The literals read since the last `0`.
+    /// The different literals read since the last `0`.
     clause: Vec<i32>,
+    /// Whether they hold a literal and its negation.
+    is_opposed: bool,
 }
 
 impl FormulaReader {
     fn read_word(&mut self, word: &[u8]) -> Result<(), u32> {
-        if self.clauses.len() as i64 == self.header.clauses {
+        if self.clauses_read as i64 == self.header.clauses {
             return Err(8);
         }
         match number(word).ok_or(3u32)? {
-            0 => self.clauses.push(take(&mut self.clause)),
-            literal => self.read_literal(literal)?,
+            0 => self.end_clause(),
+            literal => self.read_literal(literal),
         }
-        Ok(())
     }
 
-    /// A literal's faults in number order.
+    /// Keeps a literal at its first place.
     fn read_literal(&mut self, literal: i64) -> Result<(), u32> {
         if literal.abs() > self.header.variables {
             return Err(4);
         }
         let literal = literal as i32;
-        let clause = self.clauses.len() + 1;
-        if *self.last_read.of(literal) == clause {
-            return Err(5);
+        let clause = self.clauses_read + 1;
+        if replace(self.last_read.of(literal), clause) != clause {
+            self.clause.push(literal);
+            self.is_opposed |= *self.last_read.of(-literal) == clause;
         }
-        if *self.last_read.of(-literal) == clause {
-            return Err(6);
+        Ok(())
+    }
+
+    /// Keeps a clause unless it holds a literal and its negation.
+    fn end_clause(&mut self) -> Result<(), u32> {
+        self.clauses_read += 1;
+        let clause = take(&mut self.clause);
+        if !take(&mut self.is_opposed) {
+            let left = self.literals_left.checked_sub(clause.len());
+            self.literals_left = left.ok_or(9u32)?;
+            self.clauses.push(clause);
         }
-        if self.literals_left == 0 {
-            return Err(9);
-        }
-        self.literals_left -= 1;
-        *self.last_read.of(literal) = clause;
-        self.clause.push(literal);
         Ok(())
     }
 
@@ -312,7 +323,7 @@ impl FormulaReader {
         if !self.clause.is_empty() {
             return Err(7);
         }
-        if (self.clauses.len() as i64) < self.header.clauses {
+        if (self.clauses_read as i64) < self.header.clauses {
             return Err(8);
         }
         Ok(Formula {

@@ -14,8 +14,6 @@ impl Refusal {
             2 => "the header's V or C is too large",
             3 => "a word of the formula is not a number",
             4 => "a literal's variable is above V",
-            5 => "a literal is repeated in its clause",
-            6 => "a literal's negation is already in its clause",
             7 => "the formula's text ends inside a clause",
             8 => "the formula does not have exactly C clauses",
             9 => "the formula has too many literals",
@@ -38,7 +36,7 @@ impl Refusal {
     /// Who can mend it.
     pub fn mender(self) -> &'static str {
         match self.0 {
-            1..=9 => "the formula's writer",
+            1..=4 | 7..=9 => "the formula's writer",
             11..=14 => "the caller",
             31..=34 => "the log's writer",
             41..=44 => "the solver",

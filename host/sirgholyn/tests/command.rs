@@ -3,18 +3,21 @@
 mod common;
 
 use common::command::{example, expect_failure, run, run_with};
+use common::formulas::JOINED_F;
+use common::numbers_of;
 use common::solvers::Folder;
 use model::generator::{text_of, Random};
 use model::sessions::F;
 use model::valleys::Valley;
+use sirgholyn::plan;
 use std::fs;
 
 const ANSWER: &str = "s SATISFIABLE\nv 1 2 3 4 5 -6 -7 -8 -9 10 0\n";
 
-#[test]
-fn reencode_and_back() {
+/// Session F reencoded, read back and walked back by the command, from a text that is read as F.
+fn reencode_and_back(text: &str) {
     let folder = Folder::new();
-    let input = folder.write("in.cnf", F.as_bytes());
+    let input = folder.write("in.cnf", text.as_bytes());
     let (formula, log) = (folder.path("new.cnf"), folder.path("new.drat"));
     let ran = run(&[
         "reencode",
@@ -36,11 +39,13 @@ fn reencode_and_back() {
         .starts_with("p cnf 10 8\n8 -7 0\n"));
     assert_eq!(folder.names(), ["in.cnf", "new.cnf", "new.drat"]);
 
-    let ran = run(&["read-back", &formula]);
-    assert_eq!(
-        (ran.status, ran.out.as_str()),
-        (0, "variables 10 clauses 8 literals 19\n")
-    );
+    for (text, counts) in [
+        (&formula, "variables 10 clauses 8 literals 19\n"),
+        (&input, "variables 6 clauses 7 literals 17\n"),
+    ] {
+        let ran = run(&["read-back", text]);
+        assert_eq!((ran.status, ran.out.as_str()), (0, counts));
+    }
 
     let answer = folder.write("answer", ANSWER.as_bytes());
     let ran = run(&["walk-back", &input, &log, &answer]);
@@ -64,6 +69,20 @@ fn reencode_and_back() {
         (ran.status, ran.out.as_str()),
         (0, "v -1 -2 -3 4 -5 -6 0\n")
     );
+}
+
+#[test]
+fn session_f() {
+    reencode_and_back(F);
+}
+
+#[test]
+fn session_f_with_repeats_and_tautologies() {
+    reencode_and_back(JOINED_F);
+    let ran = run_with(&["solve", "-"], JOINED_F.as_bytes());
+    assert_eq!((ran.status, ran.err.as_str()), (10, ""));
+    let line = ran.out.strip_prefix("s SATISFIABLE\n").unwrap();
+    assert!(plan::satisfies(JOINED_F, line) && plan::satisfies(F, line));
 }
 
 #[test]
@@ -129,6 +148,21 @@ fn help_tells_every_option() {
         }
     }
     assert_eq!(options, 18);
+}
+
+#[test]
+fn help_tells_every_number() {
+    let help = run(&["--help"]).out;
+    for mender in [
+        "the formula's writer",
+        "the caller",
+        "the log's writer",
+        "the solver",
+    ] {
+        let numbers = format!("  {} ", numbers_of(mender));
+        let line = help.lines().find(|line| line.starts_with(&numbers));
+        assert!(line.is_some_and(|line| line.contains(mender)), "{mender}");
+    }
 }
 
 /// Words that are wrong: the message says which, and no file is looked at.
@@ -238,7 +272,7 @@ fn refusals_are_the_exit_status() {
     let writer = "the formula's writer can mend it";
     expect_failure(&run(&["reencode", "/dev/null"]), 1, writer);
     expect_failure(&run_with(&["reencode", "-"], b"p cnf 9000 1\n"), 2, writer);
-    expect_failure(&run_with(&["solve", "-"], b"p cnf 1 1\n1 1 0\n"), 5, writer);
+    expect_failure(&run_with(&["solve", "-"], b"p cnf 1 1\n2 0\n"), 4, writer);
     expect_failure(&run_with(&["read-back", "-"], b"p cnf 1 1\n1"), 7, writer);
     let caller = "the caller can mend it";
     expect_failure(&run(&["reencode", &input, "--work", "8581"]), 11, caller);
@@ -312,8 +346,7 @@ fn refusals_tell_where() {
             "(line 2, byte 3: `\\x1b[31m`)",
         ),
         (b"p cnf 2 1\n1\n\t3 0\n", 4, "(line 3, byte 2: `3`)"),
-        (b"p cnf 2 1\n1 1 0\n", 5, "(line 2, byte 3: `1`)"),
-        (b"p cnf 2 1\n1 -1 0\n", 6, "(line 2, byte 3: `-1`)"),
+        (b"p cnf 2 1\n1 1 -1 3 0\n", 4, "(line 2, byte 8: `3`)"),
         (b"p cnf 2 1\n1", 7, "(line 2, byte 2, where the text ends)"),
         (b"p cnf 2 1\n1 0 2 0\n", 8, "(line 2, byte 5: `2`)"),
     ] {

@@ -2,14 +2,16 @@
 
 mod common;
 
-use common::formulas::any_kind;
+use common::formulas::{any_kind_joined, is_joined};
 use common::{
     compare_read_back, compare_reencode, compare_walk_back, new_formula, over_seeds, run_model,
     sum, walk_back_work, work_for, Room, WAYS,
 };
 use model::encoding::Encoding;
-use model::generator::{answer_after, damage, damage_log, text_of, Random};
-use model::texts::log_text;
+use model::generator::{
+    answer_after, clauses_with_repeat, damage, damage_log, repeats_in_choices, Joined, Random,
+};
+use model::texts::{log_text, Line};
 use std::collections::BTreeMap;
 
 const FORMULAS: u64 = 22_000;
@@ -51,6 +53,24 @@ fn outcome(occurred: &mut Occurred, call: &str, number: u32) {
     note(occurred, format!("{call} {number:02}"), 1);
 }
 
+/// The outcome of a call that reads the text, and what an accepted one has that is not kept.
+fn read_outcome(occurred: &mut Occurred, call: &str, number: u32, read: &Joined) {
+    outcome(occurred, call, number);
+    if number == 0 {
+        for (what, times) in [
+            (
+                "clauses with a repeat",
+                clauses_with_repeat(&read.text).len(),
+            ),
+            ("clauses left out", read.formula.left_out),
+            ("joined", usize::from(is_joined(read))),
+            ("kept in full", usize::from(!is_joined(read))),
+        ] {
+            note(occurred, format!("{call}: {what}"), times);
+        }
+    }
+}
+
 /// Mostly the length itself or a little more, at times one short.
 fn around(random: &mut Random, exact: usize) -> usize {
     match random.below(20) {
@@ -63,98 +83,95 @@ fn around(random: &mut Random, exact: usize) -> usize {
 /// Texts that are in order, and buffers that mostly suffice.
 fn in_order(seed: u64, occurred: &mut Occurred) {
     let mut random = Random::new(seed);
-    let formula = any_kind(&mut random);
-    let text = text_of(&formula);
+    let input = any_kind_joined(&mut random);
     for form in [0, 2] {
         let (form, arrangement) = WAYS[form + random.below(2)];
-        let encoding = run_model(&formula, form, arrangement);
+        let encoding = run_model(&input.formula, form, arrangement);
         note_run(occurred, &encoding);
-        let log = log_text(&encoding.log);
-        let new = new_formula(&encoding);
-        let new_text = text_of(&new);
+        let repeats = repeats_in_choices(&input.text, &encoding);
+        note(occurred, "repeats in choices", repeats);
+        let new: Joined = new_formula(&encoding).into();
         let room = Room {
-            work: around(&mut random, work_for(&formula)),
-            log: around(&mut random, log.len()),
-            formula: around(&mut random, new_text.len()),
+            work: around(&mut random, work_for(&input.formula)),
+            log: around(&mut random, log_text(&encoding.log).len()),
+            formula: around(&mut random, new.text.len()),
         };
-        outcome(
-            occurred,
-            "reencode",
-            compare_reencode(&text, form, arrangement, room),
-        );
-
-        let store = around(&mut random, work_for(&new));
-        outcome(occurred, "read-back", compare_read_back(&new_text, store));
-
-        let lines = encoding.log.len();
-        let kept = if random.chance(50) {
-            lines
-        } else {
-            random.below(lines + 1)
-        };
-        let answer = answer_after(&mut random, &formula, &encoding.log[..kept]);
-        let work = around(&mut random, walk_back_work(&formula, &log, kept));
-        let longest = 4 + 5 * formula.variables as usize;
-        let room = if random.chance(50) {
-            longest
-        } else {
-            random.below(longest)
-        };
-        let number = compare_walk_back(&text, &log, kept, &answer, work, room);
-        outcome(occurred, "walk-back", number);
+        let number = compare_reencode(&input.text, form, arrangement, room);
+        read_outcome(occurred, "reencode", number, &input);
+        for text in [&new, &input] {
+            let store = around(&mut random, work_for(&text.formula));
+            let number = compare_read_back(&text.text, store);
+            read_outcome(occurred, "read-back", number, text);
+        }
+        let number = walk_in_order(&mut random, &input, &encoding);
+        read_outcome(occurred, "walk-back", number, &input);
     }
 }
 
-/// Texts, logs and answers with a few changes.
+/// Walks back over all lines of a log or the first of them.
+fn walk_in_order(random: &mut Random, input: &Joined, encoding: &Encoding) -> u32 {
+    let log = log_text(&encoding.log);
+    let lines = encoding.log.len();
+    let kept = if random.chance(50) {
+        lines
+    } else {
+        random.below(lines + 1)
+    };
+    let answer = answer_after(random, &input.formula, &encoding.log[..kept]);
+    let work = around(random, walk_back_work(&input.formula, &log, kept));
+    let longest = 4 + 5 * input.formula.variables as usize;
+    let room = if random.chance(50) {
+        longest
+    } else {
+        random.below(longest)
+    };
+    compare_walk_back(&input.text, &log, kept, &answer, work, room)
+}
+
+/// Texts with a few changes.
 fn changed(seed: u64, occurred: &mut Occurred) {
     let mut random = Random::new(seed + (1 << 32));
-    let formula = any_kind(&mut random);
+    let input = any_kind_joined(&mut random);
     let (form, arrangement) = *random.one_of(&WAYS);
-    let encoding = run_model(&formula, form, arrangement);
-    let mut text = text_of(&formula);
+    let encoding = run_model(&input.formula, form, arrangement);
+    let mut text = input.text.clone();
     for _ in 0..random.below(3) {
         text = damage(&mut random, &text);
     }
     let room = Room {
-        work: work_for(&formula) + 100,
+        work: work_for(&input.formula) + 100,
         log: log_text(&encoding.log).len() + 400,
         formula: 20 * text.len() + 4_000,
     };
-    outcome(
-        occurred,
-        "reencode",
-        compare_reencode(&text, form, arrangement, room),
-    );
+    let number = compare_reencode(&text, form, arrangement, room);
+    outcome(occurred, "reencode", number);
     outcome(occurred, "read-back", compare_read_back(&text, room.work));
+    let number = walk_changed(&mut random, &input, encoding.log);
+    outcome(occurred, "walk-back", number);
+}
 
-    let text = text_of(&formula);
-    let mut lines = encoding.log;
+/// Walks back over a log and from an answer with a few changes.
+fn walk_changed(random: &mut Random, input: &Joined, mut lines: Vec<Line>) -> u32 {
+    let Joined { text, formula } = input;
     if random.chance(60) {
-        lines = damage_log(&mut random, &lines);
+        lines = damage_log(random, &lines);
     }
     let kept = if random.chance(70) {
         lines.len()
     } else {
         random.below(lines.len() + 2)
     };
-    let mut answer = answer_after(&mut random, &formula, &lines[..kept.min(lines.len())]);
+    let mut answer = answer_after(random, formula, &lines[..kept.min(lines.len())]);
     let mut log = log_text(&lines);
     if random.chance(20) {
-        log = damage(&mut random, &log);
+        log = damage(random, &log);
     }
     if random.chance(30) {
-        answer = damage(&mut random, &answer);
+        answer = damage(random, &answer);
     }
-    let work = walk_back_work(&formula, &log, kept) + 1_000;
-    let number = compare_walk_back(
-        &text,
-        &log,
-        kept,
-        &answer,
-        work,
-        20 + 5 * formula.variables as usize,
-    );
-    outcome(occurred, "walk-back", number);
+    let work = walk_back_work(formula, &log, kept) + 1_000;
+    let room = 20 + 5 * formula.variables as usize;
+    compare_walk_back(text, &log, kept, &answer, work, room)
 }
 
 #[test]
@@ -167,7 +184,17 @@ fn library_and_model_agree() {
     });
     let occurred = sum(counted);
     println!("{FORMULAS} formulas in both forms, and half as many changed: {occurred:#?}");
+    expect_cases(&occurred);
+    for (call, numbers) in [
+        ("reencode", &[0, 1, 2, 3, 4, 7, 8, 11, 12, 13][..]),
+        ("read-back", &[0, 1, 2, 3, 4, 7, 8, 11]),
+        ("walk-back", &[0, 11, 14, 31, 32, 33, 34, 41, 42, 43, 44]),
+    ] {
+        expect_call(&occurred, call, numbers);
+    }
+}
 
+fn expect_cases(occurred: &Occurred) {
     for (what, least) in [
         ("clashes", 500),
         ("clash chains", 500),
@@ -181,6 +208,7 @@ fn library_and_model_agree() {
         ("chained links", 500),
         ("unalignable", 500),
         ("choices joined by clashes", 500),
+        ("repeats in choices", 500),
         ("taken 05", 500),
         ("taken 64", 200),
         ("stays 04", 500),
@@ -188,14 +216,20 @@ fn library_and_model_agree() {
     ] {
         assert!(occurred[what] > least, "{what}");
     }
-    for (call, numbers) in [
-        ("reencode", &[0, 1, 2, 3, 4, 5, 6, 7, 8, 11, 12, 13][..]),
-        ("read-back", &[0, 1, 2, 3, 4, 5, 6, 7, 8, 11]),
-        ("walk-back", &[0, 11, 14, 31, 32, 33, 34, 41, 42, 43, 44]),
+}
+
+/// The call ended with each of these numbers and no other, and accepted texts of both kinds.
+fn expect_call(occurred: &Occurred, call: &str, numbers: &[u32]) {
+    let own = occurred.keys().filter_map(|what| what.strip_prefix(call));
+    let found = own.filter_map(|what| what.trim_start().parse::<u32>().ok());
+    assert_eq!(found.collect::<Vec<_>>(), numbers);
+    for (what, least) in [
+        ("clauses with a repeat", 20_000),
+        ("clauses left out", 10_000),
+        ("joined", 4_000),
+        ("kept in full", 5_000),
     ] {
-        for number in numbers {
-            let what = format!("{call} {number:02}");
-            assert!(occurred.contains_key(&what), "{what}");
-        }
+        let what = format!("{call}: {what}");
+        assert!(occurred[&what] > least, "{what}");
     }
 }

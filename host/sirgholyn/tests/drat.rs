@@ -3,9 +3,10 @@
 
 mod common;
 
+use common::formulas::rewritten;
 use common::solvers::{cadical, Answer};
 use common::{over_seeds, sum};
-use model::generator::{damage_log, text_of, Random};
+use model::generator::{damage_log, written_clauses, Random};
 use model::log_reading::read_kept_lines;
 use model::reading::Formula;
 use model::texts::{log_text, Line};
@@ -47,6 +48,9 @@ const FOUR: &str = "p cnf 2 4\n1 2 0\n-1 2 0\n1 -2 0\n-1 -2 0\n";
 
 const WITH_PLAN: &str = "p cnf 3 2\n1 2 0\n-1 3 0\n";
 
+/// The four, and a clause that holds 3 and its negation.
+const TRUE_BY_3: &str = "p cnf 3 5\n1 2 0\n-1 2 0\n3 -3 3 0\n1 -2 0\n-1 -2 0\n";
+
 #[test]
 fn proofs_that_hold() {
     for (formula, proof) in [
@@ -69,6 +73,13 @@ fn proofs_that_hold() {
             "p cnf 2 5\n1 1 2 0\n1 -1 0\n-1 2 0\n-2 -2 0\n2 -2 1 0\n",
             "d -1 1 1 0\nd 2 1 -2 0\n2 0\n0\n",
         ),
+        ("p cnf 1 2\n1 1 0\n-1 -1 -1 0\n", "0\n"),
+        (
+            "p cnf 2 4\n1 1 2 0\n-1 2 2 -1 0\n1 -2 0\n-1 -2 0\n",
+            "2 0\nd 1 2 0\nd -1 2 0\n0\n",
+        ),
+        // a resolvent with a clause that is true by any assignment
+        (TRUE_BY_3, "-3 0\n2 0\nd -3 3 0\n0\n"),
     ] {
         let outcome = check(formula.as_bytes(), proof.as_bytes(), &mut |_| {});
         let lines = outcome
@@ -88,6 +99,22 @@ fn proofs_that_do_not_hold() {
         (WITH_PLAN, "1 0\n", 1, Fault::DoesNotFollow),
         // by the resolvents on its second literal only
         (WITH_PLAN, "-2 3 0\n", 1, Fault::DoesNotFollow),
+        // a clause that is true by any assignment is no unit, whatever is true
+        ("p cnf 1 1\n1 -1 0\n", "1 0\n0\n", 2, Fault::DoesNotFollow),
+        (
+            "p cnf 2 3\n1 -1 1 0\n-1 2 0\n-1 -2 0\n",
+            "0\n",
+            1,
+            Fault::DoesNotFollow,
+        ),
+        (
+            "p cnf 2 3\n2 2 0\n1 -2 2 0\n-1 0\n",
+            "0\n",
+            1,
+            Fault::DoesNotFollow,
+        ),
+        (TRUE_BY_3, "d 3 0\n", 1, Fault::NotStanding),
+        (TRUE_BY_3, "d 3 -3 0\nd -3 3 0\n", 2, Fault::NotStanding),
         // a reason of a unit is deleted
         (
             "p cnf 2 2\n1 0\n-1 2 0\n",
@@ -329,8 +356,16 @@ impl Reference {
             .is_none()
     }
 
-    fn has_resolvents(&self, clause: &[i32]) -> bool {
-        self.clauses.iter().any(|other| other.contains(&-clause[0]))
+    /// The clauses that hold a literal's negation.
+    fn opposing(&self, literal: i32) -> impl Iterator<Item = &Vec<i32>> {
+        let clauses = self.clauses.iter();
+        clauses.filter(move |clause| clause.contains(&-literal))
+    }
+
+    /// Whether a clause holds the literal and its negation.
+    fn has_true_by(&self, literal: i32) -> bool {
+        self.opposing(literal)
+            .any(|clause| clause.contains(&literal))
     }
 
     fn ground(&self, clause: &[i32]) -> Option<Ground> {
@@ -338,13 +373,11 @@ impl Reference {
             return Some(Ground::Propagation);
         }
         let pivot = *clause.first()?;
-        let mut partners = self
-            .clauses
-            .iter()
-            .filter(|partner| partner.contains(&-pivot));
+        let mut partners = self.opposing(pivot);
         let follow = partners.all(|partner| {
             let others = partner.iter().filter(|&&literal| literal != -pivot);
-            self.refutes(&clause.iter().chain(others).copied().collect::<Vec<i32>>())
+            let resolvent: Vec<i32> = clause.iter().chain(others).copied().collect();
+            partner.contains(&pivot) || self.refutes(&resolvent)
         });
         follow.then_some(Ground::Resolvents)
     }
@@ -391,6 +424,12 @@ impl Pair {
         let ground = self.plain.ground(&clause);
         let case = self.case_of(&clause, ground);
         *cases.entry(case).or_default() += 1;
+        let past_true = clause
+            .first()
+            .is_some_and(|&pivot| self.plain.has_true_by(pivot));
+        if ground == Some(Ground::Resolvents) && past_true {
+            *cases.entry("follows past a true clause").or_default() += 1;
+        }
         if ground.is_some() || anyway {
             *cases.entry(kind_of(&clause)).or_default() += 1;
             self.fast.add(&clause);
@@ -401,7 +440,8 @@ impl Pair {
     /// The ground that the fast checker finds is the plain one's. Where there are no resolvents it does not
     /// try to propagate.
     fn case_of(&mut self, clause: &[i32], ground: Option<Ground>) -> &'static str {
-        let has_resolvents = clause.is_empty() || self.plain.has_resolvents(clause);
+        let mut pivots = clause.first().into_iter();
+        let has_resolvents = pivots.all(|&pivot| self.plain.opposing(pivot).next().is_some());
         let (case, expected) = match (ground, has_resolvents) {
             (Some(Ground::Propagation), true) => ("follows by propagation", ground),
             (Some(Ground::Resolvents), true) => ("follows by resolvents only", ground),
@@ -509,6 +549,7 @@ fn random_lines(random: &mut Random, kind: &Kind, cases: &mut Cases) {
 const RANDOM_CASES: &[&str] = &[
     "follows by propagation",
     "follows by resolvents only",
+    "follows past a true clause",
     "has no resolvents",
     "does not follow",
     "empty clause",
@@ -610,10 +651,8 @@ fn threes(random: &mut Random, variables: usize, clauses: usize) -> Formula {
             })
             .collect()
     };
-    Formula {
-        variables: variables as i32,
-        clauses: (0..clauses).map(|_| clause(random)).collect(),
-    }
+    let clauses = (0..clauses).map(|_| clause(random)).collect();
+    Formula::new(variables as i32, clauses)
 }
 
 /// Traps that are all in scent range of each other, and one lure too few.
@@ -626,31 +665,23 @@ fn crowded(random: &mut Random, traps: usize) -> Formula {
 }
 
 /// Our log and cadical's proof after it; None where there is a plan.
-fn whole_proof(formula: &Formula, form: Form) -> Option<Vec<u8>> {
-    let text = text_of(formula);
-    let new = reencode(&text, form, Arrangement::Alignment, Default::default()).unwrap();
+fn whole_proof(text: &[u8], form: Form) -> Option<Vec<u8>> {
+    let new = reencode(text, form, Arrangement::Alignment, Default::default()).unwrap();
     match cadical(&new.formula) {
         Answer::Unsatisfiable(Some(proof)) => Some([new.log, proof.into_bytes()].concat()),
         _ => None,
     }
 }
 
-/// A proof passes, and each change of it has the fault that the plain checker finds.
-fn change_proof(
-    formula: &Formula,
-    form: Form,
-    changes: usize,
-    random: &mut Random,
-    cases: &mut Cases,
-) {
+/// A proof of a text passes, and each change of it has the fault that the plain checker finds.
+fn change_proof(text: &[u8], form: Form, changes: usize, random: &mut Random, cases: &mut Cases) {
     let mut count = |case| *cases.entry(case).or_default() += 1;
-    let Some(proof) = whole_proof(formula, form) else {
+    let Some(proof) = whole_proof(text, form) else {
         return count("plan");
     };
-    let text = text_of(formula);
-    assert_eq!(fault_of(&text, proof.as_slice()), None);
+    assert_eq!(fault_of(text, proof.as_slice()), None);
     assert_eq!(
-        fault_of(&text, BufReader::with_capacity(3, proof.as_slice())),
+        fault_of(text, BufReader::with_capacity(3, proof.as_slice())),
         None
     );
     count("proof");
@@ -658,9 +689,9 @@ fn change_proof(
     let lines = read_kept_lines(&proof, count_of_lines).unwrap();
     for _ in 0..changes {
         let changed = damage_log(random, &lines);
-        let clauses = formula.clauses.clone();
+        let clauses = written_clauses(text);
         let expected = Reference { clauses }.fault_of(&changed);
-        let found = fault_of(&text, log_text(&changed).as_slice());
+        let found = fault_of(text, log_text(&changed).as_slice());
         assert_eq!(
             found,
             expected,
@@ -685,7 +716,8 @@ fn changed_proofs_of_threes() {
         let mut random = Random::new(seed);
         let variables = random.between(8, 24);
         let formula = threes(&mut random, variables, 5 * variables);
-        change_proof(&formula, Form::Order, 40, &mut random, cases);
+        let text = rewritten(&mut random, formula).text;
+        change_proof(&text, Form::Order, 40, &mut random, cases);
     });
     expect_cases(cases, 10, &[CHANGES, &["no empty clause"]].concat());
 }
@@ -695,12 +727,13 @@ fn changed_proofs_of_crowded_valleys() {
     let cases = over_seeds(0..6, |seed, cases| {
         let mut random = Random::new(seed);
         let formula = crowded(&mut random, 6);
+        let text = rewritten(&mut random, formula).text;
         let form = if seed % 2 == 0 {
             Form::Counter
         } else {
             Form::Order
         };
-        change_proof(&formula, form, 30, &mut random, cases);
+        change_proof(&text, form, 30, &mut random, cases);
     });
     expect_cases(cases, 5, CHANGES);
 }

@@ -3,6 +3,7 @@
 mod common;
 
 use common::solvers::Folder;
+use common::{numbers_of, LISTED};
 use sirgholyn::Refusal;
 use std::fs;
 use std::path::{Path, PathBuf};
@@ -64,13 +65,6 @@ fn words(text: &str) -> String {
     words.join(" ")
 }
 
-/// The numbers that have a meaning.
-fn listed() -> Vec<Refusal> {
-    let all = (0..100).map(Refusal);
-    all.filter(|number| number.meaning() != Refusal(0).meaning())
-        .collect()
-}
-
 #[test]
 fn the_header_has_every_number_and_its_words() {
     let header = text("host/include/sirgholyn.h");
@@ -87,16 +81,12 @@ fn the_header_has_every_number_and_its_words() {
         };
         let refusal = Refusal(number.trim().trim_end_matches(',').parse().unwrap());
         assert_eq!(comment, refusal.meaning());
-        let same: Vec<Refusal> = listed()
-            .into_iter()
-            .filter(|other| other.mender() == refusal.mender())
-            .collect();
-        let (first, last) = (same[0].0, same[same.len() - 1].0);
         let mender = refusal.mender();
-        assert_eq!(group, format!("{first} to {last}: {mender} can mend it."));
-        found.push(refusal);
+        let numbers = numbers_of(mender);
+        assert_eq!(group, format!("{numbers}: {mender} can mend it."));
+        found.push(refusal.0);
     }
-    assert_eq!(found, listed());
+    assert_eq!(found, LISTED);
 }
 
 /// An exported function of the Rattle source: its name, and each parameter with its type.
@@ -315,8 +305,7 @@ fn refusals_in_python() {
     let said = printed(python().args(["-c", script]));
     let expected: Vec<String> = (0..100).map(|n| Refusal(n).to_string()).collect();
     assert_eq!(said.lines().collect::<Vec<_>>(), expected);
-    let listed: Vec<u32> = listed().into_iter().map(|refusal| refusal.0).collect();
     let script = "import sirgholyn; print(list(sirgholyn._MEANINGS))";
     let found = printed(python().args(["-c", script]));
-    assert_eq!(found.trim_end(), format!("{listed:?}"));
+    assert_eq!(found.trim_end(), format!("{LISTED:?}"));
 }

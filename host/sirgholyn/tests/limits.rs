@@ -2,7 +2,7 @@
 
 mod common;
 
-use common::formulas::clash_chain;
+use common::formulas::{clash_chain, JOINED_F};
 use common::{
     compare_read_back, compare_reencode, compare_walk_back, new_formula, run_model, walk_back_work,
     work_for, Room, PLENTY, WAYS,
@@ -26,6 +26,12 @@ fn reencode(text: &str) -> u32 {
 
 fn read_back(text: &str) -> u32 {
     compare_read_back(text.as_bytes(), 22_000_000)
+}
+
+/// Walks back over no line, from an answer that makes 1 true.
+fn walk_back(text: &str) -> u32 {
+    let answer = b"s SATISFIABLE\nv 1 0\n";
+    compare_walk_back(text.as_bytes(), b"", 0, answer, 400_000, 50_000)
 }
 
 /// A formula with so many literals, a thousand to a clause; every clause has the same.
@@ -75,6 +81,140 @@ fn literals() {
     assert_eq!(reencode(&with_literals(8_000, 60_000)), 0);
     assert_eq!(read_back(&with_literals(1_000, 1_000_000)), 0);
     assert_eq!(read_back(&with_literals(1_000, 1_000_001)), 9);
+}
+
+// Literals repeated, and clauses that hold a literal and its negation
+
+/// A word with a blank after it, so many times.
+fn words(word: &str, times: usize) -> String {
+    format!("{word} ").repeat(times)
+}
+
+/// A clause of all literals of so many variables, those with `-` last.
+fn all_literals(variables: usize) -> String {
+    let words = |sign| (1..=variables).map(move |variable| format!("{sign}{variable} "));
+    words("").chain(words("-")).collect::<String>() + "0\n"
+}
+
+/// The formula of `with_literals` with two words more in each whole clause.
+fn with_repeats(variables: usize, literals: usize) -> String {
+    with_literals(variables, literals).replace(" 1000 0\n", " 1 1000 1000 0\n")
+}
+
+/// The formula with one clause more, at the start and at the end.
+fn with_clause(text: &str, clause: &str) -> [String; 2] {
+    let (header, body) = text.split_once('\n').unwrap();
+    let (variables, clauses) = header.rsplit_once(' ').unwrap();
+    let header = format!("{variables} {}", clauses.parse::<usize>().unwrap() + 1);
+    [
+        format!("{header}\n{clause}{body}"),
+        format!("{header}\n{body}{clause}"),
+    ]
+}
+
+#[test]
+fn literals_that_are_kept() {
+    // the last clause is empty, so that walk-back ends with 44
+    for (call, accepted, variables, most) in [
+        (reencode as fn(&str) -> u32, 0, 8_000, 60_000),
+        (walk_back, 44, 8_000, 60_000),
+        (read_back, 0, 70_000, 1_000_000),
+    ] {
+        let full = with_repeats(variables, most);
+        assert!(full.split(' ').count() > most + most / 1_000);
+        assert_eq!(call(&full), accepted);
+        assert_eq!(call(&with_repeats(variables, most + 1)), 9);
+        for text in with_clause(&full, &all_literals(variables)) {
+            assert_eq!(call(&text), accepted);
+        }
+        for text in with_clause(&full, "7 7 0\n") {
+            assert_eq!(call(&text), 9);
+        }
+    }
+}
+
+/// On exactly the workspace that the rule asks for by what is kept and the header's C; with one entry fewer it is
+/// refused.
+#[test]
+fn workspace_by_what_is_kept() {
+    let exact = |text: &str, literals: usize| {
+        let header = text.lines().next().unwrap().split(' ');
+        let numbers: Vec<usize> = header.skip(2).map(|word| word.parse().unwrap()).collect();
+        let work = 20 * literals + 2 * numbers[1] + 6 * numbers[0] + 8_192;
+        let text = text.as_bytes();
+        for (entries, number) in [(work, 0), (work - 1, 11)] {
+            if numbers[0] <= 8_000 {
+                let room = Room {
+                    work: entries,
+                    ..LARGE
+                };
+                assert_eq!(
+                    compare_reencode(text, Form::Order, Arrangement::AsListed, room),
+                    number
+                );
+            }
+            assert_eq!(compare_read_back(text, entries), number);
+        }
+    };
+    exact(JOINED_F, 17);
+    exact("p cnf 1 1\n1 1 0\n", 1);
+    exact("p cnf 1 1\n1 -1 0\n", 0);
+    exact(&format!("p cnf 1 1\n{}0\n", words("1", 1_000_000)), 1);
+    exact(&format!("p cnf 1 1\n{}-1 0\n", words("1", 1_000_000)), 0);
+    exact(&format!("p cnf 1 20000\n{}", words("1 -1 0", 20_000)), 0);
+    for variables in [8_000, 70_000] {
+        let plain = format!("p cnf {variables} 2\n1 0\n2 -3 2 0\n");
+        for text in with_clause(&plain, &all_literals(variables)) {
+            exact(&text, 3);
+        }
+        let between = format!(
+            "p cnf {variables} 3\n1 0\n{}2 -3 2 0\n",
+            all_literals(variables)
+        );
+        exact(&between, 3);
+    }
+}
+
+/// N counts what is kept, of a clause left out not even its 0.
+#[test]
+fn walk_back_workspace_by_what_is_kept() {
+    let answer = b"s SATISFIABLE\nv 4 0\n";
+    for (text, numbers, variables) in [
+        (JOINED_F.to_string(), 24, 6),
+        (format!("p cnf 4 1\n{}4 0\n", words("4", 100_000)), 2, 4),
+        (format!("p cnf 8000 1\n{}", all_literals(8_000)), 0, 8_000),
+        (format!("p cnf 4 20000\n{}", words("1 -1 0", 20_000)), 0, 4),
+    ] {
+        let work = 4 * (numbers + 3) + 4 * variables.max(5) + 64;
+        let walk = |work| {
+            let room = 6 * variables + 20;
+            compare_walk_back(text.as_bytes(), b"5 4 0\n", 1, answer, work, room)
+        };
+        assert_eq!(walk(work), 0);
+        assert_eq!(walk(work - 1), 11);
+    }
+}
+
+/// A clause that is left out counts towards C, and its words are read as any others.
+#[test]
+fn clauses_left_out() {
+    for (text, number) in [
+        ("p cnf 2 2\n1 2 0\n1 -1 0\n", 0),
+        ("p cnf 2 1\n1 2 0\n1 -1 0\n", 8),
+        ("p cnf 2 1\n1 -1 0\n1 2 0\n", 8),
+        ("p cnf 2 2\n1 -1 0\n", 8),
+        ("p cnf 2 0\n1 -1 0\n", 8),
+        ("p cnf 2 1\n1 -1 1 0\n", 0),
+        ("p cnf 2 1\n1 -1", 7),
+        ("p cnf 2 1\n1 1", 7),
+        ("p cnf 2 1\n1 -1 3 0\n", 4),
+        ("p cnf 2 1\n1 -1 -0 0\n", 3),
+        ("p cnf 2 1\n1 -1 c 0\n", 3),
+    ] {
+        assert_eq!(reencode(text), number, "{text}");
+        assert_eq!(read_back(text), number, "{text}");
+        assert_eq!(walk_back(text), number, "{text}");
+    }
 }
 
 #[test]
@@ -256,6 +396,7 @@ fn tallies_of_any_length() {
 fn tally_zero_after_a_refusal() {
     for (text, room, number) in [
         (&b"p cnf 1 1\n2 0\n"[..], 9_000, 4),
+        (&b"p cnf 1 2\n1 -1 0\n1 1 0\n1 0\n"[..], 9_000, 8),
         (&b"p cnf 1 1\n1 0\n"[..], 1, 11),
     ] {
         let (mut store, mut tally) = (vec![77; room], vec![77; 5]);

@@ -2,10 +2,10 @@
 
 mod common;
 
-use common::formulas::any_kind;
+use common::formulas::any_kind_joined;
 use common::{count, over_seeds, run_model, sum, Numbers, WAYS};
-use model::generator::{answer_after, damage, damage_log, text_of, Random};
-use model::sessions;
+use model::generator::{answer_after, damage, damage_log, Joined, Random};
+use model::sessions::{self, JOINED_E};
 use model::texts::log_text;
 use sirgholyn::limits::Limits;
 use sirgholyn::location::{in_answer, in_formula, in_log, Location};
@@ -51,10 +51,10 @@ impl Walk<'_> {
     }
 }
 
-const OF_FORMULA: [u32; 9] = [1, 2, 3, 4, 5, 6, 7, 8, 9];
+const OF_FORMULA: [u32; 7] = [1, 2, 3, 4, 7, 8, 9];
 const OF_LOG: [u32; 3] = [31, 32, 34];
 const OF_ANSWER: [u32; 3] = [41, 42, 43];
-const ELSE: [u32; 9] = [0, 10, 11, 12, 14, 33, 44, 45, u32::MAX];
+const ELSE: [u32; 11] = [0, 5, 6, 10, 11, 12, 14, 33, 44, 45, u32::MAX];
 
 /// Of all numbers, a location is found for the library's alone, and only if it is one of these.
 fn only(
@@ -311,10 +311,6 @@ fn clauses() {
             4,
             (2, 1, Some("-999999999999999999999999999999999999999..")),
         ),
-        (b"p cnf 2 1\n1 2 1 0\n", 5, (2, 5, Some("1"))),
-        (b"p cnf 2 2\n1 0\r\n-2\r\n-2", 5, (4, 1, Some("-2"))),
-        (b"p cnf 2 1\n1 2 -1 0\n", 6, (2, 5, Some("-1"))),
-        (b"p cnf 2 2\n-2 0 -2\n2 0\n", 6, (3, 1, Some("2"))),
         (b"p cnf 2 1\n1", 7, (2, 2, None)),
         (b"p cnf 2 1\n1 2\r\n\n", 7, (4, 1, None)),
         (b"p cnf 2 9\n1 0\n2 ", 7, (3, 3, None)),
@@ -338,6 +334,28 @@ fn clauses() {
     formula_rows(&Limits::NEW_FORMULA, check_new_formula, rows);
 }
 
+/// Faults in clauses with repeats, and in and around clauses that are left out.
+#[test]
+fn clauses_not_kept_in_full() {
+    let rows: &[(&[u8], u32, Place)] = &[
+        (b"p cnf 2 1\n1 1 x 0\n", 3, (2, 5, Some("x"))),
+        (b"p cnf 2 1\n1 -1 -0 0\n", 3, (2, 6, Some("-0"))),
+        (b"p cnf 2 2\n1 -1 0\n+1 0\n", 3, (3, 1, Some("+1"))),
+        (b"p cnf 2 1\n1 2 1\r\n 3 0\n", 4, (3, 2, Some("3"))),
+        (b"p cnf 2 2\n-2 0 2 -2\n-3 0\n", 4, (3, 1, Some("-3"))),
+        (b"p cnf 2 1\n1 1", 7, (2, 4, None)),
+        (b"p cnf 2 1\n1 -1\n1\n", 7, (4, 1, None)),
+        (b"p cnf 2 2\n1 -1 0 2 -2\n", 7, (3, 1, None)),
+        (b"p cnf 2 2\n1 -1 0\n", 8, (3, 1, None)),
+        (b"p cnf 2 2\n1 1 1 0\n\n", 8, (4, 1, None)),
+        (b"p cnf 2 1\n1 -1 0\n2 0\n", 8, (3, 1, Some("2"))),
+        (b"p cnf 2 1\n2 0\n1 -1 0\n", 8, (3, 1, Some("1"))),
+        (b"p cnf 2 1\n1 -1 0\t0\n", 8, (2, 8, Some("0"))),
+    ];
+    formula_rows(&Limits::INPUT, check_input, rows);
+    formula_rows(&Limits::NEW_FORMULA, check_new_formula, rows);
+}
+
 /// As many literals as the limit allows in clauses of up to V, one a line, and then two more clauses.
 fn full_formula(variables: usize, mut literals: usize) -> (Vec<u8>, usize) {
     let clauses = literals.div_ceil(variables);
@@ -351,22 +369,35 @@ fn full_formula(variables: usize, mut literals: usize) -> (Vec<u8>, usize) {
     (text.into_bytes(), clauses)
 }
 
+/// The `0` after which there are too many.
 #[test]
 fn too_many_literals() {
-    let (full, clauses) = full_formula(8_000, 60_000);
-    let text = [&full[..], b"0\n\t 17 0\n"].concat();
-    let rows: &[(&[u8], u32, Place)] = &[(&text, 9, (clauses + 3, 3, Some("17")))];
-    formula_rows(&Limits::INPUT, check_input, rows);
-
-    let (full, clauses) = full_formula(70_000, 1_000_000);
-    let text = [&full[..], b"0 -1 2 0\n"].concat();
-    let rows: &[(&[u8], u32, Place)] = &[(&text, 9, (clauses + 2, 3, Some("-1")))];
-    formula_rows(&Limits::NEW_FORMULA, check_new_formula, rows);
+    for (limits, check) in [
+        (Limits::INPUT, check_input as fn(&[u8]) -> u32),
+        (Limits::NEW_FORMULA, check_new_formula),
+    ] {
+        let (full, clauses) = full_formula(limits.variables, limits.literals);
+        let with = |rest: &[u8]| [&full[..], rest].concat();
+        let rows: &[(&[u8], u32, Place)] = &[
+            (&with(b"0\n\t 17 0\n"), 9, (clauses + 3, 6, Some("0"))),
+            (&with(b"-1 2\n-1\t0\n0\n"), 9, (clauses + 3, 4, Some("0"))),
+            (&with(b"3 -3 0 5 5\r\n0\n"), 9, (clauses + 3, 1, Some("0"))),
+            (&with(b"0\n17 x"), 3, (clauses + 3, 4, Some("x"))),
+            (&with(b"0\n17"), 7, (clauses + 3, 3, None)),
+        ];
+        formula_rows(&limits, check, rows);
+        assert_eq!(check(&with(b"0 1 1 -1 0\n")), 0);
+        let (one_less, _) = full_formula(limits.variables, limits.literals - 1);
+        assert_eq!(check(&[&one_less[..], b"5 5 0\n0\n"].concat()), 0);
+    }
 }
 
 #[test]
 fn logs() {
-    let formula = b"p cnf 3 3\n1 2 0\n-1 3 0\n2 1 0\n";
+    let formulas: [&[u8]; 2] = [
+        b"p cnf 3 3\n1 2 0\n-1 3 0\n2 1 0\n",
+        b"p cnf 3 5\n1 2 1 0\n1 -1 0\n-1 3 3 0\n2 1 0\n3 1 2 -3 3 0\n",
+    ];
     let long = [b"1 ".as_slice(), &[b'2'; 1_000], b" 0\n"].concat();
     let rows: &[(&[u8], usize, u32, Place)] = &[
         (b"\n", 1, 31, (1, 1, Some(r"\n"))),
@@ -414,11 +445,13 @@ fn logs() {
             (1, 1, Some("d 1 2 3 -4 -5 -6 -7 -8 -9 -10 -11 -12 -1..")),
         ),
     ];
-    for (log, kept, number, place) in rows {
-        let walk = Walk(formula, log, *kept, b"s SATISFIABLE\nv 0\n");
-        assert_eq!(check_walk(walk), *number, "{}", shown(log, 100));
-        let found = in_log(formula, log, *kept, *number).unwrap();
-        assert_eq!(found, location(*place), "{}", shown(log, 100));
+    for formula in formulas {
+        for (log, kept, number, place) in rows {
+            let walk = Walk(formula, log, *kept, b"s SATISFIABLE\nv 0\n");
+            assert_eq!(check_walk(walk), *number, "{}", shown(log, 100));
+            let found = in_log(formula, log, *kept, *number).unwrap();
+            assert_eq!(found, location(*place), "{}", shown(log, 100));
+        }
     }
 }
 
@@ -522,7 +555,8 @@ fn expect(counted: Vec<Numbers>, expected: &[u32], least: usize) {
 
 #[test]
 fn each_byte_of_a_formula() {
-    let texts: [&[u8]; 3] = [
+    let texts: [&[u8]; 4] = [
+        JOINED_E.as_bytes(),
         b"c two lines\r\nc\np cnf 3 2\r\n1 2 0\n-1 3 0",
         b"p cnf 2 3\n1 -2 0\t2\r\n-1 0 0\n",
         b"p cnf 8000 1\n8000 -7999 0\n",
@@ -533,12 +567,12 @@ fn each_byte_of_a_formula() {
         count(numbers, check_input(text));
         count(numbers, check_new_formula(text));
     });
-    expect(counted, &[0, 1, 2, 3, 4, 5, 6, 7, 8], 24);
+    expect(counted, &[0, 1, 2, 3, 4, 7, 8], 24);
 }
 
 #[test]
 fn each_byte_of_a_log_and_an_answer() {
-    let formula = b"p cnf 3 2\n1 2 0\n-1 3 0\n";
+    let formula = JOINED_E.as_bytes();
     let log = b"2 3 0\nd 1 2 0\nd -1 3 0\nd 2 3 0\n";
     let answer = b"c first\ns SATISFIABLE\r\nv 1 \nc between\nv -2\t-3  0 \nc last\n";
     let (logs, answers) = (each_damage(log), each_damage(answer));
@@ -558,21 +592,21 @@ fn each_byte_of_a_log_and_an_answer() {
 fn damaged_formulas() {
     let counted = over_seeds(0..4_000, |seed, numbers: &mut Numbers| {
         let mut random = Random::new(seed);
-        let mut text = text_of(&any_kind(&mut random));
+        let mut text = any_kind_joined(&mut random).text;
         for _ in 0..random.below(3) {
             text = damage(&mut random, &text);
         }
         count(numbers, check_input(&text));
         count(numbers, check_new_formula(&text));
     });
-    expect(counted, &[0, 1, 3, 4, 5, 6, 7, 8], 24);
+    expect(counted, &[0, 1, 3, 4, 7, 8], 24);
 }
 
 #[test]
 fn damaged_logs_and_answers() {
     let counted = over_seeds(0..4_000, |seed, numbers: &mut Numbers| {
         let mut random = Random::new(seed);
-        let formula = any_kind(&mut random);
+        let Joined { mut text, formula } = any_kind_joined(&mut random);
         let (form, arrangement) = *random.one_of(&WAYS);
         let mut lines = run_model(&formula, form, arrangement).log;
         if random.chance(60) {
@@ -584,7 +618,6 @@ fn damaged_logs_and_answers() {
         };
         let mut answer = answer_after(&mut random, &formula, &lines[..kept.min(lines.len())]);
         let mut log = log_text(&lines);
-        let mut text = text_of(&formula);
         for (part, percent) in [(&mut text, 5), (&mut log, 20), (&mut answer, 30)] {
             if random.chance(percent) {
                 *part = damage(&mut random, part);
@@ -633,7 +666,11 @@ fn random_bytes() {
 #[test]
 fn long_texts() {
     const LENGTH: usize = 8 << 20;
-    let parts: [&[u8]; 15] = [
+    let all_literals: String = (1..=8_000).map(|v| format!("{v} -{v} ")).collect();
+    let parts: [&[u8]; 18] = [
+        all_literals.as_bytes(),
+        b"1 ",
+        b"1 -1 ",
         b" ",
         b"\n",
         b"\r",
@@ -650,7 +687,13 @@ fn long_texts() {
         b"\xe2\x82",
         b"d ",
     ];
-    let starts: [&[u8]; 5] = [b"", b"c\n", b"p cnf 9 9\n", b"s SATISFIABLE\nv ", b"0\nd "];
+    let starts: [&[u8]; 5] = [
+        b"",
+        b"c\n",
+        b"p cnf 8000 9\n",
+        b"s SATISFIABLE\nv ",
+        b"0\nd ",
+    ];
     for part in parts {
         let rest = part.repeat(LENGTH / part.len());
         for start in starts {

@@ -2,9 +2,11 @@
 
 mod common;
 
+use common::formulas::is_joined;
 use common::{over_seeds, run_model, WAYS};
-use model::generator::{planned, text_of, Random};
-use model::reading::Formula;
+use model::generator::{
+    clauses_with_repeat, one_of_three_joined, planned, written_clauses, Joined, Random,
+};
 use model::texts::log_text;
 use model::walk_back::{replay, satisfies};
 use sirgholyn::{calls, plan};
@@ -13,69 +15,66 @@ use sirgholyn::{calls, plan};
 struct Walked {
     formulas: usize,
     with_choice: usize,
+    joined_with_choice: usize,
+    /// Clauses with a repeat that are kept.
+    repeats: usize,
+    left_out: usize,
     cuts: usize,
     lines: usize,
 }
 
 /// Walks back from every cut of one formula's log.
-fn walk_all(formula: &Formula, seed: u64, walked: &mut Walked) {
+fn walk_all(input: &Joined, seed: u64, walked: &mut Walked) {
+    let Joined { text, formula } = input;
     let (form, arrangement) = WAYS[seed as usize % WAYS.len()];
-    let text = text_of(formula);
     let mut work = vec![0; 100_000];
     let (mut log, mut new) = (vec![0; 10_000], vec![0; 10_000]);
-    let tally = calls::reencode(&text, form, arrangement, &mut work, &mut log, &mut new).unwrap();
+    let tally = calls::reencode(text, form, arrangement, &mut work, &mut log, &mut new).unwrap();
     log.truncate(tally.log_bytes);
     let encoding = run_model(formula, form, arrangement);
     assert_eq!(log, log_text(&encoding.log));
     walked.formulas += 1;
     walked.with_choice += usize::from(tally.choices > 0);
+    walked.joined_with_choice += usize::from(tally.choices > 0 && is_joined(input));
+    walked.repeats += clauses_with_repeat(text).len();
+    walked.left_out += formula.left_out;
 
-    let plain_text = String::from_utf8(text.clone()).unwrap();
+    let can = can_be_satisfied(formula.variables, &written_clauses(text));
     for kept in 0..=encoding.log.len() {
         let standing = replay(&formula.clauses, &encoding.log[..kept]).unwrap();
-        let mut free: Vec<usize> = standing
-            .iter()
-            .flatten()
-            .map(|l| l.unsigned_abs() as usize)
-            .collect();
-        free.sort_unstable();
-        free.dedup();
-        walked.cuts += 1;
-        let mut can_be_satisfied = false;
-        for bits in 0..1usize << free.len() {
-            let mut values = vec![false; encoding.highest as usize + 1];
-            for (index, &variable) in free.iter().enumerate() {
-                values[variable] = bits >> index & 1 == 1;
-            }
-            if !satisfies(&values, &standing) {
-                continue;
-            }
-            can_be_satisfied = true;
+        let lines = walked.lines;
+        for_each_answer(&standing, |answer| {
             let mut line = vec![0; 200];
-            let answer = answer(&values, &free);
-            let bytes = calls::walk_back(
-                &text,
-                &log,
-                kept,
-                answer.as_bytes(),
-                &mut work,
-                &mut line,
-            )
-            .unwrap_or_else(|number| {
-                panic!("{number}: {kept} lines of {plain_text} {form:?} {arrangement:?} {answer}")
-            });
+            let outcome = calls::walk_back(text, &log, kept, answer, &mut work, &mut line);
+            let seen = || format!("{kept} lines of {} {form:?} {arrangement:?}", shown(text));
+            let bytes = outcome.unwrap_or_else(|number| panic!("{number}: {}", seen()));
             let line = String::from_utf8_lossy(&line[..bytes]);
-            assert!(
-                plan::satisfies(&plain_text, &line),
-                "{kept} lines of {plain_text}: {line}"
-            );
+            assert!(plan::satisfies(&shown(text), &line), "{line}: {}", seen());
             walked.lines += 1;
+        });
+        walked.cuts += 1;
+        assert_eq!(walked.lines > lines, can, "{kept} lines of {}", shown(text));
+    }
+}
+
+fn shown(text: &[u8]) -> String {
+    String::from_utf8_lossy(text).into_owned()
+}
+
+/// Does the work with each assignment of the clauses' variables that satisfies them, as an answer.
+fn for_each_answer(clauses: &[Vec<i32>], mut work: impl FnMut(&[u8])) {
+    let literals = clauses.iter().flatten();
+    let mut named: Vec<usize> = literals.map(|l| l.unsigned_abs() as usize).collect();
+    named.sort_unstable();
+    named.dedup();
+    let mut values = vec![false; named.last().map_or(1, |last| last + 1)];
+    for bits in 0..1usize << named.len() {
+        for (index, &variable) in named.iter().enumerate() {
+            values[variable] = bits >> index & 1 == 1;
         }
-        assert_eq!(
-            can_be_satisfied,
-            formula_can(formula),
-            "{kept} lines of {plain_text}"
-        );
+        if satisfies(&values, clauses) {
+            work(answer(&values, &named).as_bytes());
+        }
     }
 }
 
@@ -87,13 +86,13 @@ fn answer(values: &[bool], named: &[usize]) -> String {
     text + "0\n"
 }
 
-fn formula_can(formula: &Formula) -> bool {
-    let variables = formula.variables as usize;
+fn can_be_satisfied(variables: i32, clauses: &[Vec<i32>]) -> bool {
+    let variables = variables as usize;
     (0..1usize << variables).any(|bits| {
         let values: Vec<bool> = (0..=variables)
             .map(|v| v > 0 && bits >> (v - 1) & 1 == 1)
             .collect();
-        satisfies(&values, &formula.clauses)
+        satisfies(&values, clauses)
     })
 }
 
@@ -104,15 +103,21 @@ fn every_cut_walks_back() {
         let variables = random.between(3, 8);
         let clauses = random.between(3, 22);
         let formula = planned(&mut random, variables, clauses);
-        if run_model(&formula, WAYS[0].0, WAYS[0].1).highest <= 13 {
-            walk_all(&formula, seed, walked);
+        let input = one_of_three_joined(&mut random, formula);
+        if run_model(&input.formula, WAYS[0].0, WAYS[0].1).highest <= 13 {
+            walk_all(&input, seed, walked);
         }
     });
     let sum = |of: fn(&Walked) -> usize| counted.iter().map(of).sum::<usize>();
     let (formulas, with_choice) = (sum(|w| w.formulas), sum(|w| w.with_choice));
+    let (repeats, left_out) = (sum(|w| w.repeats), sum(|w| w.left_out));
     let (cuts, lines) = (sum(|w| w.cuts), sum(|w| w.lines));
+    let joined_with_choice = sum(|w| w.joined_with_choice);
     println!(
-        "{formulas} formulas, {with_choice} with a choice, {cuts} cuts, {lines} lines walked back"
+        "{formulas} formulas, {with_choice} with a choice, {joined_with_choice} of these joined; \
+         clauses: {repeats} with a repeat, {left_out} left out; \
+         {cuts} cuts, {lines} lines walked back"
     );
     assert!(with_choice > 100 && cuts > 5_000 && lines > 40_000);
+    assert!(joined_with_choice > 20 && repeats > 200 && left_out > 150);
 }

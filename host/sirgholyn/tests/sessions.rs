@@ -96,16 +96,27 @@ fn g_and_h() {
     assert_eq!(line.as_deref(), Ok("v -1 -2 -3 4 -5 -6 0\n"));
 }
 
+/// A repeated literal is kept once; a clause that holds a literal and its negation is left out.
+#[test]
+fn one_clause() {
+    for (body, log, kept, line) in [
+        ("1 1 0", "d 1 0\n", &[&[1][..]][..], "v 1 0\n"),
+        ("1 -1 0", "", &[], "v -1 0\n"),
+        ("1 -1 1 0", "", &[], "v -1 0\n"),
+    ] {
+        let text = format!("p cnf 1 1\n{body}\n");
+        expect(&text, log, "p cnf 1 0\n");
+        let back = read_back(text.as_bytes(), None).unwrap();
+        assert_eq!(back.clauses().collect::<Vec<_>>(), kept);
+        let lines = log.lines().count();
+        let walked = walk(&text, log.as_bytes(), lines, "s SATISFIABLE\nv 0\n");
+        assert_eq!(walked.as_deref(), Ok(line));
+    }
+}
+
 #[test]
 fn refusals_of_one_clause() {
-    let cases = [
-        ("1 1 0", 5),
-        ("1 -1 0", 6),
-        ("2 0", 4),
-        ("-0", 3),
-        ("1", 7),
-        ("1 0 1 0", 8),
-    ];
+    let cases = [("2 0", 4), ("-0", 3), ("1", 7), ("1 0 1 0", 8)];
     for (body, number) in cases {
         let text = format!("p cnf 1 1\n{body}\n");
         let refused = reencode(

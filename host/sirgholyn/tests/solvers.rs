@@ -2,22 +2,24 @@
 
 mod common;
 
-use common::formulas::any_kind;
+use common::formulas::{any_kind_joined, is_joined, rewritten};
 use common::solvers::{cadical, minisat, Answer};
 use common::{over_seeds, WAYS};
-use model::generator::{text_of, Random};
+use model::generator::{written_clauses, Joined, Random};
 use model::log_reading::read_kept_lines;
-use model::reading::Formula;
 use model::valleys::Valley;
 use sirgholyn::drat::{self, Checker, Ground};
 use sirgholyn::{plan, reencode, walk_back, ReencodeRoom, WalkBackRoom};
 use std::io::Read;
 
-#[derive(Default)]
+#[derive(Debug, Default)]
 struct Trips {
     plans: usize,
     no_plans: usize,
     proof_lines: usize,
+    /// Of texts that are not kept in full.
+    joined_plans: usize,
+    joined_no_plans: usize,
 }
 
 fn either(formula: &[u8], is_satisfiable: bool, solve: fn(&[u8]) -> Answer) -> Answer {
@@ -26,20 +28,22 @@ fn either(formula: &[u8], is_satisfiable: bool, solve: fn(&[u8]) -> Answer) -> A
     answer
 }
 
-/// Solves input and new formula by both solvers, and carries each answer back.
-fn round_trip(formula: &Formula, seed: u64, trips: &mut Trips) {
-    let text = text_of(formula);
-    let plain_text = String::from_utf8_lossy(&text);
+/// Solves input, as it is written, and new formula by both solvers, and carries each answer back.
+fn round_trip(input: &Joined, seed: u64, trips: &mut Trips) {
+    let text = &input.text;
+    let plain_text = String::from_utf8_lossy(text);
     let (form, arrangement) = WAYS[seed as usize % WAYS.len()];
-    let new = reencode(&text, form, arrangement, ReencodeRoom::default()).unwrap();
+    let new = reencode(text, form, arrangement, ReencodeRoom::default()).unwrap();
     let lines = new.tally.lines as usize;
-    let can = matches!(cadical(&text), Answer::Satisfiable(_));
-    either(&text, can, minisat);
+    let can = matches!(cadical(text), Answer::Satisfiable(_));
+    either(text, can, minisat);
+    trips.joined_plans += usize::from(can && is_joined(input));
+    trips.joined_no_plans += usize::from(!can && is_joined(input));
     for solve in [cadical, minisat] {
         match either(&new.formula, can, solve) {
             Answer::Satisfiable(answer) => {
                 let line =
-                    walk_back(&text, &new.log, lines, &answer, WalkBackRoom::default()).unwrap();
+                    walk_back(text, &new.log, lines, &answer, WalkBackRoom::default()).unwrap();
                 assert!(
                     plan::satisfies(&plain_text, &String::from_utf8_lossy(&line)),
                     "{plain_text}"
@@ -48,7 +52,7 @@ fn round_trip(formula: &Formula, seed: u64, trips: &mut Trips) {
             }
             Answer::Unsatisfiable(Some(proof)) => {
                 let whole = new.log.as_slice().chain(proof.as_bytes());
-                let checked = drat::check(&text, whole, &mut |_| {})
+                let checked = drat::check(text, whole, &mut |_| {})
                     .unwrap_or_else(|why| panic!("{why}: {plain_text}"));
                 trips.proof_lines += checked.lines as usize;
                 trips.no_plans += 1;
@@ -64,11 +68,10 @@ fn sum(trips: Vec<Trips>) -> Trips {
         sum.plans += part.plans;
         sum.no_plans += part.no_plans;
         sum.proof_lines += part.proof_lines;
+        sum.joined_plans += part.joined_plans;
+        sum.joined_no_plans += part.joined_no_plans;
     }
-    println!(
-        "{} plans, {} without, {} lines of proofs",
-        sum.plans, sum.no_plans, sum.proof_lines
-    );
+    println!("{sum:?}");
     sum
 }
 
@@ -82,18 +85,24 @@ fn valleys() {
         if random.chance(30) {
             valley.free = vec![(random.below(traps), random.below(lures))];
         }
-        round_trip(&valley.formula(), seed, trips);
+        let input = match seed % 3 {
+            0 => rewritten(&mut random, valley.formula()),
+            _ => valley.formula().into(),
+        };
+        round_trip(&input, seed, trips);
     }));
     assert!(trips.plans > 60 && trips.no_plans > 60 && trips.proof_lines > 10_000);
+    assert!(trips.joined_plans > 10 && trips.joined_no_plans > 10);
 }
 
 #[test]
 fn random_formulas() {
     let trips = sum(over_seeds(0..240, |seed, trips: &mut Trips| {
-        let formula = any_kind(&mut Random::new(seed));
-        round_trip(&formula, seed, trips);
+        let input = any_kind_joined(&mut Random::new(seed));
+        round_trip(&input, seed, trips);
     }));
     assert!(trips.plans > 60 && trips.no_plans > 60);
+    assert!(trips.joined_plans > 10 && trips.joined_no_plans > 10);
 }
 
 /// Lines of logs by what they are.
@@ -102,20 +111,23 @@ struct Lines {
     by_propagation: usize,
     by_resolvents: usize,
     deletions: usize,
+    /// All lines of logs of texts that are not kept in full.
+    of_joined: usize,
 }
 
-/// Every log of ours passes line by line, whatever the formula.
+/// Every log of ours passes line by line, whatever the formula, and with its clauses as they are written.
 #[test]
 fn our_lines_follow() {
     let counted = over_seeds(0..600, |seed, lines: &mut Lines| {
-        let formula = any_kind(&mut Random::new(seed));
-        let text = text_of(&formula);
+        let input = any_kind_joined(&mut Random::new(seed));
+        let text = &input.text;
         let (form, arrangement) = WAYS[seed as usize % WAYS.len()];
-        let new = reencode(&text, form, arrangement, ReencodeRoom::default()).unwrap();
+        let new = reencode(text, form, arrangement, ReencodeRoom::default()).unwrap();
         let kept = read_kept_lines(&new.log, new.tally.lines as usize).unwrap();
-        let mut checker = Checker::new(&formula.clauses);
+        lines.of_joined += kept.len() * usize::from(is_joined(&input));
+        let mut checker = Checker::new(written_clauses(text));
         for line in kept {
-            let seen = || format!("{line:?} of {}", String::from_utf8_lossy(&text));
+            let seen = || format!("{line:?} of {}", String::from_utf8_lossy(text));
             if line.deletion {
                 assert!(checker.delete(&line.literals), "{}", seen());
                 lines.deletions += 1;
@@ -133,4 +145,5 @@ fn our_lines_follow() {
     assert!(total(|lines| lines.by_propagation) > 10_000);
     assert!(total(|lines| lines.by_resolvents) > 10_000);
     assert!(total(|lines| lines.deletions) > 20_000);
+    assert!(total(|lines| lines.of_joined) > 10_000);
 }

@@ -5,7 +5,10 @@ mod common;
 use common::command::{
     example, expect_failure, expect_message, run, run_with, script, wait_for, Ran, COMMAND,
 };
+use common::formulas::rewritten;
 use common::solvers::Folder;
+use model::generator::Random;
+use model::reading::{read_formula, INPUT_LIMITS};
 use model::sessions::F;
 use sirgholyn::{drat, plan};
 use std::fs;
@@ -107,6 +110,28 @@ fn a_proof_that_there_is_no_plan() {
         let ran = run_with(&["solve", "-", "--proof", &proof], small.as_bytes());
         assert_eq!((ran.status, ran.err.as_str()), (20, ""));
         check(small, &fs::read_to_string(&proof).unwrap());
+    }
+}
+
+/// Where literals are repeated and clauses hold a literal and its negation, the proof is one of that text.
+#[test]
+fn a_proof_for_a_text_with_repeats_and_tautologies() {
+    let folder = Folder::new();
+    let proof = folder.path("proof.drat");
+    let plain = fs::read(example("no_plan.cnf")).unwrap();
+    let formula = read_formula(&plain, &INPUT_LIMITS).unwrap();
+    let text = rewritten(&mut Random::new(1), formula).text;
+    let text = String::from_utf8(text).unwrap();
+    for text in [&text, "p cnf 1 4\n1 1 0\n1 -1 0\n-1 -1 -1 0\n-1 1 0\n"] {
+        for form in ["counter", "order"] {
+            let words = ["solve", "-", "--form", form, "--proof", &proof];
+            let ran = run_with(&words, text.as_bytes());
+            assert_eq!(
+                (ran.status, ran.out.as_str(), ran.err.as_str()),
+                (20, "s UNSATISFIABLE\n", "")
+            );
+            check(text, &fs::read_to_string(&proof).unwrap());
+        }
     }
 }
 

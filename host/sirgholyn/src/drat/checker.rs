@@ -10,7 +10,8 @@ use super::variables::{negation, variable, Literal, Variables};
 pub enum Ground {
     /// It follows by unit propagation.
     Propagation,
-    /// Its resolvents on its first literal do, or there are none.
+    /// Its resolvents on its first literal do, or there are none. Clauses that hold a literal and its negation
+    /// do not count.
     Resolvents,
 }
 
@@ -218,11 +219,13 @@ impl Checker {
         follow
     }
 
+    /// A partner that holds the pivot as well is true by any assignment, and its resolvent need not follow.
     fn resolvent_follows(&mut self, pivot: Literal, partner: Clause) -> bool {
         let kept = self.propagation.count();
         let literals = self.clauses.literals(partner).iter();
         let mut others = literals.filter(|&&literal| literal != negation(pivot));
-        let follows = others.any(|&literal| !self.propagation.assume(negation(literal)))
+        let follows = others
+            .any(|&literal| literal == pivot || !self.propagation.assume(negation(literal)))
             || self.propagation.propagate(&mut self.clauses).is_some();
         self.propagation.undo(kept);
         follows

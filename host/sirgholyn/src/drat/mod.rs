@@ -3,7 +3,8 @@
 //! [`check`] reads a proof line by line and keeps the standing clauses only: memory is a matter of how many
 //! stand at once. Each added clause has to follow from them by unit propagation, or its resolvents on its
 //! first literal have to; each deleted clause has to stand; and a line has to be the empty clause. All
-//! deletions are done, those of unit clauses too.
+//! deletions are done, those of unit clauses too. A clause is a set of literals: repeats do not count, and one
+//! that holds a literal and its negation changes nothing in what follows.
 
 mod checker;
 mod clauses;

@@ -1,4 +1,4 @@
-/* The header's calls from C: sessions F to H, refusals, the workspace rules and the limits. Prints
+/* The header's calls from C: sessions F to H, what is kept, refusals, the workspace rules and the limits. Prints
  * each expectation that fails; the exit status is 1 if any does. */
 #define _POSIX_C_SOURCE 200112L
 
@@ -130,6 +130,28 @@ static void sessions(void)
     EXPECT(all(work, (8 + 19) * sizeof *work, 64 * sizeof *work, PATTERN));
 }
 
+/* a repeated literal is kept once, and a clause that holds a literal and its negation is left out */
+static void one_clause(void)
+{
+    static const char repeated[] = "p cnf 1 1\n1 1 0\n", opposed[] = "p cnf 1 1\n1 -1 0\n";
+    static const int32_t entries[] = {1, 1};
+
+    EXPECT(reencode(repeated, work_len, LOG_ROOM, FORMULA_ROOM) == SIRGHOLYN_DONE);
+    EXPECT(tally[SIRGHOLYN_REENCODE_LOG_BYTES] == 6 && memcmp(new_log, "d 1 0\n", 6) == 0);
+    EXPECT(memcmp(new_formula, "p cnf 1 0\n", 10) == 0);
+    EXPECT(reencode(opposed, work_len, LOG_ROOM, FORMULA_ROOM) == SIRGHOLYN_DONE);
+    EXPECT(tally[SIRGHOLYN_REENCODE_LINES] == 0 && all(new_log, 0, sizeof new_log, PATTERN));
+    EXPECT(memcmp(new_formula, "p cnf 1 0\n", 10) == 0);
+
+    EXPECT(read_back(repeated, work_len) == SIRGHOLYN_DONE);
+    EXPECT(tally[SIRGHOLYN_READ_BACK_CLAUSES] == 1 && tally[SIRGHOLYN_READ_BACK_LITERALS] == 1);
+    EXPECT(memcmp(work, entries, sizeof entries) == 0);
+    EXPECT(all(work, sizeof entries, 64 * sizeof *work, PATTERN));
+    EXPECT(read_back(opposed, work_len) == SIRGHOLYN_DONE);
+    EXPECT(tally[SIRGHOLYN_READ_BACK_CLAUSES] == 0 && tally[SIRGHOLYN_READ_BACK_LITERALS] == 0);
+    EXPECT(all(work, 0, 64 * sizeof *work, PATTERN));
+}
+
 /* a tally takes as many counts as fit */
 static void short_tally(void)
 {
@@ -143,8 +165,8 @@ static void zero_after_refusals(void)
 {
     size_t log_len;
 
-    EXPECT(reencode("p cnf 1 1\n1 -1 0\n", work_len, LOG_ROOM, FORMULA_ROOM)
-           == SIRGHOLYN_LITERAL_OPPOSED);
+    EXPECT(reencode("p cnf 1 1\n2 0\n", work_len, LOG_ROOM, FORMULA_ROOM)
+           == SIRGHOLYN_VARIABLE_ABOVE_V);
     EXPECT(all(new_log, 0, sizeof new_log, 0));
     EXPECT(all(new_formula, 0, sizeof new_formula, 0));
     EXPECT(all(tally, 0, sizeof tally, 0));
@@ -180,6 +202,11 @@ static void workspace_rules(void)
     enough = SIRGHOLYN_WORK(19, 8, 10);
     EXPECT(read_back(G, enough - 1) == SIRGHOLYN_WORK_SHORT);
     EXPECT(read_back(G, enough) == SIRGHOLYN_DONE);
+
+    /* one literal kept, of one clause of two */
+    enough = SIRGHOLYN_WORK(1, 2, 1);
+    EXPECT(read_back("p cnf 1 2\n1 1 0\n1 -1 0\n", enough - 1) == SIRGHOLYN_WORK_SHORT);
+    EXPECT(read_back("p cnf 1 2\n1 1 0\n1 -1 0\n", enough) == SIRGHOLYN_DONE);
 }
 
 static uint32_t header_only(int new, unsigned variables, unsigned clauses)
@@ -228,6 +255,7 @@ static void limits(void)
 static void *run(void *unused)
 {
     sessions();
+    one_clause();
     short_tally();
     zero_after_refusals();
     workspace_rules();

@@ -1,8 +1,11 @@
 //! Random formulas with choices of named sizes, joined by clashes, linked, and negated in many ways.
 
-use model::generator::{noise, planned, Random};
+use model::generator::{clauses_with_repeat, noise, one_of_three_joined, planned, Joined, Random};
 use model::reading::Formula;
 use model::texts::formula_text;
+
+/// A text that is read as session F: literals are repeated, and two clauses put in that are left out.
+pub const JOINED_F: &str = "p cnf 6 9\n1 2 1 3 4 5 5 0\n-1 1 0\n-1 -2 -1 0\n-1 6 0\n-2 6 0\n-3 6 0\n-4 -6 0\n2 6 -2 2 0\n-5 -6 -6 0\n";
 
 /// A formula of one of the kinds, by the seed.
 pub fn any_kind(random: &mut Random) -> Formula {
@@ -30,6 +33,36 @@ pub fn any_kind(random: &mut Random) -> Formula {
     }
 }
 
+/// The same, one of three joined.
+pub fn any_kind_joined(random: &mut Random) -> Joined {
+    let formula = any_kind(random);
+    one_of_three_joined(random, formula)
+}
+
+/// Whether a clause of the text has a repeat or is left out.
+pub fn is_joined(input: &Joined) -> bool {
+    input.formula.left_out > 0 || !clauses_with_repeat(&input.text).is_empty()
+}
+
+/// A text that is read as the formula: literals are repeated, and clauses put in that are left out.
+pub fn rewritten(random: &mut Random, mut formula: Formula) -> Joined {
+    let mut written: Vec<Vec<i32>> = Vec::new();
+    for clause in &formula.clauses {
+        let mut longer = clause.clone();
+        for _ in 0..random.below(3).min(clause.len()) {
+            longer.push(*random.one_of(clause));
+        }
+        if let Some(&first) = clause.first().filter(|_| random.chance(40)) {
+            let others = *random.one_of(&[&clause[..1], &longer]);
+            written.push([others, &[-first]].concat());
+        }
+        written.push(longer);
+    }
+    formula.left_out = written.len() - formula.clauses.len();
+    let text = formula_text(formula.variables, &written);
+    Joined { text, formula }
+}
+
 /// Unique literal clauses that come to have the sizes when clashes are cleared.
 pub fn with_choices(random: &mut Random, sizes: &[usize]) -> Formula {
     let mut fresh = Fresh::default();
@@ -48,10 +81,7 @@ pub fn with_choices(random: &mut Random, sizes: &[usize]) -> Formula {
     if random.chance(80) {
         random.shuffle(&mut clauses);
     }
-    Formula {
-        variables: fresh.variables,
-        clauses,
-    }
+    Formula::new(fresh.variables, clauses)
 }
 
 #[derive(Default)]

@@ -6,7 +6,7 @@ pub mod formulas;
 pub mod solvers;
 
 use model::reading::Formula;
-use sirgholyn::{calls, Arrangement, Form};
+use sirgholyn::{calls, Arrangement, Form, Refusal};
 use std::collections::BTreeMap;
 use std::ops::Range;
 use std::thread;
@@ -17,6 +17,20 @@ pub const WAYS: [(Form, Arrangement); 4] = [
     (Form::Order, Arrangement::AsListed),
     (Form::Order, Arrangement::Alignment),
 ];
+
+/// The numbers of refusals.
+pub const LISTED: [u32; 19] = [
+    1, 2, 3, 4, 7, 8, 9, 11, 12, 13, 14, 31, 32, 33, 34, 41, 42, 43, 44,
+];
+
+/// The listed numbers that someone can mend, as in `1 to 4, 7 to 9`.
+pub fn numbers_of(mender: &str) -> String {
+    let is_own = |&number: &u32| Refusal(number).mender() == mender;
+    let numbers: Vec<u32> = LISTED.into_iter().filter(is_own).collect();
+    let runs = numbers.chunk_by(|one, next| one + 1 == *next);
+    let words = runs.map(|run| format!("{} to {}", run[0], run[run.len() - 1]));
+    words.collect::<Vec<_>>().join(", ")
+}
 
 /// More than any formula of the tests wants.
 pub const PLENTY: usize = 1 << 24;
@@ -237,16 +251,15 @@ pub fn over_seeds<C: Default + Send>(
 
 /// The clauses left standing.
 pub fn new_formula(encoding: &model::encoding::Encoding) -> Formula {
-    Formula {
-        variables: encoding.highest,
-        clauses: encoding.standing.clauses(),
-    }
+    Formula::new(encoding.highest, encoding.standing.clauses())
 }
 
-/// Each of these outcomes occurred.
+/// Each of these outcomes occurred, and none that is not listed.
 pub fn expect_numbers(numbers: &Numbers, expected: &[u32]) {
     println!("{numbers:?}");
     assert!(expected.iter().all(|number| numbers.contains_key(number)));
+    let is_listed = |&number: &u32| number == 0 || LISTED.contains(&number);
+    assert!(numbers.keys().all(is_listed));
 }
 
 /// Counts by name or number, added up.

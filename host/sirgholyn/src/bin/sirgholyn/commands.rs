@@ -117,7 +117,7 @@ pub fn refused_walk_back(
 ) -> Failure {
     let found = match error {
         Error::Refused(refusal) => match refusal.0 {
-            1..=9 => location::in_formula(formula, &Limits::INPUT, refusal.0),
+            1..=4 | 7..=9 => location::in_formula(formula, &Limits::INPUT, refusal.0),
             31 | 32 | 34 => location::in_log(formula, log, kept, refusal.0),
             41..=43 => location::in_answer(formula, log, kept, answer, refusal.0),
             _ => None,

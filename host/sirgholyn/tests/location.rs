@@ -12,6 +12,7 @@ use sirgholyn::location::{in_answer, in_formula, in_log, Location};
 use sirgholyn::shown::shown;
 use sirgholyn::{read_back, reencode, walk_back, Arrangement, Error, Form, Refusal};
 use sirgholyn::{ReencodeRoom, WalkBackRoom};
+use std::time::{Duration, Instant};
 
 /// A row's location: line, byte, word.
 type Place<'a> = (usize, usize, Option<&'a str>);
@@ -662,15 +663,12 @@ fn random_bytes() {
     expect(counted, &[1, 3, 31, 41], 24);
 }
 
+const LONG: usize = 8 << 20;
+
 /// Megabytes of one kind: what is more than linear would not end.
 #[test]
 fn long_texts() {
-    const LENGTH: usize = 8 << 20;
-    let all_literals: String = (1..=8_000).map(|v| format!("{v} -{v} ")).collect();
-    let parts: [&[u8]; 18] = [
-        all_literals.as_bytes(),
-        b"1 ",
-        b"1 -1 ",
+    let parts: [&[u8]; 15] = [
         b" ",
         b"\n",
         b"\r",
@@ -687,15 +685,9 @@ fn long_texts() {
         b"\xe2\x82",
         b"d ",
     ];
-    let starts: [&[u8]; 5] = [
-        b"",
-        b"c\n",
-        b"p cnf 8000 9\n",
-        b"s SATISFIABLE\nv ",
-        b"0\nd ",
-    ];
+    let starts: [&[u8]; 5] = [b"", b"c\n", b"p cnf 9 9\n", b"s SATISFIABLE\nv ", b"0\nd "];
     for part in parts {
-        let rest = part.repeat(LENGTH / part.len());
+        let rest = part.repeat(LONG / part.len());
         for start in starts {
             let text = [start, &rest].concat();
             let formula = b"p cnf 1 1\n1 0\n";
@@ -706,4 +698,25 @@ fn long_texts() {
             }
         }
     }
+}
+
+/// The least time that it takes to find the end of a text that ends inside a clause of such words.
+fn time_of_clause(words: &str) -> Duration {
+    let words = words.repeat(LONG / words.len());
+    let text = format!("p cnf 70000 1\n{words}");
+    let time = || {
+        let start = Instant::now();
+        assert!(in_formula(text.as_bytes(), &Limits::NEW_FORMULA, 7).is_some());
+        start.elapsed()
+    };
+    (0..5).map(|_| time()).min().unwrap()
+}
+
+/// Many different literals in one clause take about as long as one literal repeated.
+#[test]
+fn long_clauses() {
+    let all_literals: String = (1..=70_000).map(|v| format!("{v} -{v} ")).collect();
+    let times = ["1 ", "1 -1 ", &all_literals].map(time_of_clause);
+    println!("{times:?}");
+    assert!(times[1..].iter().all(|time| *time < 10 * times[0]));
 }

@@ -12,7 +12,6 @@ use sirgholyn::location::{in_answer, in_formula, in_log, Location};
 use sirgholyn::shown::shown;
 use sirgholyn::{read_back, reencode, walk_back, Arrangement, Error, Form, Refusal};
 use sirgholyn::{ReencodeRoom, WalkBackRoom};
-use std::time::{Duration, Instant};
 
 /// A row's location: line, byte, word.
 type Place<'a> = (usize, usize, Option<&'a str>);
@@ -700,23 +699,15 @@ fn long_texts() {
     }
 }
 
-/// The least time that it takes to find the end of a text that ends inside a clause of such words.
-fn time_of_clause(words: &str) -> Duration {
-    let words = words.repeat(LONG / words.len());
-    let text = format!("p cnf 70000 1\n{words}");
-    let time = || {
-        let start = Instant::now();
-        assert!(in_formula(text.as_bytes(), &Limits::NEW_FORMULA, 7).is_some());
-        start.elapsed()
-    };
-    (0..5).map(|_| time()).min().unwrap()
-}
-
-/// Many different literals in one clause take about as long as one literal repeated.
+/// One clause of megabytes: a literal repeated, opposed, and many different ones again and again. A walk of the
+/// clause for each literal would not end.
 #[test]
 fn long_clauses() {
     let all_literals: String = (1..=70_000).map(|v| format!("{v} -{v} ")).collect();
-    let times = ["1 ", "1 -1 ", &all_literals].map(time_of_clause);
-    println!("{times:?}");
-    assert!(times[1..].iter().all(|time| *time < 10 * times[0]));
+    for words in ["1 ", "1 -1 ", &all_literals] {
+        let words = words.repeat(LONG / words.len());
+        let text = format!("p cnf 70000 1\n{words}");
+        let rows: &[(&[u8], u32, Place)] = &[(text.as_bytes(), 7, (2, words.len() + 1, None))];
+        formula_rows(&Limits::NEW_FORMULA, check_new_formula, rows);
+    }
 }

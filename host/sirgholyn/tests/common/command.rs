@@ -82,9 +82,9 @@ pub fn example(name: &str) -> String {
     format!("{}/../../examples/{name}", env!("CARGO_MANIFEST_DIR"))
 }
 
-/// Waits until a file is there.
+/// Waits until a file is there, up to a minute.
 pub fn wait_for(path: &str) {
-    for _ in 0..1_000 {
+    for _ in 0..6_000 {
         if fs::exists(path).unwrap() {
             return;
         }

@@ -2,7 +2,7 @@
 
 mod common;
 
-use common::command::{example, expect_failure, run, run_with};
+use common::command::{example, expect_failure, run, run_with, Ran};
 use common::formulas::JOINED_F;
 use common::numbers_of;
 use common::solvers::Folder;
@@ -14,61 +14,39 @@ use std::fs;
 
 const ANSWER: &str = "s SATISFIABLE\nv 1 2 3 4 5 -6 -7 -8 -9 10 0\n";
 
+#[track_caller]
+fn expect_printed(ran: &Ran, printed: &str) {
+    assert_eq!(
+        (ran.status, ran.out.as_str(), ran.err.as_str()),
+        (0, printed, "")
+    );
+}
+
 /// Session F reencoded, read back and walked back by the command, from a text that is read as F.
 fn reencode_and_back(text: &str) {
     let folder = Folder::new();
     let input = folder.write("in.cnf", text.as_bytes());
     let (formula, log) = (folder.path("new.cnf"), folder.path("new.drat"));
-    let ran = run(&[
-        "reencode",
-        &input,
-        "--form",
-        "order",
-        "--formula",
-        &formula,
-        "--log",
-        &log,
-    ]);
-    assert_eq!((ran.status, ran.err.as_str()), (0, ""));
-    assert_eq!(
-        ran.out,
-        "choices 1 highest 10 clauses 8 lines 59 log-bytes 533 formula-bytes 77\n"
-    );
-    assert!(fs::read_to_string(&formula)
-        .unwrap()
-        .starts_with("p cnf 10 8\n8 -7 0\n"));
+    let outputs = ["--formula", &formula, "--log", &log];
+    let ran = run(&[&["reencode", &input, "--form", "order"], &outputs[..]].concat());
+    let tally = "choices 1 highest 10 clauses 8 lines 59 log-bytes 533 formula-bytes 77\n";
+    expect_printed(&ran, tally);
+    let new = fs::read_to_string(&formula).unwrap();
+    assert!(new.starts_with("p cnf 10 8\n8 -7 0\n"));
     assert_eq!(folder.names(), ["in.cnf", "new.cnf", "new.drat"]);
 
-    for (text, counts) in [
-        (&formula, "variables 10 clauses 8 literals 19\n"),
-        (&input, "variables 6 clauses 7 literals 17\n"),
-    ] {
-        let ran = run(&["read-back", text]);
-        assert_eq!((ran.status, ran.out.as_str()), (0, counts));
-    }
+    let counts = "variables 10 clauses 8 literals 19\n";
+    expect_printed(&run(&["read-back", &formula]), counts);
+    let counts = "variables 6 clauses 7 literals 17\n";
+    expect_printed(&run(&["read-back", &input]), counts);
 
     let answer = folder.write("answer", ANSWER.as_bytes());
-    let ran = run(&["walk-back", &input, &log, &answer]);
-    assert_eq!(
-        (ran.status, ran.out.as_str()),
-        (0, "v -1 -2 -3 4 -5 -6 0\n")
-    );
-    let ran = run_with(
-        &["walk-back", "--keep=59", &input, "-", &answer],
-        &fs::read(&log).unwrap(),
-    );
-    assert_eq!(
-        (ran.status, ran.out.as_str()),
-        (0, "v -1 -2 -3 4 -5 -6 0\n")
-    );
-    let ran = run_with(
-        &["walk-back", &input, &log, "-", "--keep", "0"],
-        b"s SATISFIABLE\nv 4 0\n",
-    );
-    assert_eq!(
-        (ran.status, ran.out.as_str()),
-        (0, "v -1 -2 -3 4 -5 -6 0\n")
-    );
+    let line = "v -1 -2 -3 4 -5 -6 0\n";
+    expect_printed(&run(&["walk-back", &input, &log, &answer]), line);
+    let words = ["walk-back", "--keep=59", &input, "-", &answer];
+    expect_printed(&run_with(&words, &fs::read(&log).unwrap()), line);
+    let words = ["walk-back", &input, &log, "-", "--keep", "0"];
+    expect_printed(&run_with(&words, b"s SATISFIABLE\nv 4 0\n"), line);
 }
 
 #[test]

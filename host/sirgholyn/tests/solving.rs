@@ -113,16 +113,23 @@ fn a_proof_that_there_is_no_plan() {
     }
 }
 
-/// Where literals are repeated and clauses hold a literal and its negation, the proof is one of that text.
+/// Where literals are repeated and clauses hold a literal and its negation, the proof is one of that text: it
+/// begins with the deletions of these clauses, and is then one of the formula that is read.
 #[test]
 fn a_proof_for_a_text_with_repeats_and_tautologies() {
     let folder = Folder::new();
     let proof = folder.path("proof.drat");
     let plain = fs::read(example("no_plan.cnf")).unwrap();
     let formula = read_formula(&plain, &INPUT_LIMITS).unwrap();
-    let text = rewritten(&mut Random::new(1), formula).text;
-    let text = String::from_utf8(text).unwrap();
-    for text in [&text, "p cnf 1 4\n1 1 0\n1 -1 0\n-1 -1 -1 0\n-1 1 0\n"] {
+    let joined = rewritten(&mut Random::new(1), formula);
+    let text = String::from_utf8(joined.text).unwrap();
+    let plain = String::from_utf8(plain).unwrap();
+    let small = "p cnf 1 4\n1 1 0\n1 -1 0\n-1 -1 -1 0\n-1 1 -1 0\n";
+    for (text, left_out, read) in [
+        (text.as_str(), joined.formula.left_out, plain.as_str()),
+        (small, 2, "p cnf 1 2\n1 0\n-1 0\n"),
+    ] {
+        assert!(left_out > 0);
         for form in ["counter", "order"] {
             let words = ["solve", "-", "--form", form, "--proof", &proof];
             let ran = run_with(&words, text.as_bytes());
@@ -130,9 +137,20 @@ fn a_proof_for_a_text_with_repeats_and_tautologies() {
                 (ran.status, ran.out.as_str(), ran.err.as_str()),
                 (20, "s UNSATISFIABLE\n", "")
             );
-            check(text, &fs::read_to_string(&proof).unwrap());
+            let whole = fs::read_to_string(&proof).unwrap();
+            check(text, &whole);
+            let rest = whole.splitn(left_out + 1, '\n').last().unwrap();
+            check(read, rest);
+            assert_eq!(
+                whole,
+                drat::deletions_of_tautologies(text.as_bytes()) + rest
+            );
         }
     }
+    assert_eq!(
+        drat::deletions_of_tautologies(small.as_bytes()),
+        "d 1 -1 0\nd -1 1 0\n"
+    );
 }
 
 /// The solver gets the formula in order form and aligned, unless told otherwise.

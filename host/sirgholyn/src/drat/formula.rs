@@ -1,6 +1,7 @@
 //! The formula that a proof is about, in DIMACS CNF.
 
 use super::line::literal;
+use std::collections::HashSet;
 
 /// The clauses after `c` lines and the header, as many as it says and of variables up to its number. Words are
 /// split by blanks, tabs, CR and LF. Literals may be repeated and opposed.
@@ -22,6 +23,30 @@ pub fn clauses(text: &[u8]) -> Option<Vec<Vec<i32>>> {
         }
     }
     (clause.is_empty() && clauses.len() == count as usize).then_some(clauses)
+}
+
+/// The lines of a proof that delete the clauses of a formula that hold a literal and its negation. They are true
+/// by any assignment, yet a checker may ask that the resolvents with them follow.
+///
+/// ```
+/// use sirgholyn::drat::deletions_of_tautologies;
+/// let formula = b"p cnf 2 3\n1 2 0\n2 -1 2 1 0\n-2 -2 0\n";
+/// assert_eq!(deletions_of_tautologies(formula), "d 2 -1 1 0\n");
+/// ```
+pub fn deletions_of_tautologies(text: &[u8]) -> String {
+    let clauses = clauses(text).unwrap_or_default();
+    clauses
+        .iter()
+        .filter_map(|clause| deletion_of_tautology(clause))
+        .collect()
+}
+
+fn deletion_of_tautology(clause: &[i32]) -> Option<String> {
+    let mut seen = HashSet::new();
+    let different = clause.iter().filter(|&&literal| seen.insert(literal));
+    let words: String = different.map(|literal| format!("{literal} ")).collect();
+    let is_tautology = seen.iter().any(|literal| seen.contains(&-literal));
+    is_tautology.then(|| format!("d {words}0\n"))
 }
 
 fn after_line(text: &[u8]) -> &[u8] {

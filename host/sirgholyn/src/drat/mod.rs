@@ -15,6 +15,7 @@ mod propagation;
 mod variables;
 
 pub use checker::{Checker, Ground};
+pub use formula::deletions_of_tautologies;
 
 use crate::limits::MOST_WORD_SHOWN;
 use crate::shown::shown;

@@ -43,10 +43,12 @@ pub fn solve(args: &Args) -> Result<u8, Failure> {
         (Answer::Printed(printed), proof) => plan(text, &new, &printed, proof),
         (Answer::Unsatisfiable, None) => ended("s UNSATISFIABLE\n", UNSATISFIABLE),
         (Answer::Unsatisfiable, Some(output)) => {
-            let proof = scratch.whole_proof(&new.log)?;
+            let deletions = drat::deletions_of_tautologies(text);
+            let proof = scratch.whole_proof(&[deletions.as_bytes(), &new.log])?;
             let is_checked = !args.has("--no-check");
             if is_checked {
-                check_proof(text, new.tally.lines, &proof)?;
+                let ours = deletions.lines().count() as u64 + new.tally.lines;
+                check_proof(text, ours, &proof)?;
             }
             proved(output, proof, is_checked)
         }
@@ -100,8 +102,9 @@ impl Scratch {
         Ok(scratch)
     }
 
-    /// Our log and the solver's proof after it: a proof of the formula that was handed in, in a file that no solver knows of.
-    fn whole_proof(&self, log: &[u8]) -> Result<File, Failure> {
+    /// Our parts and the solver's proof after them: a proof of the formula that was handed in, in a file that no
+    /// solver knows of.
+    fn whole_proof(&self, ours: &[&[u8]]) -> Result<File, Failure> {
         let mut from = open_proof(&self.proof.path)?;
         let create = |path: &Path| {
             let mut options = OpenOptions::new();
@@ -110,7 +113,7 @@ impl Scratch {
         let copy = |(temporary, mut whole): (Temporary, File)| {
             // without a name it is gone when it is closed
             drop(temporary);
-            whole.write_all(log)?;
+            whole.write_all(&ours.concat())?;
             io::copy(&mut from, &mut whole)?;
             Ok(whole)
         };

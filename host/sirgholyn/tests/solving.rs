@@ -212,8 +212,18 @@ impl Scripted {
     }
 
     fn command(&self, lines: &str) -> Command {
+        self.with_words(Command::new(COMMAND), lines)
+    }
+
+    /// The same with all signals at their default effect, also where the tests run behind a shell's `&`.
+    fn command_by_default_signals(&self, lines: &str) -> Command {
+        let mut command = Command::new("env");
+        command.args(["--default-signal", COMMAND]);
+        self.with_words(command, lines)
+    }
+
+    fn with_words(&self, mut command: Command, lines: &str) -> Command {
         let solver = script(&self.folder, "solver", lines);
-        let mut command = Command::new(COMMAND);
         command
             .args(["solve", &self.input, "--form", "counter", "--no-align"])
             .args(["--solver", &solver, "--proof", &self.proof])
@@ -432,7 +442,7 @@ fn with_busy_solver(scripted: &Scripted) -> (Child, [String; 2]) {
     let _ = fs::remove_file(&pids);
     let lines = format!("sleep 100 & echo $$ $! >{pids}.new; mv {pids}.new {pids}; wait");
     let child = scripted
-        .command(&lines)
+        .command_by_default_signals(&lines)
         .stdout(Stdio::null())
         .stderr(Stdio::piped())
         .spawn()

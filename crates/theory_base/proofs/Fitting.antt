@@ -54,11 +54,6 @@ unfolding highest
 highest-le h [] f = omega arith
 highest-le h (y ∷ c) f = omega (arith, f y (here refl), highest-le h c (λ x i. f x (there i)))
 
-pub highest-of-le : (h : ℕ) (F : Formula) → ((c : Clause) → List·Memᴰ c F → (x : ℤ) → List·Memᴰ x c → natAbs x ≤ h) → highest-of F ≤ h
-unfolding highest-of
-highest-of-le h [] f = omega arith
-highest-of-le h (c ∷ F) f = omega (arith, highest-le h c (f c (here refl)), highest-of-le h F (λ d i. f d (there i)))
-
 pub highest-in-at : (xs : List Line) (x : Line) → List·Memᴰ x xs → highest (literals x) ≤ highest-in xs
 unfolding highest-in
 highest-in-at (y ∷ xs) x (here e) = omega (arith, ap (λ (z : Line). highest (literals z)) e)

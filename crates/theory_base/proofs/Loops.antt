@@ -80,10 +80,6 @@ by-order {X} i k h f g = go (ℕ-discrete i k)
     go (yes d) = f d
     go (no d) = g (omega arith)
 
--- what holds from 1 up to n and at n
-pub one-more : (P : ℕ → Type 0) (n : ℕ) → P n → ((k : ℕ) → 1 ≤ k → k < n → P k) → (k : ℕ) → 1 ≤ k → k < suc n → P k
-one-more P n p h k lo hi = by-order k n (omega arith) (λ d. rw d p) (λ l. h k lo l)
-
 -- ---- the first that passes
 module _ {A : Type 0} where
   pub first-some : (p : A → Bool) (xs : List A) (x : A) → first p xs ≡ some x → List·Memᴰ x xs × T (p x)

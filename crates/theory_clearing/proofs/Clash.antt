@@ -1,29 +1,29 @@
 -- Clearing one clash: what stands after it, and that its lines are sound.
 use mathlib.Core.Path.{_≡_, refl, sym, _∙_, ap}
 use mathlib.Core.Logic.{_≢_, _⊎_, inl, inr, ⊎-elim}
-use mathlib.Core.Bool.{Bool, true, false, not}
+use mathlib.Core.Bool.{Bool, true, false, not, _&&_}
 use mathlib.Core.List.{List, [], _∷_, _++_, List·Memᴰ, List·Memᴰ·head as here, List·Memᴰ·tail as there, Memᴰ·cast, List·Memᴰ·append-cases, List·Memᴰ·eq-of-singleton, Memᴰ·append-left, Memᴰ·append-right}
-use Prim.Native.Nat.{ℕ, _≤_, _<_}
+use Prim.Native.Nat.{ℕ, _+_, _≤_, _<_}
 use native.Mathlib.Omega.{arith}
 use lib.Dec.{T}
 use lib.IntN.{ℤ, pos, negℤ, negℤ-negℤ, natAbs}
 use lib.ListN.{length, length-append}
 use Rattle.definition.specs.Lists.{bit, only-if}
-use Rattle.definition.specs.Literals.{Clause, Formula, without, with-first, opposed}
+use Rattle.definition.specs.Literals.{Clause, Formula, holds, without, with-first, opposed}
 use Rattle.definition.specs.Standing.{Line, addition, deletion, literals, take-out, after}
 use Rattle.definition.specs.Assignments.{Assignment, trues, make-true}
 use Rattle.definition.specs.Events.{Clash, Event}
 use Rattle.definition.specs.Clearing.{times, unique, resolvent, clash-lines}
-use Rattle.theory_base.proofs.Tests.{of-true, differ}
+use Rattle.theory_base.proofs.Tests.{of-true, differ, by-test, second-fails}
 use Rattle.theory_base.proofs.Members.{proper-literal, proper-unopposed, natAbs-neg, holds-false, opposes-mem, mem-opposes}
 use Rattle.theory_base.specs.Clauses.{Same, Proper, Proper-all, Fits, Absent}
 use Rattle.theory_base.proofs.Trues.{negated, trues-cons, trues-at, trues-++, Sat, sat-right}
-use Rattle.theory_base.proofs.Removal.{Removed, takes, removed-++, removed-length, mem-removed, sat-less, sat-more, sat-of}
+use Rattle.theory_base.proofs.Removal.{Removed, takes, removed-++, removed-length, split, mem-removed, sat-less, sat-more, sat-of}
 use Rattle.theory_base.proofs.Replay.{Leads, ends, adds, dels, leads-after}
 use Rattle.theory_soundness.proofs.Sound.{Sound}
 use Rattle.theory_soundness.proofs.Rules.{Clear, stays, absent-stays, add-implied, del-first, del-blocked}
-use Rattle.theory_soundness.proofs.Times.{holds-yes, times-++, times-at, times-removed, none-times, unique-at, unique-some, at-unique, stays-in}
-use Rattle.theory_soundness.proofs.Without.{without-mem, first-same, without-proper, first-proper, trues-order, Known, clear-absent, proper-++}
+use Rattle.theory_soundness.proofs.Times.{holds-yes, times-nil, times-cons, times-++, times-none, times-removed, none-times, unique-at, unique-some, at-unique, stays-in}
+use Rattle.theory_soundness.proofs.Without.{without-mem, mem-without, first-same, without-proper, first-proper, trues-order, Known, clear-absent, proper-++}
 use Rattle.theory_base.proofs.Fitting.{highest-le, Line-fits}
 
 -- ---- by true literals
@@ -57,6 +57,14 @@ pub record Is-clash (F : Formula) (c : Clash) : Type 0 where
   pub other-holds : List·Memᴰ (negℤ (c .v)) (c .other)
   pub other-unique : T (unique F (c .other))
 
+-- a ULC in which the literal stands
+abbrev pub Ulc : Formula → ℤ → Type 0
+Ulc F x = (k : Clause) × List·Memᴰ k F × T (unique F k) × List·Memᴰ x k
+
+-- the literal is one of A's or B's
+abbrev pub In-parents : Clash → ℤ → Type 0
+In-parents c x = List·Memᴰ x (c .one) ⊎ List·Memᴰ x (c .other)
+
 -- A without v and B without -v
 abbrev rest-one : Clash → Clause
 rest-one c = without (c .v) (c .one)
@@ -79,6 +87,14 @@ without-both F c = take-out (first-other c) (take-out (first-one c) F)
 abbrev with-resolvent : Formula → Clash → Bool → Formula
 with-resolvent F c true = without-both F c
 with-resolvent F c false = without-both F c ++ (resolvent c ∷ [])
+
+-- a clause whose literals stand as often is still unique
+unique-still : (F G : Formula) (d : Clause) → ((x : ℤ) → List·Memᴰ x d → times x G ≡ times x F) → T (unique F d) → T (unique G d)
+unique-still F G d h t = at-unique G d (unique-some F d t) (λ x i. h x i ∙ unique-at F d t x i)
+
+mem-some : {x : ℤ} {d : Clause} → List·Memᴰ x d → 1 ≤ length d
+mem-some (here e) = omega arith
+mem-some (there i) = omega arith
 
 module _ (F : Formula) (c : Clash) (p : Proper-all F) (q : Is-clash F c) where
   one-proper : Proper (c .one)
@@ -158,12 +174,14 @@ module _ (F : Formula) (c : Clash) (p : Proper-all F) (q : Is-clash F c) where
       (λ i. proper-unopposed (c .one) one-proper (c .v) (q .one-holds) (without-mem (c .v) (c .one) (negℤ (c .v)) i .0))
       (λ i. without-mem (negℤ (c .v)) (c .other) (negℤ (c .v)) i .1 refl)
 
-  -- the literals of the resolvent stood in a ULC, and those that stand after stood before
-  resolvent-before : (x : ℤ) → List·Memᴰ x (resolvent c) → (k : Clause) × List·Memᴰ k F × T (unique F k) × List·Memᴰ x k
-  resolvent-before x i = ⊎-elim
-      (λ n. (c .one, q .one-stands, q .one-unique, without-mem (c .v) (c .one) x n .0))
-      (λ n. (c .other, q .other-stands, q .other-unique, without-mem (negℤ (c .v)) (c .other) x n .0))
-      (resolvent-mem x i)
+  -- the literals of the resolvent are A's or B's, so they stood in a ULC; and those that stand after stood before
+  resolvent-parents : (x : ℤ) → List·Memᴰ x (resolvent c) → In-parents c x
+  resolvent-parents x i =
+      ⊎-elim (λ n. inl (without-mem (c .v) (c .one) x n .0)) (λ n. inr (without-mem (negℤ (c .v)) (c .other) x n .0)) (resolvent-mem x i)
+
+  resolvent-before : (x : ℤ) → List·Memᴰ x (resolvent c) → Ulc F x
+  resolvent-before x i =
+      ⊎-elim (λ n. (c .one, q .one-stands, q .one-unique, n)) (λ n. (c .other, q .other-stands, q .other-unique, n)) (resolvent-parents x i)
 
   pub literals-before : (d : Clause) → List·Memᴰ d (after F (clash-lines c)) → (x : ℤ) → List·Memᴰ x d → (k : Clause) × List·Memᴰ k F × List·Memᴰ x k
   literals-before d i x j =
@@ -267,30 +285,73 @@ module _ (F : Formula) (c : Clash) (p : Proper-all F) (q : Is-clash F c) where
       go false t (here e) = rw e (resolvent-proper t, highest-le h (resolvent c) (λ y j. let k = resolvent-before y j in f (k .0) (k .1) y (k .3) .1))
       go false t (there j) = deleted j
 
-  -- a literal of a ULC that stands after stood in a ULC before
-  pub ulc-before : (d : Clause) → List·Memᴰ d (after F (clash-lines c)) → T (unique (after F (clash-lines c)) d) → (x : ℤ) → List·Memᴰ x d →
-      (k : Clause) × List·Memᴰ k F × T (unique F k) × List·Memᴰ x k
-  ulc-before d i t x j =
+  -- ---- the ULCs before and after
+  -- no literal of A or B stands in what is left
+  parents-gone : (x : ℤ) → In-parents c x → Absent x (without-both F c)
+  parents-gone x m d i = ⊎-elim (λ j. one-gone x j d (mem-removed other-removed i)) (λ j. other-gone x j d i) m
+
+  -- where the resolvent is not added, they stand nowhere any more
+  pub opposed-gone : opposed (resolvent c) ≡ true → (x : ℤ) → In-parents c x → Absent x (after F (clash-lines c))
+  opposed-gone e x m = rw (clash-after true e) (parents-gone x m)
+
+  after-times : (x : ℤ) (t : Bool) → opposed (resolvent c) ≡ t → times x (after F (clash-lines c)) ≡ times x (without-both F c) + bit (not t && holds x (resolvent c))
+  after-times x true e = omega (arith, ap (times x) (clash-after true e))
+  after-times x false e =
+      omega (arith, ap (times x) (clash-after false e), times-++ x (without-both F c) (resolvent c ∷ []), times-cons x (resolvent c) [], times-nil x)
+
+  -- the literals of the other clauses stand as often as before
+  others-times : (d : Clause) → List·Memᴰ d (without-both F c) → (x : ℤ) → List·Memᴰ x d → times x (after F (clash-lines c)) ≡ times x F
+  others-times d m x n =
+      omega (
+        arith,
+        times-removed x one-removed,
+        times-removed x other-removed,
+        after-times x (opposed (resolvent c)) refl,
+        ap bit (holds-false x (first-one c) (λ k. absent (inl (one-same .0 x k)))),
+        ap bit (holds-false x (first-other c) (λ k. absent (inr (other-same .0 x k)))),
+        ap bit (second-fails (not (opposed (resolvent c))) (holds x (resolvent c)) (holds-false x (resolvent c) (λ k. absent (resolvent-parents x k)))),
+      )
+    where
+      absent : In-parents c x → ⊥
+      absent k = parents-gone x k d m n
+
+  -- a literal of a ULC that stands after stood in one before
+  pub ulc-before : (x : ℤ) → Ulc (after F (clash-lines c)) x → Ulc F x
+  ulc-before x (d, i, t, j) =
       ⊎-elim
-      (λ m. (d, stood-before d m, at-unique F d (unique-some (after F (clash-lines c)) d t) (λ y n. still-once d m y n (unique-at (after F (clash-lines c)) d t y n)), j))
+      (λ m. (d, stood-before d m, unique-still (after F (clash-lines c)) F d (λ y n. sym (others-times d m y n)) t, j))
       (λ m. resolvent-before x (rw (m .0) at j))
       (after-mem d i)
-    where
-      left-times : (y : ℤ) → times y (without-both F c) ≤ times y (after F (clash-lines c))
-      left-times y = go (opposed (resolvent c)) refl
-        where
-          go : (t : Bool) → opposed (resolvent c) ≡ t → times y (without-both F c) ≤ times y (after F (clash-lines c))
-          go true e = rw (clash-after true e) (omega arith)
-          go false e = rw (clash-after false e) (omega (arith, times-++ y (without-both F c) (resolvent c ∷ [])))
 
-      still-once : (d : Clause) → List·Memᴰ d (without-both F c) → (y : ℤ) → List·Memᴰ y d → times y (after F (clash-lines c)) ≡ 1 → times y F ≡ 1
-      still-once d m y n o =
-          omega (
-            arith,
-            times-removed y one-removed,
-            times-removed y other-removed,
-            ap bit (holds-false y (first-one c) (λ k. one-gone y (one-same .0 y k) d (mem-removed other-removed m) n)),
-            ap bit (holds-false y (first-other c) (λ k. other-gone y (other-same .0 y k) d m n)),
-            left-times y,
-            times-at y m n,
-          )
+  -- a clause that stands before stands after, or is A or B
+  parent-or-left : (d : Clause) → List·Memᴰ d F → (x : ℤ) → List·Memᴰ x d → In-parents c x ⊎ List·Memᴰ d (without-both F c)
+  parent-or-left d i x j =
+      ⊎-elim (λ s. inl (inl (one-same .0 x (s .1 x j))))
+      (λ k. ⊎-elim (λ s. inl (inr (other-same .0 x (s .1 x j)))) (λ m. inr m) (split other-removed k))
+      (split one-removed i)
+
+  after-left : (d : Clause) → List·Memᴰ d (without-both F c) → List·Memᴰ d (after F (clash-lines c))
+  after-left d m =
+      by-test (opposed (resolvent c)) (λ e. rw (clash-after true e) m) (λ e. rw (clash-after false e) (Memᴰ·append-left (resolvent c ∷ []) m))
+
+  -- a literal of a ULC that stands before stands in one after, or is A's or B's
+  pub ulc-after : (x : ℤ) → Ulc F x → In-parents c x ⊎ Ulc (after F (clash-lines c)) x
+  ulc-after x (d, i, t, j) =
+      ⊎-elim (λ m. inl m)
+      (λ m. inr (d, after-left d m, unique-still F (after F (clash-lines c)) d (others-times d m) t, j))
+      (parent-or-left d i x j)
+
+  -- the literals of A and B other than v and -v stand in the resolvent, a ULC
+  in-resolvent : (x : ℤ) → In-parents c x → natAbs (c .v) ≢ natAbs x → List·Memᴰ x (resolvent c)
+  unfolding resolvent
+  in-resolvent x (inl i) n = ⊎-elim (λ e. absurd (n (ap natAbs (sym e)))) (λ j. Memᴰ·append-left (rest-other c) j) (mem-without (c .v) (c .one) x i)
+  in-resolvent x (inr i) n =
+      ⊎-elim (λ e. absurd (n (sym (natAbs-neg (c .v)) ∙ ap natAbs (sym e)))) (λ j. Memᴰ·append-right (rest-one c) j) (mem-without (negℤ (c .v)) (c .other) x i)
+
+  pub resolvent-ulc : opposed (resolvent c) ≡ false → (x : ℤ) → In-parents c x → natAbs (c .v) ≢ natAbs x → Ulc (after F (clash-lines c)) x
+  resolvent-ulc e x m n =
+      let i = in-resolvent x m n in
+      (resolvent c, rw (clash-after false e) (Memᴰ·append-right (without-both F c) (here refl)), at-unique (after F (clash-lines c)) (resolvent c) (mem-some i) once, i)
+    where
+      once : (y : ℤ) → List·Memᴰ y (resolvent c) → times y (after F (clash-lines c)) ≡ 1
+      once y j = omega (arith, after-times y false e, times-none y (without-both F c) (parents-gone y (resolvent-parents y j)), ap bit (holds-yes y (resolvent c) j))

@@ -84,7 +84,7 @@ pub record Lowest (F : Formula) (c : Clash) : Type 0 where
   pub literal : c .v ≡ pos variable
   pub lowest : (n : ℕ) → 1 ≤ n → n < variable → clash-at F n ≡ none
 
-lowest-some : (F : Formula) (c : Clash) → lowest-clash F ≡ some c → Lowest F c
+pub lowest-some : (F : Formula) (c : Clash) → lowest-clash F ≡ some c → Lowest F c
 unfolding lowest-clash
 lowest-some F c e =
     let r = first-from-some (clash-at F) 1 (highest-of F) c e in
@@ -164,10 +164,14 @@ clears-lines-fit {h} {F} p f (next {c = c} l s) x i = ⊎-elim
     (List·Memᴰ·append-cases (clash-lines c) i)
 
 -- as many as clauses are enough
+pub empty-none : (F : Formula) → length F ≤ 0 → lowest-clash F ≡ none
+unfolding lowest-clash highest-of first-from
+empty-none [] b = refl
+empty-none (d ∷ F) b = absurd (omega arith)
+
 up-to-none-left : (n : ℕ) (F : Formula) → Proper-all F → length F ≤ n → lowest-clash (after F (lines (clear-up-to n F))) ≡ none
-unfolding clear-up-to clear-next lines lines-of for-each after lowest-clash highest-of first-from
-up-to-none-left zero [] p b = refl
-up-to-none-left zero (d ∷ F) p b = absurd (omega arith)
+unfolding clear-up-to clear-next lines lines-of for-each after
+up-to-none-left zero F p b = empty-none F b
 up-to-none-left (suc n) F p b = go (lowest-clash F) refl (up-to-none-left n)
   where
     go : (o : Option Clash) → lowest-clash F ≡ o → ((X : Formula) → Proper-all X → length X ≤ n → lowest-clash (after X (lines (clear-up-to n X))) ≡ none) →

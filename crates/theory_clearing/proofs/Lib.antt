@@ -1,6 +1,6 @@
 pub mod Clash
 pub mod Clashes
-pub mod Scan
+pub mod Clashing
 pub mod Pure
 pub mod Pass
 pub mod Cleared

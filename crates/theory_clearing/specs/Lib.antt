@@ -1,2 +1,2 @@
 pub mod Clashes
-pub mod Scan
+pub mod Clashing

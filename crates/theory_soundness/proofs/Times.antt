@@ -1,5 +1,5 @@
 -- In how many clauses a literal stands.
-use mathlib.Core.Path.{_≡_, refl, ap}
+use mathlib.Core.Path.{_≡_, refl, sym, _∙_, ap}
 use mathlib.Core.Logic.{⊎-elim}
 use mathlib.Core.Bool.{Bool, true, false}
 use mathlib.Core.List.{[], _∷_, _++_, List·Memᴰ, List·Memᴰ·head as here, List·Memᴰ·tail as there}
@@ -82,3 +82,10 @@ at-unique F c b h =
 -- a literal in two clauses
 pub two-clauses : (x : ℤ) (k : Clause) (F : Formula) → List·Memᴰ x k → (d : Clause) → List·Memᴰ d F → List·Memᴰ x d → 2 ≤ times x (k ∷ F)
 two-clauses x k F i d j m = omega (arith, times-at x j m, times-cons x k F, ap bit (holds-yes x k i))
+
+-- a literal that stands in one clause
+pub one-clause : (l : ℤ) (F : Formula) → times l F ≡ 1 → (a b : Clause) → List·Memᴰ a F → List·Memᴰ l a → List·Memᴰ b F → List·Memᴰ l b → a ≡ b
+one-clause l (d ∷ F) e a b (here i) m (here j) n = i ∙ sym j
+one-clause l (d ∷ F) e a b (here i) m (there j) n = absurd (omega (arith, two-clauses l d F (rw i at m) b j n))
+one-clause l (d ∷ F) e a b (there i) m (here j) n = absurd (omega (arith, two-clauses l d F (rw j at n) a i m))
+one-clause l (d ∷ F) e a b (there i) m (there j) n = one-clause l F (omega (arith, times-at l i m, times-cons l d F)) a b i m j n

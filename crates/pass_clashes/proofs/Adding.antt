@@ -5,9 +5,9 @@ use mathlib.Core.List.{List, [], _∷_, _++_, List·Memᴰ}
 use Prim.Native.Nat.{ℕ, _+_, _-_, _≤_, _<_, _^_}
 use native.Mathlib.Omega.{arith}
 use lib.IntN.{ℤ, pos, negℤ}
-use lib.ListN.{length, take, drop, length-append, replicate}
+use lib.ListN.{length, take, drop, length-append}
 use lib.Seq.{length-take-le, sets, length-sets}
-use Rattle.definition.specs.Lists.{any, only-if, those}
+use Rattle.definition.specs.Lists.{only-if, those}
 use Rattle.definition.specs.Literals.{Clause, same, without, opposed}
 use Rattle.definition.specs.Text.{Bytes}
 use Rattle.definition.specs.Standing.{addition}
@@ -21,20 +21,17 @@ use Rattle.theory_base.proofs.Fitting.{proper-fits, proper-length}
 use Rattle.theory_soundness.proofs.Times.{unique-at}
 use Rattle.theory_clearing.proofs.Clash.{Is-clash}
 use Rattle.theory_clearing.proofs.Clashes.{clash-at-some}
-use Rattle.literals.specs.Literal.{header-literals, signed-of}
+use Rattle.literals.specs.Literal.{header-literals}
 use Rattle.literals.proofs.Laws.{signed-small}
 use Rattle.store.specs.Store.{stored, entry, clause-at, past}
-use Rattle.tables.specs.Entries.{tallied}
 use Rattle.store.proofs.Laws.{formed-next, prefix-header, prefix-clause, part-there}
 use Rattle.progress.specs.declared.Progress.{Progress}
 use Rattle.progress.specs.Progress.{Written}
 use Rattle.progress.specs.Growth.{Grown}
 use Rattle.progress.proofs.Growing.{grown-none, added-grown}
-use Rattle.tables.specs.Sizes.{input-reach, input-size}
-use Rattle.pass_clashes.specs.Places.{Stands-at}
-use Rattle.pass_clashes.specs.Clashes.{clash-there}
-use Rattle.pass_clashes.specs.Resolving.{opposite-in, joined, Joinable, added-by, Resolvable, Parents}
-use Rattle.pass_clashes.proofs.Opposed.{opposed-is}
+use Rattle.tables.specs.Sizes.{input-reach}
+use Rattle.pass_clashes.specs.Clashes.{Stands-at, clash-there}
+use Rattle.pass_clashes.specs.Resolving.{joined, Joinable, added-by, Resolvable, Parents}
 
 -- ---- a clause of the store, as a part of the workspace
 module _ (work : List ℤ) (end at : ℕ) {n : ℕ} (p : Stands-at (take end work) at) (l : end ≤ length work) (e : n ≡ past work at) where
@@ -90,6 +87,9 @@ module _ {work : List ℤ} {p : Progress} {v x y : ℕ} (r : Resolvable work p v
     other-once = unique-at (stored s) (c .other) (is-clash .other-unique) (negℤ (pos v)) (is-clash .other-holds);
     apart = λ i. proper-unopposed (c .one) (r .good .proper (c .one) (is-clash .one-stands)) (pos v) (is-clash .one-holds) i;
     small = variable-small;
+    one-proper = r .good .proper (c .one) (is-clash .one-stands);
+    other-proper = r .good .proper (c .other) (is-clash .other-stands);
+    other-fits = r .good .fits (c .other) (is-clash .other-stands);
   }
 
   short : (d : Clause) → List·Memᴰ d (stored s) → length d ≤ input-reach
@@ -113,10 +113,10 @@ module _ {work : List ℤ} {p : Progress} {v x y : ℕ} (r : Resolvable work p v
   pub other-within : y < length work
   other-within = omega (arith, r .clash .other-stands .inside, length-take-le (p .end) work (r .good .inside), r .good .inside)
 
-  pub one-inside : {e : ℕ} → e ≡ past work x → (x + 1 ≤ e) × (e ≤ p .end) × (e ≤ length work)
+  one-inside : {e : ℕ} → e ≡ past work x → (x + 1 ≤ e) × (e ≤ p .end) × (e ≤ length work)
   one-inside i = let k = part-inside work (p .end) x (r .clash .one-stands) (r .good .inside) i in (k .0, k .1, omega (arith, k .1, r .good .inside))
 
-  pub other-inside : {e : ℕ} → e ≡ past work y → (y + 1 ≤ e) × (e ≤ p .end) × (e ≤ length work)
+  other-inside : {e : ℕ} → e ≡ past work y → (y + 1 ≤ e) × (e ≤ p .end) × (e ≤ length work)
   other-inside i = let k = part-inside work (p .end) y (r .clash .other-stands) (r .good .inside) i in (k .0, k .1, omega (arith, k .1, r .good .inside))
 
   -- the store has room for what is added
@@ -148,14 +148,6 @@ module _ {work : List ℤ} {p : Progress} {v x y : ℕ} (r : Resolvable work p v
 
     other-part : take nb (drop b work) ≡ c .other
     other-part = part-clause work (p .end) y (r .clash .other-stands) (r .good .inside) j
-
-    -- the test by a table of the one part
-    pub parts-opposed : {t : Bool} → t ≡ any (opposite-in (tallied (replicate input-size 0) (take na (drop a work))) (signed-of true v)) (take nb (drop b work)) → t ≡ opposed (resolvent c)
-    unfolding resolvent
-    parts-opposed h =
-        h ∙ ap (λ (z : ℤ). any (opposite-in (tallied (replicate input-size 0) (take na (drop a work))) z) (take nb (drop b work))) (signed-small true v (omega (arith, variable-small)))
-        ∙ ap₂ (λ (x y : Clause). any (opposite-in (tallied (replicate input-size 0) x) (negℤ (pos v))) y) one-part other-part
-        ∙ opposed-is (c .one) (c .other) (pos v) (r .good .proper (c .one) (is-clash .one-stands)) (r .good .proper (c .other) (is-clash .other-stands)) (λ x i. r .good .fits (c .other) (is-clash .other-stands) x i .1)
 
     joined-is : joined work a na b nb v ≡ resolvent c
     unfolding resolvent

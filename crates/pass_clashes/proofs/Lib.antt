@@ -1,8 +1,8 @@
-pub mod Filling
-pub mod Search
+pub mod Parents
+pub mod Marking
+pub mod Finding
 pub mod Copying
 pub mod Opposed
-pub mod Parents
 pub mod Adding
 pub mod Resolved
 pub mod Scanning

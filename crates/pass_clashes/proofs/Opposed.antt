@@ -1,28 +1,33 @@
 -- The test by a table of the one clause says whether the resolvent is opposed: both clauses are proper, so opposed literals come one from each. Assumes nothing.
-use mathlib.Core.Path.{_≡_, refl, sym, ap, _∙_}
+use mathlib.Core.Path.{_≡_, refl, sym, ap, ap₂, _∙_}
 use mathlib.Core.Logic.{_⊎_, inl, inr, ⊎-elim}
 use mathlib.Core.Bool.{Bool, true, false, not}
 use mathlib.Core.List.{List, [], _∷_, _++_, List·Memᴰ, List·Memᴰ·append-cases, List·Memᴰ·eq-of-singleton, Memᴰ·append-left, Memᴰ·append-right, Memᴰ·cast}
-use Prim.Native.Nat.{ℕ, _+_, _≤_}
+use Prim.Native.Nat.{ℕ, _+_, _-_, _≤_}
 use native.Mathlib.Omega.{arith}
 use lib.Dec.{T, eqb}
-use lib.IntN.{ℤ, negℤ, negℤ-negℤ, natAbs}
+use lib.IntN.{ℤ, pos, negℤ, negℤ-negℤ, natAbs}
 use mir.Syntax.{w32}
 use mir.Val.{SFits, ofZ, toZ}
-use lib.ListN.{replicate}
+use lib.ListN.{length, take, drop, replicate}
 use Rattle.definition.specs.Lists.{bit, any}
 use Rattle.definition.specs.Literals.{Clause, same, holds, without, opposed}
 use Rattle.theory_base.proofs.Tests.{of-true, to-true, not-true, of-false, and-l, and-r, and-i, each-way}
 use Rattle.theory_base.proofs.Members.{any-mem, mem-any, unlike, unlike-false, holds-mem, mem-holds, opposes-mem, mem-opposes, proper-unopposed, natAbs-neg}
 use Rattle.theory_base.specs.Clauses.{Proper}
-use Rattle.literals.proofs.Laws.{negation-small, at-arg, at-arg2}
+use Rattle.definition.specs.Clearing.{resolvent}
+use Rattle.literals.specs.Literal.{signed-of}
+use Rattle.literals.proofs.Laws.{signed-small, negation-small, at-arg, at-arg2}
+use Rattle.store.specs.Store.{clause-at, past}
+use Rattle.store.proofs.Laws.{formed-next, part-there}
 use Rattle.theory_soundness.proofs.Times.{times-nil, times-cons}
 use Rattle.theory_soundness.proofs.Without.{without-mem, mem-without}
 use Rattle.tables.specs.Entries.{entry-of, tallied, tallied-all}
 use Rattle.tables.specs.Counts.{Counts, pure-in}
 use Rattle.tables.specs.Sizes.{input-reach, input-size}
 use Rattle.tables.proofs.Counting.{counted-table}
-use Rattle.pass_clashes.specs.Resolving.{opposite-in}
+use Rattle.pass_clashes.specs.Clashes.{clash-there}
+use Rattle.pass_clashes.specs.Resolving.{opposite-in, Parents}
 
 module _ (A B : Clause) (v : ℤ) (p : Proper A) (q : Proper B) (f : (x : ℤ) → List·Memᴰ x B → natAbs x ≤ input-reach) where
   abbrev t : List ℕ
@@ -76,6 +81,19 @@ module _ (A B : Clause) (v : ℤ) (p : Proper A) (q : Proper B) (f : (x : ℤ) �
       each-way {a = any (opposite-in t (negℤ v)) B} {b = opposed joint}
       (λ u. let r = any-mem (opposite-in t (negℤ v)) B u in opposite-mem (r .0) (r .1) (r .2))
       (λ u. let r = opposes-mem joint joint u in opposed-mem (r .0) (List·Memᴰ·append-cases (without v A) (r .1)) (List·Memᴰ·append-cases (without v A) (r .2)))
+
+-- ---- the clauses at two places
+module _ {s : List ℤ} {v x y e f : ℕ} (p : Parents s v x y) (i : e ≡ past s x) (j : f ≡ past s y) where
+  pub parts-opposed : {t : Bool} → t ≡ any (opposite-in (tallied (replicate input-size 0) (take (e - (x + 1)) (drop (x + 1) s))) (signed-of true v)) (take (f - (y + 1)) (drop (y + 1) s)) →
+      t ≡ opposed (resolvent (clash-there s v x y))
+  unfolding resolvent
+  parts-opposed h =
+      h ∙ ap (λ (z : ℤ). any (opposite-in (tallied (replicate input-size 0) (take (e - (x + 1)) (drop (x + 1) s))) z) (take (f - (y + 1)) (drop (y + 1) s))) (signed-small true v (omega (arith, p .small)))
+      ∙ ap₂ (λ (a b : Clause). any (opposite-in (tallied (replicate input-size 0) a) (negℤ (pos v))) b) (part-there s x e i) (part-there s y f j)
+      ∙ opposed-is (clause-at s x) (clause-at s y) (pos v) (p .one-proper) (p .other-proper) (λ z m. p .other-fits z m .1)
+
+  pub parts-inside : (x + 1 ≤ e) × (e ≤ length s) × (y + 1 ≤ f) × (f ≤ length s)
+  parts-inside = omega (arith, i, j, formed-next s x (p .one-stands .inside) (p .one-stands .place .rest) .0, formed-next s y (p .other-stands .inside) (p .other-stands .place .rest) .0)
 
 -- ---- one literal, by what `same` and `is_pure` answer
 module _ (t : List ℕ) (out l : ℤ) (a : SFits w32 out) (b : SFits w32 l) {r : Bool} (e : r ≡ same (toZ w32 (ofZ w32 out)) (toZ w32 (ofZ w32 l))) where

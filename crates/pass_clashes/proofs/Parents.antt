@@ -24,8 +24,7 @@ use Rattle.store.proofs.Laws.{place-within, place-formed, place-prefix, prefix-
 use Rattle.progress.specs.declared.Progress.{Progress}
 use Rattle.progress.specs.Progress.{Written, Log-room}
 use Rattle.progress.proofs.Laws.{written-then, room-rest}
-use Rattle.pass_clashes.specs.Places.{Stands-at}
-use Rattle.pass_clashes.specs.Clashes.{clash-there}
+use Rattle.pass_clashes.specs.Clashes.{Stands-at, clash-there}
 use Rattle.pass_clashes.specs.Resolving.{parent-lines, Parents, Parents-gone}
 
 -- ---- two places
@@ -98,7 +97,7 @@ once-removed {s} {at} l p i e =
     rw (around, marked-stored s at (p .inside) (p .place) (p .stands)) (only-removed l (clause-at s at) (stored (take at s)) (stored (drop (past s at) s)) i (sym (ap (times l) around) ∙ e))
 
 -- the clause stands in the list
-standing-mem : {s : List ℤ} {at : ℕ} → Stands-at s at → List·Memᴰ (clause-at s at) (stored s)
+pub standing-mem : {s : List ℤ} {at : ℕ} → Stands-at s at → List·Memᴰ (clause-at s at) (stored s)
 standing-mem {s} {at} p = rw (stored-around s at (p .inside) (p .place) (p .stands)) (Memᴰ·append-right (stored (take at s)) (here refl))
 
 -- ---- both are deleted

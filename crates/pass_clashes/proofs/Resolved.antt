@@ -1,11 +1,11 @@
 -- A clash is cleared: the resolvent holds neither literal of the variable, so its two clauses stay where they are and are the only ones with them. Assumes nothing.
 use mathlib.Core.Path.{_≡_, refl, sym, ap, ap₂, subst, _∙_}
 use mathlib.Core.Logic.{⊎-elim}
-use mathlib.Core.Bool.{Bool, true, false, not}
+use mathlib.Core.Bool.{Bool, true, false, not, _&&_}
 use mathlib.Core.List.{List, [], _∷_, _++_, map, append-nil, List·Memᴰ, List·Memᴰ·append-cases}
 use Prim.Native.Nat.{ℕ, _≤_, _<_}
 use native.Mathlib.Omega.{arith}
-use lib.IntN.{ℤ, pos, negℤ}
+use lib.IntN.{ℤ, pos, negℤ, natAbs}
 use lib.ListN.{length, take, drop, length-append, length-drop}
 use lib.Seq.{length-take-le, take-take, take-at}
 use Rattle.definition.specs.Lists.{bit, only-if}
@@ -19,6 +19,8 @@ use Rattle.theory_base.proofs.Members.{proper-unopposed, holds-false}
 use Rattle.theory_base.proofs.Replay.{after-++, after-additions}
 use Rattle.theory_soundness.proofs.Times.{times-++, times-cons, times-nil}
 use Rattle.theory_soundness.proofs.Without.{without-mem}
+use Rattle.theory_clearing.specs.Clashing.{mentions}
+use Rattle.marks.specs.Marks.{marked, Without-mark}
 use Rattle.literals.specs.Literal.{negative, header-literals}
 use Rattle.store.specs.Store.{Formed, stored, clause-at, past}
 use Rattle.store.proofs.Laws.{place-within, formed-next, prefix-header, prefix-clause}
@@ -27,9 +29,10 @@ use Rattle.progress.specs.Progress.{Log-room, Runs}
 use Rattle.progress.specs.Growth.{entries, Grown}
 use Rattle.progress.proofs.Laws.{lines-one, written-then, room-rest, Holds, runs-lines}
 use Rattle.progress.proofs.Growing.{grown-filled, grown-holds}
-use Rattle.pass_clashes.specs.Places.{Stands-at}
-use Rattle.pass_clashes.specs.Clashes.{clash-there}
-use Rattle.pass_clashes.specs.Resolving.{added-by, parent-lines, Resolvable, Parents, Parents-gone}
+use Rattle.pass_clashes.specs.Clashes.{Stands-at, clash-there}
+use Rattle.pass_clashes.specs.Marking.{Unmarked}
+use Rattle.pass_clashes.specs.Resolving.{added-by, parent-lines, Resolvable, Parents, Parents-gone, Ended}
+use Rattle.pass_clashes.proofs.Marking.{neither}
 use Rattle.pass_clashes.proofs.Adding.{is-clash, parents, added-room}
 
 -- a clause keeps its place in a longer store
@@ -119,6 +122,9 @@ module _ {work : List ℤ} {p : Progress} {v x y : ℕ} (r : Resolvable work p v
       other-once = ap (times (negℤ (pos v))) (there .stands) ∙ times-kept (negℤ (pos v)) (stored s) c negation-gone ∙ parents r .other-once;
       apart = λ i. parents r .apart (rw (one-kept .1) at i);
       small = parents r .small;
+      one-proper = rw (one-kept .1) (parents r .one-proper);
+      other-proper = rw (other-kept .1) (parents r .other-proper);
+      other-fits = rw (other-kept .1) (parents r .other-fits);
     }
 
     pub room-kept : Log-room (parent-lines (clash-there t v x y)) q
@@ -135,3 +141,11 @@ module _ {work : List ℤ} {p : Progress} {v x y : ℕ} (r : Resolvable work p v
         (record { inside = omega (arith, o, n, size, g .kept); formed = rw k (g .formed); stands = ap stored k })
         (h .stands ∙ ap (λ (f : Formula). after f (parent-lines c)) (there .stands ∙ sym (after-additions (stored s) (added-by c))) ∙ sym (after-++ (stored s) (map addition (added-by c)) (parent-lines c)) ∙ ap (after (stored s)) (sym l))
         (rw l (written-then (d .written) (h .written)))
+
+-- ---- the marks of the clashes that end
+module _ (c : Clash) (m new : List ℕ) where
+  pub ended-dropped : (mid : List ℕ) → opposed (resolvent c) ≡ true → Unmarked m (c .one) mid → Unmarked mid (c .other) new → Ended c m new
+  ended-dropped mid o a b v = rw o (b v ∙ ap (λ (k : Bool). not (mentions (c .other) v) && k) (a v) ∙ neither (mentions (c .one) v) (mentions (c .other) v) (marked m v))
+
+  pub ended-added : opposed (resolvent c) ≡ false → Without-mark m (natAbs (c .v)) new → Ended c m new
+  ended-added o a v = rw o (a v)

@@ -1,12 +1,14 @@
--- The scan over the variables: the events that happened, and those that are left from the next variable on, are always all the events. Assumes nothing.
-use mathlib.Core.Path.{_≡_, refl, sym, ap, ap₂, subst, _∙_}
+-- Clearing by marks: the lowest mark is the lowest variable that clashes, so its clash is the first event left; after it the marks left are the clashes left. Assumes nothing.
+use mathlib.Core.Path.{_≡_, refl, sym, ap, subst, _∙_}
+use mathlib.Core.Bool.{Bool, true, false, not, _&&_}
 use mathlib.Core.List.{List, [], _∷_, _++_, append-assoc, append-nil}
-use mathlib.Core.Option.{some, none}
-use Prim.Native.Nat.{ℕ, zero, suc, _+_, _-_, _≤_, _<_}
-use native.Mathlib.Numerals.{add-one}
+use mathlib.Core.Option.{some}
+use Prim.Native.Nat.{ℕ, _+_, _*_, _/_, _≤_, _<_}
 use native.Mathlib.Omega.{arith}
-use lib.IntN.{ℤ}
-use lib.ListN.{take}
+use lib.Dec.{ltb}
+use lib.IntN.{ℤ, natAbs}
+use lib.ListN.{length, take}
+use borrow.Author.Tests.{ltb-true, ltb-false}
 use Rattle.definition.specs.Literals.{Formula}
 use Rattle.definition.specs.Text.{Bytes}
 use Rattle.definition.specs.Standing.{after}
@@ -15,59 +17,30 @@ use Rattle.definition.specs.Clearing.{clash-at, clash-lines, clear-clashes}
 use Rattle.definition.specs.Reencoding.{lines, lines-of}
 use Rattle.definition.specs.Calls.{numbers-of}
 use Rattle.theory_base.specs.Clauses.{Proper-all, Fits}
-use Rattle.theory_base.proofs.Fitting.{highest-of-le}
+use Rattle.theory_base.proofs.Tests.{by-test, second-fails}
 use Rattle.theory_base.proofs.Replay.{after-++, lines-++}
-use Rattle.theory_clearing.specs.Scan.{scan-next, scan-from}
-use Rattle.theory_clearing.proofs.Clash.{after-proper, after-fits}
+use Rattle.theory_clearing.specs.Clashing.{clashes, ends}
+use Rattle.theory_clearing.proofs.Clash.{Is-clash, after-proper, after-fits, after-shorter}
 use Rattle.theory_clearing.proofs.Clashes.{clash-at-some}
-use Rattle.theory_clearing.proofs.Scan.{scan-clashes}
+use Rattle.theory_clearing.proofs.Clashing.{clashes-some, clashes-after, clear-clashes-at, clear-clashes-none}
+use Rattle.marks.specs.Marks.{input-words, marked, lowest-from}
+use Rattle.marks.specs.declared.Lowest.the-variants.{At, Nothing}
+use Rattle.marks.proofs.Laws.{lowest-marked, none-past}
+use Rattle.tables.specs.Sizes.{input-reach}
 use Rattle.progress.specs.declared.Progress.{Progress}
-use Rattle.progress.specs.Progress.{standing, Good, Runs}
-use Rattle.progress.proofs.Laws.{lines-none, lines-one, runs-nothing, runs-join, good-up, good-first, good-rest, good-still}
-use Rattle.pass_clashes.specs.Clashes.{Free, clash-there, Next}
-use Rattle.pass_clashes.specs.Resolving.{Resolvable}
-use Rattle.pass_clashes.specs.Scan.{Clash-ready, events-from, events-left, Scanned}
-use Rattle.pass_clashes.specs.declared.NextClash.the-variants.{At, Nothing}
+use Rattle.progress.specs.Progress.{standing, Runs}
+use Rattle.progress.proofs.Laws.{lines-none, lines-one, runs-nothing, runs-join, good-first, good-rest}
+use Rattle.pass_clashes.specs.Marking.{Marks-clashes}
+use Rattle.pass_clashes.specs.Clashes.{clash-there, Clashing}
+use Rattle.pass_clashes.specs.Resolving.{Resolvable, Ended}
+use Rattle.pass_clashes.specs.Scan.{Clash-ready, Searching, Scanned, turns-left}
 use Rattle.pass_clashes.specs.declared.Scan.{Scan}
 
--- ---- the events of the variables from one on
-
-scan-free : (i n k : ℕ) (F : Formula) → k ≤ n → ((j : ℕ) → i ≤ j → j < i + k → clash-at F j ≡ none) → scan-from i n F ≡ scan-from (i + k) (n - k) F
-unfolding scan-from scan-next
-scan-free i n zero F h f =
-    let a : i ≡ i + 0 = omega arith in
-    let b : n ≡ n - 0 = omega arith in
-    ap₂ (λ (x y : ℕ). scan-from x y F) a b
-scan-free i zero (suc k) F h f = absurd (omega arith)
-scan-free i (suc n) (suc k) F h f =
-    let e : clash-at F i ≡ none = f i (omega arith) (omega arith) in
-    let a : suc i + k ≡ i + suc k = omega arith in
-    let b : n - k ≡ suc n - suc k = omega arith in
-    rw e (scan-free (suc i) n k F (omega arith) (λ j lo hi. f j (omega arith) (omega arith)) ∙ ap₂ (λ (x y : ℕ). scan-from x y F) a b)
-
--- variables without a clash are passed over
-events-free : (v w variables : ℕ) (F : Formula) → v ≤ w → w ≤ variables + 1 → Free F v w → events-from v variables F ≡ events-from w variables F
-events-free v w variables F a b f =
-    let d : v + (w - v) ≡ w = omega arith in
-    let e : variables + 1 - v - (w - v) ≡ variables + 1 - w = omega arith in
-    scan-free v (variables + 1 - v) (w - v) F (omega arith) (λ j lo hi. f j lo (omega arith)) ∙ ap₂ (λ (x y : ℕ). scan-from x y F) d e
-
-events-none : (v variables : ℕ) (F : Formula) → variables < v → events-from v variables F ≡ []
-unfolding scan-from
-events-none v variables F h = let e : variables + 1 - v ≡ 0 = omega arith in ap (λ (n : ℕ). scan-from v n F) e
-
-events-clash : (v variables : ℕ) (F : Formula) (c : Clash) → v ≤ variables → clash-at F v ≡ some c → events-from v variables F ≡ clash-cleared c ∷ events-from (v + 1) variables (after F (clash-lines c))
-unfolding scan-from scan-next
-events-clash v variables F c h e =
-    let n : variables + 1 - v ≡ suc (variables + 1 - (v + 1)) = omega arith in
-    ap (λ (k : ℕ). scan-from v k F) n ∙ rw e (ap (λ (k : ℕ). clash-cleared c ∷ scan-from k (variables + 1 - (v + 1)) (after F (clash-lines c))) (sym (add-one v)))
-
 -- ---- what the other events need where the first ran
-ready-rest : (xs ys : List Event) {work new : List ℤ} {log new-log : Bytes} {p r : Progress} {variables : ℕ} → Clash-ready (xs ++ ys) work p variables → Runs xs work log p new new-log r
-    → Proper-all (after (standing work p) (lines xs)) → Fits variables (after (standing work p) (lines xs)) → Clash-ready ys new r variables
+ready-rest : (xs ys : List Event) {work new : List ℤ} {log new-log : Bytes} {p r : Progress} → Clash-ready (xs ++ ys) work p → Runs xs work log p new new-log r
+    → Proper-all (after (standing work p) (lines xs)) → Fits input-reach (after (standing work p) (lines xs)) → Clash-ready ys new r
 ready-rest xs ys {work} {new} {p = p} {r = r} k g a b = record {
   good = good-rest xs ys (k .good) g a b;
-  within = k .within;
   space = λ us vs c e o.
       omega (
         arith,
@@ -89,101 +62,141 @@ after-clash : (F : Formula) (c : Clash) → after F (lines (clash-cleared c ∷ 
 unfolding lines-of
 after-clash F c = ap (after F) (lines-one (clash-cleared c))
 
--- ---- a turn of the scan: the store slid down, then the next clash cleared
-module _ {work mid : List ℤ} {log : Bytes} {z : Scan} {q : Progress} {variables : ℕ} (order : z .next ≤ variables) (r : Clash-ready (events-left work z variables) work (z .progress) variables)
-    (k : Runs [] work log (z .progress) mid log q) where
+-- ---- the lowest mark
+module _ {work : List ℤ} {m : List ℕ} {z : Scan} (s : Searching work m z) where
   abbrev F : Formula
   F = standing work (z .progress)
 
-  abbrev t : List ℤ
-  t = take (q .end) mid
+  stays : (log : Bytes) → Runs [] work log (z .progress) work log (z .progress)
+  stays log = runs-nothing log (z .progress) (z .progress) refl (record { inside = s .ready .good .inside; formed = s .ready .good .formed; stands = refl }) refl refl
 
-  same : standing mid q ≡ F
-  same = k .stands ∙ after-none F
+  -- no variable below the lowest mark is marked
+  none-below : (v : ℕ) → ((k : ℕ) → 32 * z .word ≤ k → k < v → marked m k ≡ false) → (k : ℕ) → k < v → marked m k ≡ false
+  none-below v f k h = by-test (ltb k (32 * z .word)) (λ t. s .passed k (ltb-true k _ t)) (λ t. f k (ltb-false k _ t) h)
 
-  slid-ready : {es : List Event} → events-left work z variables ≡ es → Clash-ready es mid q variables
-  slid-ready {es} e =
-      ready-rest [] es (subst (λ (ds : List Event). Clash-ready ds work (z .progress) variables) e r) k (rw (after-none F) (r .good .proper)) (rw (after-none F) (r .good .fits))
+  -- none is marked
+  module _ (e : lowest-from m (32 * z .word) ≡ Nothing) where
+    none-marked : (k : ℕ) → marked m k ≡ false
+    none-marked k = none-below (k + 1) (λ i a _. lowest-marked m (32 * z .word) .none-marked e i a) k (omega arith)
 
-  pub search-good : Good variables [] mid q
-  search-good = good-first [] (events-left work z variables) (good-still (r .good) k)
+    pub scanned-none : (log : Bytes) → Scanned work log m z work log m (record { progress = z .progress; word = length m })
+    scanned-none log = record { events = []; runs = stays log; rest = refl; searching = record { ready = s .ready; exact = s .exact; passed = λ k _. none-marked k; size = s .size } }
 
-  -- there is none
-  pub scanned-none : Next t (z .next) variables Nothing → Scanned variables work log z mid log (record { progress = q; next = variables + 1 })
-  scanned-none f =
-      let l : events-left work z variables ≡ events-from (variables + 1) variables (standing mid q) = ap (events-from (z .next) variables) (sym same) ∙ events-free (z .next) (variables + 1) variables (standing mid q) (omega arith) (omega arith) f in
-      record { events = []; runs = k; rest = sym l; ready = slid-ready l; order = omega arith }
+  pub none-fewer : z .word < length m → turns-left work (record { progress = z .progress; word = length m }) < turns-left work z
+  none-fewer h = omega (arith, s .size)
 
-  -- there is one
-  module _ {v x y : ℕ} (f : Next t (z .next) variables (At v x y)) where
-    abbrev c : Clash
-    c = clash-there t v x y
+  -- v is the lowest
+  module _ {v : ℕ} (e : lowest-from m (32 * z .word) ≡ At v) where
+    lowest : (32 * z .word ≤ v) × (marked m v ≡ true) × ((k : ℕ) → 32 * z .word ≤ k → k < v → marked m k ≡ false)
+    lowest = lowest-marked m (32 * z .word) .found v e
 
-    abbrev others : List Event
-    others = events-from (v + 1) variables (after F (clash-lines c))
+    below : (k : ℕ) → k < v → marked m k ≡ false
+    below = none-below v (lowest .2)
 
-    clash-here : clash-at F v ≡ some c
-    clash-here = ap (λ (G : Formula). clash-at G v) (sym same) ∙ f .3 .clash
+    lowest-clashes : clashes F v ≡ true
+    lowest-clashes = sym (s .exact v) ∙ lowest .1
 
-    left-are : events-left work z variables ≡ clash-cleared c ∷ others
-    left-are = events-free (z .next) v variables F (f .0) (omega (arith, f .1)) (λ j lo hi. ap (λ (G : Formula). clash-at G j) (sym same) ∙ f .2 j lo hi) ∙ events-clash v variables F c (f .1) clash-here
+    pub lowest-small : v ≤ input-reach
+    lowest-small =
+        let c = clashes-some F v lowest-clashes in
+        let r = clash-at-some F v (c .0) (c .1) in
+        omega (arith, s .ready .good .fits (c .0 .one) (r .1 .one-stands) (c .0 .v) (r .1 .one-holds) .1, ap natAbs (r .0))
 
-    pub resolvable : q .end ≡ numbers-of F → Resolvable mid q v x y
-    resolvable n =
-        let m = slid-ready left-are in
-        record {
-          good = good-up (r .within) (good-first (clash-cleared c ∷ []) others (m .good));
-          clash = f .3;
-          space = λ o. omega (arith, n, ap numbers-of (after-none (standing mid q) ∙ same), m .space [] others c refl o);
+    -- the store slid down, and the clauses found
+    module _ {mid : List ℤ} {log : Bytes} {q : Progress} (k : Runs [] work log (z .progress) mid log q) where
+      same : standing mid q ≡ F
+      same = k .stands ∙ after-none F
+
+      pub slid-clashes : clashes (standing mid q) v ≡ true
+      slid-clashes = ap (λ (G : Formula). clashes G v) same ∙ lowest-clashes
+
+      module _ {x y : ℕ} (h : Clashing (take (q .end) mid) v x y) where
+        abbrev c : Clash
+        c = clash-there (take (q .end) mid) v x y
+
+        abbrev others : List Event
+        others = clear-clashes (after F (clash-lines c))
+
+        clash-here : clash-at F v ≡ some c
+        clash-here = ap (λ (G : Formula). clash-at G v) (sym same) ∙ h .clash
+
+        is-clash : Is-clash F c
+        is-clash = clash-at-some F v c clash-here .1
+
+        left-are : clear-clashes F ≡ clash-cleared c ∷ others
+        left-are = clear-clashes-at F (s .ready .good .proper) v c clash-here (λ n l. sym (s .exact n) ∙ below n l)
+
+        slid-ready : Clash-ready (clash-cleared c ∷ others) mid q
+        slid-ready =
+            ready-rest [] (clash-cleared c ∷ others) (subst (λ (es : List Event). Clash-ready es work (z .progress)) left-are (s .ready)) k
+            (rw (after-none F) (s .ready .good .proper)) (rw (after-none F) (s .ready .good .fits))
+
+        pub resolvable : q .end ≡ numbers-of F → Resolvable mid q v x y
+        resolvable n = record {
+          good = good-first (clash-cleared c ∷ []) others (slid-ready .good);
+          clash = h;
+          space = λ o. omega (arith, n, ap numbers-of (after-none (standing mid q) ∙ same), slid-ready .space [] others c refl o);
         }
 
-    pub scanned-clash : {new : List ℤ} {new-log : Bytes} {w : Progress} → Runs (clash-cleared c ∷ []) mid log q new new-log w → Scanned variables work log z new new-log (record { progress = w; next = v + 1 })
-    scanned-clash {new} {new-log} {w} g =
-        let all = runs-join {es = []} k g in
-        let i = clash-at-some F v c clash-here .1 in
-        let e : clash-cleared c ∷ events-from (v + 1) variables (standing new w) ≡ events-left work z variables = ap (λ (G : Formula). clash-cleared c ∷ events-from (v + 1) variables G) (all .stands ∙ after-clash F c) ∙ sym left-are in
-        record {
-          events = clash-cleared c ∷ [];
-          runs = all;
-          rest = e;
-          ready =
-              ready-rest (clash-cleared c ∷ []) (events-from (v + 1) variables (standing new w)) (subst (λ (es : List Event). Clash-ready es work (z .progress) variables) (sym e) r) all
-              (rw (after-clash F c) (after-proper F c (r .good .proper) i)) (rw (after-clash F c) (after-fits F c (r .good .proper) i variables (r .good .fits)));
-          order = omega (arith, f .1);
-        }
+        module _ {new : List ℤ} {new-log : Bytes} {w : Progress} (g : Runs (clash-cleared c ∷ []) mid log q new new-log w) where
+          all : Runs (clash-cleared c ∷ []) work log (z .progress) new new-log w
+          all = runs-join {es = []} k g
+
+          stands-then : standing new w ≡ after F (clash-lines c)
+          stands-then = all .stands ∙ after-clash F c
+
+          pub clash-fewer : turns-left new (record { progress = w; word = v / 32 }) < turns-left work z
+          clash-fewer = omega (arith, ap length stands-then, after-shorter F c (s .ready .good .proper) is-clash, lowest .0)
+
+          module _ (new-m : List ℕ) (u : Ended c m new-m) (l : length new-m ≡ length m) where
+            exact-then : Marks-clashes (standing new w) new-m
+            exact-then n =
+                u n ∙ ap (λ (b : Bool). not (ends c n) && b) (s .exact n) ∙ sym (clashes-after F c (s .ready .good .proper) is-clash n)
+                ∙ ap (λ (G : Formula). clashes G n) (sym stands-then)
+
+            passed-then : (n : ℕ) → n < 32 * (v / 32) → marked new-m n ≡ false
+            passed-then n i = u n ∙ sym (second-fails (not (ends c n)) (marked m n) (below n (omega arith)))
+
+            pub scanned-clash : Scanned work log m z new new-log new-m (record { progress = w; word = v / 32 })
+            scanned-clash =
+                let e : clash-cleared c ∷ clear-clashes (standing new w) ≡ clear-clashes F = ap (λ (G : Formula). clash-cleared c ∷ clear-clashes G) stands-then ∙ sym left-are in
+                record {
+                  events = clash-cleared c ∷ [];
+                  runs = all;
+                  rest = e;
+                  searching = record {
+                    ready =
+                        ready-rest (clash-cleared c ∷ []) (clear-clashes (standing new w)) (subst (λ (es : List Event). Clash-ready es work (z .progress)) (sym e) (s .ready)) all
+                        (rw (after-clash F c) (after-proper F c (s .ready .good .proper) is-clash)) (rw (after-clash F c) (after-fits F c (s .ready .good .proper) is-clash input-reach (s .ready .good .fits)));
+                    exact = exact-then;
+                    passed = passed-then;
+                    size = l ∙ s .size;
+                  };
+                }
 
 -- ---- the loop
+pub scanned-start : {work : List ℤ} {p : Progress} (log : Bytes) (m : List ℕ) → Clash-ready (clear-clashes (standing work p)) work p → Marks-clashes (standing work p) m → length m ≡ input-words →
+    Scanned work log m (record { progress = p; word = 0 }) work log m (record { progress = p; word = 0 })
+scanned-start {work} {p} log m r e l =
+    let s : Searching work m (record { progress = p; word = 0 }) = record { ready = r; exact = e; passed = λ v h. absurd (omega arith); size = l } in
+    record { events = []; runs = stays s log; rest = refl; searching = s }
 
-pub scanned-then : {variables : ℕ} {a b c : List ℤ} {l m n : Bytes} {x y z : Scan} → Scanned variables a l x b m y → Scanned variables b m y c n z → Scanned variables a l x c n z
-scanned-then {variables} {c = c} {z = z} s t = record {
+pub scanned-then : {a b c : List ℤ} {l m n : Bytes} {i j k : List ℕ} {x y z : Scan} → Scanned a l i x b m j y → Scanned b m j y c n k z → Scanned a l i x c n k z
+scanned-then {c = c} {z = z} s t = record {
   events = s .events ++ t .events;
   runs = runs-join (s .runs) (t .runs);
-  rest = append-assoc (s .events) (t .events) (events-left c z variables) ∙ ap (λ (es : List Event). s .events ++ es) (t .rest) ∙ s .rest;
-  ready = t .ready;
-  order = t .order;
+  rest = append-assoc (s .events) (t .events) (clear-clashes (standing c (z .progress))) ∙ ap (λ (es : List Event). s .events ++ es) (t .rest) ∙ s .rest;
+  searching = t .searching;
 }
 
-module _ {work : List ℤ} {p : Progress} {variables : ℕ} (r : Clash-ready (clear-clashes (standing work p)) work p variables) where
-  abbrev start : Scan
-  start = record { progress = p; next = 1 }
-
-  all-left : clear-clashes (standing work p) ≡ events-left work start variables
-  all-left =
-      let n : variables ≡ variables + 1 - 1 = omega arith in
-      sym (scan-clashes variables (standing work p) (r .good .proper) (highest-of-le variables (standing work p) (λ d i x j. r .good .fits d i x j .1))) ∙ ap (λ (k : ℕ). scan-from 1 k (standing work p)) n
-
-  pub scanned-start : (log : Bytes) → Scanned variables work log (record { progress = p; next = 1 }) work log (record { progress = p; next = 1 })
-  scanned-start log = record {
-    events = [];
-    runs = runs-nothing log p p refl (record { inside = r .good .inside; formed = r .good .formed; stands = refl }) refl refl;
-    rest = refl;
-    ready = subst (λ (es : List Event). Clash-ready es work p variables) all-left r;
-    order = omega arith;
-  }
-
-  pub scanned-end : {new : List ℤ} {log new-log : Bytes} {z : Scan} → Scanned variables work log (record { progress = p; next = 1 }) new new-log z →
-      variables < z .next → Runs (clear-clashes (standing work p)) work log p new new-log (z .progress)
-  scanned-end {new} {log} {new-log} {z} s h =
-      let e : s .events ≡ clear-clashes (standing work p) =
-      sym (append-nil (s .events)) ∙ ap (λ (es : List Event). s .events ++ es) (sym (events-none (z .next) variables (standing new (z .progress)) h)) ∙ s .rest ∙ sym all-left in
-      subst (λ (es : List Event). Runs es work log p new new-log (z .progress)) e (s .runs)
+pub scanned-end : {work new : List ℤ} {log new-log : Bytes} {m new-m : List ℕ} {y z : Scan} → Scanned work log m y new new-log new-m z → length new-m ≤ z .word →
+    Runs (clear-clashes (standing work (y .progress))) work log (y .progress) new new-log (z .progress)
+scanned-end {work} {new} {log} {new-log} {m} {new-m} {y} {z} s h =
+    let e : s .events ≡ clear-clashes (standing work (y .progress)) =
+    sym (append-nil (s .events)) ∙ ap (λ (es : List Event). s .events ++ es) (sym (clear-clashes-none (standing new (z .progress)) none)) ∙ s .rest in
+    subst (λ (es : List Event). Runs es work log (y .progress) new new-log (z .progress)) e (s .runs)
+  where
+    none : (v : ℕ) → clashes (standing new (z .progress)) v ≡ false
+    none v =
+        sym (s .searching .exact v)
+        ∙ by-test (ltb v (32 * z .word)) (λ t. s .searching .passed v (ltb-true v _ t)) (λ t. none-past new-m v (omega (arith, ltb-false v (32 * z .word) t)))

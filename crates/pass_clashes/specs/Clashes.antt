@@ -1,28 +1,29 @@
--- The next clash of a store.
+-- The clauses of a clash, in a store.
 use mathlib.Core.Path.{_≡_}
-use mathlib.Core.Bool.{Bool, true, false, _&&_}
-use mathlib.Core.List.{List}
-use mathlib.Core.Option.{some, none}
-use Prim.Native.Nat.{ℕ, _+_, _≤_, _<_}
-use lib.Dec.{ltb}
+use mathlib.Core.Bool.{Bool, false, not, _&&_}
+use mathlib.Core.List.{List, List·Memᴰ}
+use mathlib.Core.Option.{some}
+use Prim.Native.Nat.{ℕ, _<_}
 use lib.IntN.{ℤ, pos}
-use Rattle.definition.specs.Literals.{Formula}
+use lib.ListN.{length}
+use Rattle.definition.specs.Literals.{holds}
 use Rattle.definition.specs.Events.{Clash}
 use Rattle.definition.specs.Clearing.{clash-at}
-use Rattle.literals.specs.Literal.{signed-of}
-use Rattle.store.specs.Store.{stored, clause-at}
-use Rattle.tables.specs.Entries.{entry-of}
-use Rattle.pass_clashes.specs.Places.{Stands-at}
-use Rattle.pass_clashes.specs.declared.NextClash.{NextClash}
-use Rattle.pass_clashes.specs.declared.NextClash.the-variants.{At, Nothing}
+use Rattle.store.specs.Store.{stored, deleted-at, clause-at, Place}
 
--- a variable and its negation have places
-abbrev pub both : List ℕ → ℕ → Bool
-both t v = ltb 0 (entry-of t (signed-of false v)) && ltb 0 (entry-of t (signed-of true v))
+-- a clause stands at the place
+pub record Stands-at (s : List ℤ) (at : ℕ) : Type 0 where
+  pub inside : at < length s
+  pub place : Place s at
+  pub stands : deleted-at s at ≡ false
 
--- no variable of a range clashes
-abbrev pub Free : Formula → ℕ → ℕ → Type 0
-Free F from end = (k : ℕ) → from ≤ k → k < end → clash-at F k ≡ none
+-- it stands and holds a literal
+abbrev pub holds-at : ℤ → List ℤ → ℕ → Bool
+holds-at l s at = not (deleted-at s at) && holds l (clause-at s at)
+
+pub record Found-with (l : ℤ) (s : List ℤ) (at : ℕ) : Type 0 where
+  pub standing : Stands-at s at
+  pub with-literal : List·Memᴰ l (clause-at s at)
 
 -- the clash of v whose clauses are at x and y
 abbrev pub clash-there : List ℤ → ℕ → ℕ → ℕ → Clash
@@ -33,7 +34,3 @@ pub record Clashing (s : List ℤ) (v x y : ℕ) : Type 0 where
   pub one-stands : Stands-at s x
   pub other-stands : Stands-at s y
   pub clash : clash-at (stored s) v ≡ some (clash-there s v x y)
-
-abbrev pub Next : List ℤ → ℕ → ℕ → NextClash → Type 0
-Next s from to Nothing = Free (stored s) from (to + 1)
-Next s from to (At v x y) = (from ≤ v) × (v ≤ to) × Free (stored s) from v × Clashing s v x y

@@ -1,4 +1,4 @@
-pub mod Places
+pub mod Marking
 pub mod Clashes
 pub mod Resolving
 pub mod Scan

@@ -12,14 +12,16 @@ use Rattle.definition.specs.Text.{Bytes}
 use Rattle.definition.specs.Standing.{Line, deletion, after}
 use Rattle.definition.specs.Events.{Clash, clash-cleared}
 use Rattle.definition.specs.Clearing.{times, resolvent}
+use Rattle.theory_base.specs.Clauses.{Proper, Fit-all}
+use Rattle.theory_clearing.specs.Clashing.{ends}
 use Rattle.literals.specs.Literal.{signed-of}
 use Rattle.store.specs.Store.{Formed, stored, clause-at}
+use Rattle.marks.specs.Marks.{marked}
 use Rattle.progress.specs.declared.Progress.{Progress}
 use Rattle.progress.specs.Progress.{Written, Good}
 use Rattle.tables.specs.Sizes.{input-reach}
 use Rattle.tables.specs.Counts.{pure-in}
-use Rattle.pass_clashes.specs.Places.{Stands-at}
-use Rattle.pass_clashes.specs.Clashes.{clash-there, Clashing}
+use Rattle.pass_clashes.specs.Clashes.{Stands-at, clash-there, Clashing}
 
 -- l is not the literal that is left out, and its negation is counted
 abbrev pub opposite-in : List ℕ → ℤ → ℤ → Bool
@@ -68,6 +70,9 @@ pub record Parents (s : List ℤ) (v x y : ℕ) : Type 0 where
   pub other-once : times (negℤ (pos v)) (stored s) ≡ 1
   pub apart : List·Memᴰ (negℤ (pos v)) (clause-at s x) → ⊥
   pub small : v ≤ input-reach
+  pub one-proper : Proper (clause-at s x)
+  pub other-proper : Proper (clause-at s y)
+  pub other-fits : Fit-all input-reach (clause-at s y)
 
 -- the clauses of the clash c are deleted
 pub record Parents-gone (c : Clash) (s : List ℤ) (log : Bytes) (p : Progress) (new : List ℤ) (new-log : Bytes) (r : Progress) : Type 0 where
@@ -75,3 +80,7 @@ pub record Parents-gone (c : Clash) (s : List ℤ) (log : Bytes) (p : Progress) 
   pub stands : stored new ≡ after (stored s) (parent-lines c)
   pub written : Written (parent-lines c) log p new-log r
   pub kept : r .end ≡ p .end
+
+-- the marks of the clashes that end with c are cleared
+abbrev pub Ended : Clash → List ℕ → List ℕ → Type 0
+Ended c m new = (v : ℕ) → marked new v ≡ (not (ends c v) && marked m v)

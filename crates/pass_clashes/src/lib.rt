@@ -1,40 +1,81 @@
-// Clearing clashes: a variable stands in one unique literal clause and its negation in another.
+// Clearing clashes: a variable stands in one unique literal clause and its negation in another. One pass over the store marks the variables that clash; from then on marks are only cleared, and the lowest is next.
 ghost use mathlib.Core.Path.{_≡_};
 ghost use mathlib.Core.Bool.{true, false};
 ghost use mathlib.Core.List.{[], _∷_};
-ghost use Prim.Native.Nat.{ℕ, _+_, _-_, _≤_, _<_, _^_};
-ghost use lib.IntN.{pos};
+ghost use Prim.Native.Nat.{_+_, _≤_, _<_, _^_};
+ghost use lib.Dec.{ltb};
+ghost use lib.IntN.{pos, natAbs};
 ghost use lib.ListN.{length, take, drop, getD, replicate};
 ghost use lib.Seq.{sets};
 ghost use Rattle.definition.specs.Lists.{any};
-ghost use Rattle.definition.specs.Literals.{without, with-first};
-ghost use Rattle.definition.specs.Standing.{deletion};
+ghost use Rattle.definition.specs.Literals.{without, opposed};
 ghost use Rattle.definition.specs.Events.{clash-cleared};
-ghost use Rattle.definition.specs.Clearing.{clear-clashes};
+ghost use Rattle.definition.specs.Clearing.{times, clear-clashes, resolvent};
+ghost use Rattle.theory_base.specs.Clauses.{Proper-all, Fit-all};
+ghost use Rattle.theory_clearing.specs.Clashing.{clashes};
 ghost use Rattle.literals.specs.Literal.{signed-of};
 ghost use Rattle.tables.specs.Sizes.{input-reach, input-size};
-ghost use Rattle.tables.specs.Entries.{entry-of, tallied};
-ghost use Rattle.store.specs.Store.{Formed, stored, entry, marked, clause-at, Counted};
-ghost use Rattle.progress.specs.Progress.{Written, Log-room, standing, Good, Runs};
+ghost use Rattle.tables.specs.Entries.{entry-of, tallied, with-entries};
+ghost use Rattle.marks.specs.Marks.{input-words};
+ghost use Rattle.store.specs.Store.{Formed, stored, entry, clause-at, Counted};
+ghost use Rattle.progress.specs.Progress.{Log-room, standing, Good, Runs};
 ghost use Rattle.progress.specs.Growth.{Grown};
-ghost use Rattle.pass_clashes.specs.Places.{placed-at, Placed};
-ghost use Rattle.pass_clashes.specs.Clashes.{both, Next, clash-there};
-ghost use Rattle.pass_clashes.specs.Resolving.{opposite-in, part-without, Copied, joined, Joinable, added-by, parent-lines, Resolvable, Parents, Parents-gone};
-ghost use Rattle.pass_clashes.specs.Scan.{Clash-ready, events-left, Scanned};
+ghost use Rattle.pass_clashes.specs.Marking.{both, Marked-both, Unmarked, unique-part, Marks-clashes};
+ghost use Rattle.pass_clashes.specs.Clashes.{holds-at, Found-with, clash-there, Clashing};
+ghost use Rattle.pass_clashes.specs.Resolving.{opposite-in, part-without, Copied, joined, Joinable, added-by, parent-lines, Resolvable, Parents, Parents-gone, Ended};
+ghost use Rattle.pass_clashes.specs.Scan.{Clash-ready, Searching, Scanned, turns-left};
+use marks::Lowest;
 use progress::Progress;
 
-// The next variable with a clash, and the places of its two clauses.
-pub enum NextClash {
-    At(u32, usize, usize),
-    Nothing,
+// ---- marks of the variables that clash: a table has for each literal whether it stands in a unique literal clause
+
+// Whether the table has a variable or its negation.
+fn is_in(table: &[u32], is_negative: bool, v: u32) -> bool
+    ensures { λ r. ⌜ r ≡ ltb 0 (entry-of (now (table .entry)) (signed-of «is_negative» v)) ⌝ }
+{
+    0 < tables::entry_of(table, literals::signed(is_negative, v))
 }
 
-// ---- the places of unique literal clauses: a table with an entry for each literal, one more than the place of the one that holds it, 0 where there is none
+// Whether the table has a variable and its negation.
+fn is_both(table: &[u32], v: u32) -> bool
+    ensures { λ r. ⌜ r ≡ both (now (table .entry)) v ⌝ }
+{
+    if is_in(table, false, v) {
+        is_in(table, true, v)
+    } else {
+        false
+    }
+}
 
-// Sets the entries of the clause at a place, if it stands and is a unique literal clause.
-fn place_entry(places: &mut [u32], counts: &[u32], store: &[i32], at: usize)
-    requires { ⌜ (at < length (now store)) × Formed (drop at (now store)) × (length (now store) < 2 ^ 31) ⌝ }
-    ensures { λ _. ⌜ now (places .exit) ≡ placed-at (now (places .entry)) (now (counts .entry)) (now (store .entry)) at ⌝ }
+// Marks the variable of a literal if the table has it with both signs.
+fn mark_variable(marks: &mut [u32], table: &[u32], l: i32)
+    requires { ⌜ (natAbs l ≤ input-reach) × (length (now marks) ≡ input-words) ⌝ }
+    ensures { λ _. ⌜ Marked-both (now (marks .entry)) (now (table .entry)) (l ∷ []) (now (marks .exit)) ⌝ }
+{
+    let v = literals::variable(l);
+    if is_both(table, v) {
+        marks::set(marks, v);
+    }
+}
+
+// Marks the variables of a clause that the table has with both signs.
+fn mark_variables(marks: &mut [u32], table: &[u32], clause: &[i32])
+    requires { ⌜ Fit-all input-reach (now clause) × (length (now marks) ≡ input-words) ⌝ }
+    ensures { λ _. ⌜ Marked-both (now (marks .entry)) (now (table .entry)) (now (clause .entry)) (now (marks .exit)) ⌝ }
+{
+    let mut i = 0;
+    while i < clause.len() {
+        mark_variable(marks, table, clause[i]);
+        i += 1;
+    }
+}
+
+// Takes in the clause at a place, if it stands and is a unique literal clause: its literals into the table, and marks.
+fn mark_entry(marks: &mut [u32], table: &mut [u32], counts: &[u32], store: &[i32], at: usize)
+    requires { ⌜ (at < length (now store)) × Formed (drop at (now store)) ⌝ }
+    requires { ⌜ Fit-all input-reach (unique-part (now counts) (now store) at) × (length (now marks) ≡ input-words) ⌝ }
+    ensures table { λ _. ⌜ now (table .exit) ≡ with-entries (now (table .entry)) (unique-part (now (counts .entry)) (now (store .entry)) at) 1 ⌝ }
+    ensures marks { λ _. ⌜ Marked-both (now (marks .entry)) (now (table .exit)) (unique-part (now (counts .entry)) (now (store .entry)) at) (now (marks .exit)) ⌝ }
 {
     if literals::is_negative(store[at]) {
         return;
@@ -42,77 +83,92 @@ fn place_entry(places: &mut [u32], counts: &[u32], store: &[i32], at: usize)
     let next = store::next_at(store, at);
     let first = at + 1;
     if tables::is_unique(counts, &store[first..next]) {
-        tables::set_entries(places, &store[first..next], first as u32);
+        tables::set_entries(table, &store[first..next], 1);
+        mark_variables(marks, table, &store[first..next]);
     }
 }
 
-// Sets the entries of all unique literal clauses.
-fn place_all(places: &mut [u32], counts: &[u32], store: &[i32])
-    requires { ⌜ Counted input-reach (now store) (now counts) × (length (now store) < 2 ^ 31) ⌝ }
-    requires { ⌜ now places ≡ replicate input-size 0 ⌝ }
-    ensures { λ _. ⌜ Placed (stored (now (store .entry))) (stored (now (store .entry))) (now (store .entry)) (now (places .exit)) ⌝ }
+// Marks the variables that clash, by the table of counts.
+fn mark_all(marks: &mut [u32], table: &mut [u32], counts: &[u32], store: &[i32])
+    requires { ⌜ Counted input-reach (now store) (now counts) × Proper-all (stored (now store)) ⌝ }
+    requires { ⌜ (now marks ≡ replicate input-words 0) × (now table ≡ replicate input-size 0) ⌝ }
+    ensures { λ _. ⌜ Marks-clashes (stored (now (store .entry))) (now (marks .exit)) ⌝ }
 {
     let mut at = 0;
     while at < store.len() {
-        place_entry(places, counts, store, at);
+        mark_entry(marks, table, counts, store, at);
         at = store::next_at(store, at);
     }
 }
 
-// ---- the next clash
-
-// The entry of a variable or its negation.
-fn place_of(places: &[u32], is_negative: bool, v: u32) -> u32
-    ensures { λ r. ⌜ r ≡ entry-of (now (places .entry)) (signed-of «is_negative» v) ⌝ }
-{
-    tables::entry_of(places, literals::signed(is_negative, v))
-}
-
-// Whether a variable and its negation stand in unique literal clauses.
-fn clashes(places: &[u32], v: u32) -> bool
-    ensures { λ r. ⌜ r ≡ both (now (places .entry)) v ⌝ }
-{
-    if 0 < place_of(places, false, v) {
-        0 < place_of(places, true, v)
-    } else {
-        false
-    }
-}
-
-// The first variable of a range that clashes, or the one past the range.
-fn find_clash(places: &[u32], from: u32, to: u32) -> u32
-    requires { ⌜ (from ≤ to + 1) × (to < 2 ^ 31) ⌝ }
-    ensures within { λ r. ⌜ (from ≤ r) × (r ≤ to + 1) ⌝ }
-    ensures before { λ r. ⌜ ((k : ℕ) → from ≤ k → k < r → both (now (places .entry)) k ≡ false) ⌝ }
-    ensures found { λ r. ⌜ (r ≤ to → both (now (places .entry)) r ≡ true) ⌝ }
-{
-    let mut v = from;
-    while v <= to {
-        if clashes(places, v) {
-            return v;
-        }
-        v += 1;
-    }
-    v
-}
-
-// The next clash of the store in a workspace, in a range of variables.
-fn next_clash(work: &[i32], p: Progress, from: u32, to: u32) -> NextClash
-    requires { ⌜ Good to [] (now work) p × (from ≤ to) × (to ≤ input-reach) ⌝ }
-    ensures { λ r. ⌜ Next (take (p .end) (now (work .entry))) from to r ⌝ }
+// Marks the variables that clash.
+fn mark_clashes(marks: &mut [u32], work: &[i32], p: Progress)
+    requires { ⌜ Good input-reach [] (now work) p × (now marks ≡ replicate input-words 0) ⌝ }
+    ensures { λ _. ⌜ Marks-clashes (standing (now (work .entry)) p) (now (marks .exit)) ⌝ }
 {
     let end = p.end;
     let mut counts = [0u32; tables::INPUT_SIZE];
-    let mut places = [0u32; tables::INPUT_SIZE];
+    let mut table = [0u32; tables::INPUT_SIZE];
     store::count_all(&mut counts, &work[..end]);
-    place_all(&mut places, &counts, &work[..end]);
-    let v = find_clash(&places, from, to);
-    if to < v {
-        return NextClash::Nothing;
+    mark_all(marks, &mut table, &counts, &work[..end]);
+}
+
+// Clears the marks of a clause's variables.
+fn unmark_variables(marks: &mut [u32], clause: &[i32])
+    ensures { λ _. ⌜ Unmarked (now (marks .entry)) (now (clause .entry)) (now (marks .exit)) ⌝ }
+{
+    let mut i = 0;
+    while i < clause.len() {
+        marks::clear(marks, literals::variable(clause[i]));
+        i += 1;
     }
-    let a = place_of(&places, false, v) as usize;
-    let b = place_of(&places, true, v) as usize;
-    NextClash::At(v, a - 1, b - 1)
+}
+
+// ---- the clauses of a clash
+
+// Whether the clause at a place stands and holds a literal.
+fn is_with(store: &[i32], at: usize, l: i32) -> bool
+    requires { ⌜ (at < length (now store)) × Formed (drop at (now store)) ⌝ }
+    ensures { λ r. ⌜ r ≡ holds-at l (now (store .entry)) at ⌝ }
+{
+    if literals::is_negative(store[at]) {
+        return false;
+    }
+    let next = store::next_at(store, at);
+    let first = at + 1;
+    store::holds(&store[first..next], l)
+}
+
+// The place of the first standing clause that holds a literal, if there is one.
+fn place_with(store: &[i32], l: i32) -> usize
+    requires { ⌜ Formed (now store) ⌝ }
+    ensures { λ r. ⌜ (1 ≤ times l (stored (now (store .entry))) → Found-with l (now (store .entry)) r) ⌝ }
+{
+    let mut at = 0;
+    while at < store.len() {
+        if is_with(store, at, l) {
+            return at;
+        }
+        at = store::next_at(store, at);
+    }
+    at
+}
+
+// Where the two clauses of a clash are.
+pub struct Places {
+    pub one: usize,
+    pub other: usize,
+}
+
+// The places of the clauses of a variable's clash.
+fn find_clash(store: &[i32], v: u32) -> Places
+    requires { ⌜ Formed (now store) × (v ≤ input-reach) ⌝ }
+    ensures { λ r. ⌜ (clashes (stored (now (store .entry))) v ≡ true → Clashing (now (store .entry)) v (r .one) (r .other)) ⌝ }
+{
+    Places {
+        one: place_with(store, literals::signed(false, v)),
+        other: place_with(store, literals::signed(true, v)),
+    }
 }
 
 // ---- the resolvent
@@ -207,9 +263,21 @@ fn append_resolvent(
     d
 }
 
+// Whether the resolvent of the clauses at x and y has a literal and its negation.
+fn is_tautology(store: &[i32], v: u32, x: usize, y: usize) -> bool
+    requires { ⌜ Parents (now store) v x y × (length (now store) < 2 ^ 31) ⌝ }
+    ensures { λ r. ⌜ r ≡ opposed (resolvent (clash-there (now (store .entry)) v x y)) ⌝ }
+{
+    let a = x + 1;
+    let b = y + 1;
+    let past_a = store::next_at(store, x);
+    let past_b = store::next_at(store, y);
+    is_opposed(&store[a..past_a], v, &store[b..past_b])
+}
+
 // ---- one clash
 
-// Adds the resolvent of the clauses at x and y, and records it, unless it has a literal and its negation.
+// Adds the resolvent of the clauses at x and y, which is no tautology, and records it.
 fn add_resolvent(
     work: &mut [i32],
     log: &mut [u8],
@@ -219,15 +287,13 @@ fn add_resolvent(
     y: usize,
 ) -> Progress
     requires { ⌜ Resolvable (now work) p v x y ⌝ }
+    requires { ⌜ opposed (resolvent (clash-there (take (p .end) (now work)) v x y)) ≡ false ⌝ }
     ensures { λ r. ⌜ Grown (added-by (clash-there (take (p .end) (now (work .entry))) v x y)) (now (work .entry)) (now (log .entry)) p (now (work .exit)) (now (log .exit)) r ⌝ }
 {
     let a = x + 1;
     let b = y + 1;
     let past_a = store::next_at(work, x);
     let past_b = store::next_at(work, y);
-    if is_opposed(&work[a..past_a], v, &work[b..past_b]) {
-        return p;
-    }
     let end = p.end;
     let next = append_resolvent(work, end, a, past_a - a, b, past_b - b, v);
     progress::record_added(work, log, p, next)
@@ -250,57 +316,97 @@ fn delete_parents(
     progress::delete_first(store, y, log, q, literals::signed(true, v))
 }
 
-// Clears the clash of v whose clauses are at x and y.
-fn resolve(work: &mut [i32], log: &mut [u8], p: Progress, v: u32, x: usize, y: usize) -> Progress
-    requires { ⌜ Resolvable (now work) p v x y ⌝ }
-    ensures { λ r. ⌜ Runs (clash-cleared (clash-there (take (p .end) (now (work .entry))) v x y) ∷ []) (now (work .entry)) (now (log .entry)) p (now (work .exit)) (now (log .exit)) r ⌝ }
+// Clears the marks of the variables of the clause at a place.
+fn unmark_entry(marks: &mut [u32], store: &[i32], at: usize)
+    requires { ⌜ (at < length (now store)) × Formed (drop at (now store)) ⌝ }
+    ensures { λ _. ⌜ Unmarked (now (marks .entry)) (clause-at (now (store .entry)) at) (now (marks .exit)) ⌝ }
 {
+    let next = store::next_at(store, at);
+    let first = at + 1;
+    unmark_variables(marks, &store[first..next]);
+}
+
+// Clears the clash of v whose clauses are at x and y, and the marks of the clashes that end with it: that of v; where the resolvent is not added, those of all variables of the two clauses.
+fn resolve(
+    work: &mut [i32],
+    log: &mut [u8],
+    marks: &mut [u32],
+    p: Progress,
+    v: u32,
+    x: usize,
+    y: usize,
+) -> Progress
+    requires { ⌜ Resolvable (now work) p v x y ⌝ }
+    ensures runs { λ r. ⌜ Runs (clash-cleared (clash-there (take (p .end) (now (work .entry))) v x y) ∷ []) (now (work .entry)) (now (log .entry)) p (now (work .exit)) (now (log .exit)) r ⌝ }
+    ensures ended { λ _. ⌜ Ended (clash-there (take (p .end) (now (work .entry))) v x y) (now (marks .entry)) (now (marks .exit)) ⌝ }
+{
+    let end = p.end;
+    if is_tautology(&work[..end], v, x, y) {
+        unmark_entry(marks, &work[..end], x);
+        unmark_entry(marks, &work[..end], y);
+        return delete_parents(&mut work[..end], log, p, v, x, y);
+    }
+    marks::clear(marks, v);
     let q = add_resolvent(work, log, p, v, x, y);
-    let end = q.end;
-    delete_parents(&mut work[..end], log, q, v, x, y)
+    let grown = q.end;
+    delete_parents(&mut work[..grown], log, q, v, x, y)
 }
 
 // ---- all clashes
 
-// How far the scan over the variables is: what is done, and the variable to go on with.
+// How far the search for marks is: what is done, and the word of the last mark found, or the number of words where none is left.
 pub struct Scan {
     pub progress: Progress,
-    pub next: u32,
+    pub word: usize,
 }
 
-// Clears the next clash, if there is one.
-fn clear_next(work: &mut [i32], log: &mut [u8], s: Scan, variables: u32) -> Scan
-    requires { ⌜ (s .next ≤ variables) × Clash-ready (events-left (now work) s variables) (now work) (s .progress) variables ⌝ }
-    ensures scanned { λ r. ⌜ Scanned variables (now (work .entry)) (now (log .entry)) s (now (work .exit)) (now (log .exit)) r ⌝ }
-    ensures later { λ r. ⌜ s .next < r .next ⌝ }
+// Clears the clash of the lowest mark, if there is one.
+fn clear_next(work: &mut [i32], log: &mut [u8], marks: &mut [u32], s: Scan) -> Scan
+    requires { ⌜ Searching (now work) (now marks) s × (s .word < length (now marks)) ⌝ }
+    ensures scanned { λ r. ⌜ Scanned (now (work .entry)) (now (log .entry)) (now (marks .entry)) s (now (work .exit)) (now (log .exit)) (now (marks .exit)) r ⌝ }
+    ensures fewer { λ r. ⌜ turns-left (now (work .exit)) r < turns-left (now (work .entry)) s ⌝ }
 {
-    let p = progress::slide_down(work, s.progress);
-    match next_clash(work, p, s.next, variables) {
-        NextClash::At(v, x, y) => {
-            let q = resolve(work, log, p, v, x, y);
+    let before = s.progress;
+    match marks::lowest_from(marks, s.word) {
+        Lowest::At(v) => {
+            let p = progress::slide_down(work, before);
+            let end = p.end;
+            let at = find_clash(&work[..end], v);
+            let q = resolve(work, log, marks, p, v, at.one, at.other);
             Scan {
                 progress: q,
-                next: v + 1,
+                word: marks::word_of(v),
             }
         }
-        NextClash::Nothing => Scan {
-            progress: p,
-            next: variables + 1,
+        Lowest::Nothing => Scan {
+            progress: before,
+            word: marks.len(),
         },
     }
 }
 
-// Clears all clashes of the store, the lowest variable first.
-pub fn clear_clashes(work: &mut [i32], log: &mut [u8], p: Progress, variables: u32) -> Progress
-    requires { ⌜ Clash-ready (clear-clashes (standing (now work) p)) (now work) p variables ⌝ }
+// Clears the clashes of the marked variables, the lowest first.
+fn clear_marked(work: &mut [i32], log: &mut [u8], marks: &mut [u32], p: Progress) -> Progress
+    requires { ⌜ Clash-ready (clear-clashes (standing (now work) p)) (now work) p ⌝ }
+    requires { ⌜ Marks-clashes (standing (now work) p) (now marks) × (length (now marks) ≡ input-words) ⌝ }
     ensures { λ r. ⌜ Runs (clear-clashes (standing (now (work .entry)) p)) (now (work .entry)) (now (log .entry)) p (now (work .exit)) (now (log .exit)) r ⌝ }
 {
     let mut s = Scan {
         progress: p,
-        next: 1,
+        word: 0,
     };
-    while s.next <= variables {
-        s = clear_next(work, log, s, variables);
+    while s.word < marks.len() {
+        s = clear_next(work, log, marks, s);
     }
     s.progress
+}
+
+// Clears all clashes of the store, the lowest variable first.
+pub fn clear_clashes(work: &mut [i32], log: &mut [u8], p: Progress) -> Progress
+    requires { ⌜ Clash-ready (clear-clashes (standing (now work) p)) (now work) p ⌝ }
+    ensures { λ r. ⌜ Runs (clear-clashes (standing (now (work .entry)) p)) (now (work .entry)) (now (log .entry)) p (now (work .exit)) (now (log .exit)) r ⌝ }
+{
+    let mut marks = [0u32; marks::INPUT_WORDS];
+    mark_clashes(&mut marks, work, p);
+    clear_marked(work, log, &mut marks, p)
 }

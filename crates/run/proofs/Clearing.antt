@@ -1,7 +1,6 @@
 -- Clashes, then pure literals: what stands after the clashes is proper and free of clashes, which is what the pure pass asks for.
 use mathlib.Core.Path.{_≡_}
 use mathlib.Core.List.{List}
-use Prim.Native.Nat.{ℕ}
 use lib.IntN.{ℤ}
 use Rattle.definition.specs.Literals.{Formula}
 use Rattle.definition.specs.Text.{Bytes}
@@ -13,17 +12,17 @@ use Rattle.theory_room.specs.Choices.{clearing}
 use Rattle.tables.specs.Sizes.{input-reach}
 use Rattle.progress.specs.declared.Progress.{Progress}
 use Rattle.progress.specs.Progress.{standing, Good, Runs}
-use Rattle.progress.proofs.Laws.{good-first, good-rest, good-up, runs-join}
+use Rattle.progress.proofs.Laws.{good-first, good-rest, runs-join}
 use Rattle.pass_clashes.specs.Scan.{Clash-ready}
 use Rattle.run.specs.Run.{Clear-ready}
 
-module _ {work : List ℤ} {p : Progress} {h : ℕ} (r : Clear-ready work p h) where
+module _ {work : List ℤ} {p : Progress} (r : Clear-ready work p) where
   abbrev F : Formula
   F = standing work p
 
-  pub clash-ready : Clash-ready (clear-clashes F) work p h
+  pub clash-ready : Clash-ready (clear-clashes F) work p
   unfolding clearing
-  clash-ready = record { good = good-first (clear-clashes F) (clear-pure (unclashed F)) (r .good); within = r .within; space = r .space }
+  clash-ready = record { good = good-first (clear-clashes F) (clear-pure (unclashed F)) (r .good); space = r .space }
 
   module _ {mid : List ℤ} {x y : Bytes} {q : Progress} (a : Runs (clear-clashes F) work x p mid y q) where
     unclashed-here : standing mid q ≡ unclashed F
@@ -35,7 +34,7 @@ module _ {work : List ℤ} {p : Progress} {h : ℕ} (r : Clear-ready work p h) w
     pure-ready =
         let u = unclashed-proper (r .good .proper) (r .good .fits) in
         let g = good-rest (clear-clashes F) (clear-pure (unclashed F)) (r .good) a (u .0) (u .1) in
-        rw unclashed-here (good-up (r .within) g, lowest-none (unclashed F) (u .0) (no-clash-left F (r .good .proper)))
+        rw unclashed-here (g, lowest-none (unclashed F) (u .0) (no-clash-left F (r .good .proper)))
 
     pub cleared-runs : {new : List ℤ} {z : Bytes} {t : Progress} → Runs (clear-pure (standing mid q)) mid y q new z t → Runs (clearing F) work x p new z t
     unfolding clearing

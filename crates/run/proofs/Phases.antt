@@ -58,10 +58,9 @@ module _ {work : List ℤ} {end h : ℕ} (r : Run-ready work end h) (s : Setting
       } in
       rw (events-are s i) at g
 
-  pub clear-ready : Clear-ready work (start-at end) h
+  pub clear-ready : Clear-ready work (start-at end)
   clear-ready = record {
-    good = good-first (clearing F) (choosing s i) whole-good;
-    within = within;
+    good = good-up within (good-first (clearing F) (choosing s i) whole-good);
     space = λ xs ys c e o. omega (arith, bounds .clash-space xs ys c e o, r .enough);
   }
 

@@ -22,9 +22,8 @@ use Rattle.progress.specs.Progress.{standing, Good, Runs}
 use Rattle.run.specs.declared.Reached.{Reached}
 
 -- what clearing needs: a good workspace, and room for each resolvent beside what stands
-pub record Clear-ready (work : List ℤ) (p : Progress) (highest : ℕ) : Type 0 where
-  pub good : Good highest (clearing (standing work p)) work p
-  pub within : highest ≤ input-reach
+pub record Clear-ready (work : List ℤ) (p : Progress) : Type 0 where
+  pub good : Good input-reach (clearing (standing work p)) work p
   pub space : (xs ys : List Event) (c : Clash) → clear-clashes (standing work p) ≡ xs ++ (clash-cleared c ∷ ys) → opposed (resolvent c) ≡ false
       → numbers-of (after (standing work p) (lines xs)) + (length (resolvent c) + 1) ≤ length work
 

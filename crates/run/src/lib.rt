@@ -44,11 +44,11 @@ pub struct Reached {
 // ---- clearing
 
 // Clears the clashes of the store, then deletes the clauses with a pure literal.
-fn clear(work: &mut [i32], log: &mut [u8], p: Progress, highest: u32) -> Progress
-    requires { ⌜ Clear-ready (now work) p highest ⌝ }
+fn clear(work: &mut [i32], log: &mut [u8], p: Progress) -> Progress
+    requires { ⌜ Clear-ready (now work) p ⌝ }
     ensures { λ r. ⌜ Runs (clearing (standing (now (work .entry)) p)) (now (work .entry)) (now (log .entry)) p (now (work .exit)) (now (log .exit)) r ⌝ }
 {
-    let q = pass_clashes::clear_clashes(work, log, p, highest);
+    let q = pass_clashes::clear_clashes(work, log, p);
     pass_pure::delete_pure(work, log, q)
 }
 
@@ -177,7 +177,7 @@ pub fn run(
     };
     let form = settings.form;
     let arrangement = settings.arrangement;
-    let p = clear(work, log, start, highest);
+    let p = clear(work, log, start);
     let mut chosen = [0i32; 9600];
     let n = choose(work, p, &mut chosen, arrangement);
     take(work, log, p, form, &chosen[..n], highest)

@@ -4,3 +4,4 @@ pub mod WayBack
 pub mod Premise
 pub mod Refusals
 pub mod Aligning
+pub mod Marks

@@ -4,3 +4,4 @@ pub mod Texts
 pub mod WayBack
 pub mod Refusals
 pub mod Aligning
+pub mod Marks

@@ -1,63 +1,53 @@
--- Invariant: no variable of the range before v clashes.
-use borrow.Author.Needs.{needs}
-use mathlib.Core.Path.{_≡_, sym, _∙_}
-use mathlib.Core.Bool.{false}
+-- The literals of a clash stand in one clause each (Finding).
 use native.Mathlib.Omega.{arith}
-use Prim.Native.Nat.{ℕ, _+_, _-_, _≤_, _<_}
+use mathlib.Core.Path.{subst, _∙_}
+use mathlib.Core.Bool.{true, false}
+use lib.IntN.{ℤ}
+use Prim.Native.Nat.{_≤_}
+use mir.Syntax.{w32}
+use mir.ValLaws.{toZ-ofZ}
 use denote.Ref.{now}
-use Rattle.pass_clashes.specs.Clashes.{both}
-use Rattle.pass_clashes.proofs.Search.{more-free, none-before-start}
+use borrow.Author.Needs.{sfits-of}
+use Rattle.definition.specs.Clearing.{times}
+use Rattle.literals.proofs.Laws.{signed-small}
+use Rattle.store.specs.Store.{stored}
+use Rattle.pass_clashes.specs.Clashes.{Found-with}
+use Rattle.pass_clashes.proofs.Finding.{found-clashing}
+use borrow.Author.Needs.{needs}
 use Rattle.pass_clashes.proofs.find_clash.Statement.{statement}
 use Rattle.pass_clashes.proofs.find_clash.Tie as tie
 
-abbrev Inv-loop : tie.InvT-loop
-Inv-loop places from to v₀ v = (from ≤ v) × (v ≤ to + 1) × ((k : ℕ) → from ≤ k → k < v → both places k ≡ false)
+signed-requires : tie.Need-signed-requires
+signed-requires c κs = search needs
 
-abbrev μ-loop : tie.MeasureT-loop
-μ-loop places from to v₀ v = to + 1 - v
+place-with-requires : tie.Need-place-with-requires
+place-with-requires c κs = search needs
 
-loop-holds : tie.Need-loop-holds Inv-loop μ-loop
-loop-holds c =
-    let start = c .before in
-    (search needs, search needs, none-before-start (now (start .args .places)) (start .args .from))
+signed-requires-2 : tie.Need-signed-requires-2
+signed-requires-2 c κs = search needs
 
-clashes-requires : tie.Need-clashes-requires Inv-loop μ-loop
-clashes-requires c κs = search needs
+place-with-requires-2 : tie.Need-place-with-requires-2
+place-with-requires-2 c κs = search needs
 
-returns : tie.Need-returns Inv-loop μ-loop
+returns : tie.Need-returns
 returns c =
-    let loop = c .before .before .before .loop in
-    ((search needs, search needs), (loop .inv .2, λ _. sym (c .before .clashes .ensures) ∙ c .if1 .taken))
-
-add-v : tie.Need-add-v Inv-loop μ-loop
-add-v c = search needs
-
-loop-less : tie.Need-loop-less Inv-loop μ-loop
-loop-less c = search needs
-
-loop-again : tie.Need-loop-again Inv-loop μ-loop
-loop-again c =
-    let back = c .before .before .before in let loop = back .loop in
-    let start = back .before .before in (
-      search needs,
-      search needs,
-      more-free (now (start .args .places)) (start .args .from) (loop .v)
-          (sym (c .before .clashes .ensures) ∙ c .if1 .left) (loop .inv .2),
-    )
-
-returns-2 : tie.Need-returns-2 Inv-loop μ-loop
-returns-2 c = ((search needs, search needs), (c .before .loop .inv .2, λ h. absurd (omega arith)))
+    let back = c .before in let signed2 = back .signed2 in
+    let back = back .before in let place-with = back .place-with in
+    let back = back .before in let signed = back .signed in
+    let start = back .before in
+    let s = now (start .args .store) in
+    let v = start .args .v in
+    let e = toZ-ofZ w32 (signed .result) (sfits-of (signed .ok))
+    ∙ signed .ensures
+    ∙ signed-small false v (omega (arith, start .pre .1)) in
+    let f = toZ-ofZ w32 (signed2 .result) (sfits-of (signed2 .ok))
+    ∙ signed2 .ensures
+    ∙ signed-small true v (omega (arith, start .pre .1)) in
+    found-clashing
+    (subst (λ (z : ℤ). 1 ≤ times z (stored s) → Found-with z s (place-with .result)) e (place-with .ensures))
+    (subst (λ (z : ℤ). 1 ≤ times z (stored s) → Found-with z s (c .place-with2 .result)) f (c .place-with2 .ensures))
 
 pub find-clash-spec : {M : Type 1} → statement M
 find-clash-spec =
     tie.close
-    (tie.spec
-    Inv-loop
-    μ-loop
-    loop-holds
-    clashes-requires
-    returns
-    add-v
-    loop-less
-    loop-again
-    returns-2)
+    (tie.spec signed-requires place-with-requires signed-requires-2 place-with-requires-2 returns)

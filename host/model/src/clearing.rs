@@ -18,13 +18,19 @@ fn without(literal: i32, clause: &[i32]) -> Vec<i32> {
         .collect()
 }
 
-/// The lowest variable that stands in one unique literal clause while its
-/// negation stands in another, with the places of both clauses.
+/// The places of a clash's clauses: the variable stands in one unique literal
+/// clause, and its negation in another.
+pub fn clash_of(standing: &Standing, variable: i32) -> Option<(usize, usize)> {
+    let a = standing.unique_literal_clause_with(variable)?;
+    let b = standing.unique_literal_clause_with(-variable)?;
+    (a != b).then_some((a, b))
+}
+
+/// The lowest variable that clashes, with the places of both clauses.
 fn lowest_clash(standing: &Standing, variables: i32) -> Option<(i32, usize, usize)> {
     (1..=variables).find_map(|variable| {
-        let a = standing.unique_literal_clause_with(variable)?;
-        let b = standing.unique_literal_clause_with(-variable)?;
-        (a != b).then_some((variable, a, b))
+        let (a, b) = clash_of(standing, variable)?;
+        Some((variable, a, b))
     })
 }
 

@@ -46,7 +46,8 @@ impl Random {
         }
     }
 
-    fn sign(&mut self, variable: i32) -> i32 {
+    /// The variable or its negation.
+    pub fn sign(&mut self, variable: i32) -> i32 {
         if self.chance(50) {
             variable
         } else {

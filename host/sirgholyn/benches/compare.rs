@@ -156,6 +156,13 @@ fn compare(valleys: &[usize], with_largest: bool) {
                 formulas::clash_chain(clashes),
             ));
         }
+        for clashes in [300, 600, 1_200] {
+            texts.push((
+                "clashes apart",
+                format!("{clashes} clashes apart"),
+                formulas::clashes_apart(clashes),
+            ));
+        }
     }
     let mut rows = Vec::new();
     for form in ["counter", "order"] {

@@ -4,24 +4,16 @@ mod common;
 
 use common::formulas::{any_kind_joined, is_joined};
 use common::{
-    compare_read_back, compare_reencode, compare_walk_back, new_formula, over_seeds, run_model,
-    sum, walk_back_work, work_for, Room, WAYS,
+    compare_read_back, compare_reencode, compare_walk_back, expect_more, new_formula, note,
+    over_seeds, run_model, sum, walk_back_work, work_for, Occurred, Room, WAYS,
 };
 use model::encoding::Encoding;
 use model::generator::{
     answer_after, clauses_with_repeat, damage, damage_log, repeats_in_choices, Joined, Random,
 };
 use model::texts::{log_text, Line};
-use std::collections::BTreeMap;
 
 const FORMULAS: u64 = 22_000;
-
-/// How often what is remarkable occurred, by name.
-type Occurred = BTreeMap<String, usize>;
-
-fn note(occurred: &mut Occurred, what: impl Into<String>, times: usize) {
-    *occurred.entry(what.into()).or_default() += times;
-}
 
 fn note_run(occurred: &mut Occurred, encoding: &Encoding) {
     let tally = &encoding.tally;
@@ -195,7 +187,7 @@ fn library_and_model_agree() {
 }
 
 fn expect_cases(occurred: &Occurred) {
-    for (what, least) in [
+    let cases = [
         ("clashes", 500),
         ("clash chains", 500),
         ("double clashes", 500),
@@ -213,9 +205,8 @@ fn expect_cases(occurred: &Occurred) {
         ("taken 64", 200),
         ("stays 04", 500),
         ("stays 65", 100),
-    ] {
-        assert!(occurred[what] > least, "{what}");
-    }
+    ];
+    expect_more(occurred, cases);
 }
 
 /// The call ended with each of these numbers and no other, and accepted texts of both kinds.
@@ -223,13 +214,14 @@ fn expect_call(occurred: &Occurred, call: &str, numbers: &[u32]) {
     let own = occurred.keys().filter_map(|what| what.strip_prefix(call));
     let found = own.filter_map(|what| what.trim_start().parse::<u32>().ok());
     assert_eq!(found.collect::<Vec<_>>(), numbers);
-    for (what, least) in [
+    let kinds = [
         ("clauses with a repeat", 20_000),
         ("clauses left out", 10_000),
         ("joined", 4_000),
         ("kept in full", 5_000),
-    ] {
-        let what = format!("{call}: {what}");
-        assert!(occurred[&what] > least, "{what}");
-    }
+    ];
+    expect_more(
+        occurred,
+        kinds.map(|(what, least)| (format!("{call}: {what}"), least)),
+    );
 }

@@ -53,6 +53,9 @@ const F: &[u8] = sessions::F.as_bytes();
 #[test]
 fn variables() {
     assert_eq!(reencode("p cnf 8000 1\n8000 -1 0"), 0);
+    // the last variable clashes
+    assert_eq!(reencode("p cnf 8000 2\n8000 1 0\n-8000 2 0"), 0);
+    assert_eq!(reencode("p cnf 8000 2\n8000 0\n-8000 0"), 0);
     assert_eq!(reencode("p cnf 8000 1\n8001 0"), 4);
     assert_eq!(reencode("p cnf 8001 0"), 2);
     assert_eq!(reencode("p cnf 4294967297 0"), 2);
@@ -259,11 +262,7 @@ fn short_by_one() {
         let log = log_text(&encoding.log);
         let new = new_formula(&encoding);
         let new_text = text_of(&new);
-        let enough = Room {
-            work: work_for(&read),
-            log: log.len(),
-            formula: new_text.len(),
-        };
+        let enough = Room::exact(&read, &encoding);
         let reencode = |work, log, formula| {
             let room = Room {
                 work: enough.work - work,

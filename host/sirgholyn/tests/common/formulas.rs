@@ -1,8 +1,10 @@
-//! Random formulas with choices of named sizes, joined by clashes, linked, and negated in many ways.
+//! Random formulas: with choices of named sizes, joined by clashes, linked, and negated in many ways; and with
+//! clashes at variables all over the range.
 
 use model::generator::{clauses_with_repeat, noise, one_of_three_joined, planned, Joined, Random};
 use model::reading::Formula;
 use model::texts::formula_text;
+use std::collections::BTreeSet;
 
 /// A text that is read as session F: literals are repeated, and two clauses put in that are left out.
 pub const JOINED_F: &str = "p cnf 6 9\n1 2 1 3 4 5 5 0\n-1 1 0\n-1 -2 -1 0\n-1 6 0\n-2 6 0\n-3 6 0\n-4 -6 0\n2 6 -2 2 0\n-5 -6 -6 0\n";
@@ -233,4 +235,137 @@ pub fn clash_chain(clashes: i32) -> Vec<u8> {
         clauses.push(vec![-literal]);
     }
     formula_text(clashes + 2 * own, &clauses)
+}
+
+/// So many clashes all over 8,000 variables, of two clauses of three literals each.
+pub fn clashes_apart(clashes: usize) -> Vec<u8> {
+    let distance = 8_000 / clashes as i32;
+    let (clashing, own): (Vec<i32>, Vec<i32>) =
+        (1..=8_000).partition(|variable| variable % distance == 0);
+    let clauses: Vec<Vec<i32>> = clashing
+        .iter()
+        .zip(own.chunks_exact(4))
+        .take(clashes)
+        .flat_map(|(v, own)| [vec![*v, own[0], own[1]], vec![-v, own[2], own[3]]])
+        .collect();
+    formula_text(8_000, &clauses)
+}
+
+/// How the variables of a chain's clashes go from clause to clause.
+#[derive(Debug, Clone, Copy)]
+pub enum Order {
+    Rising,
+    Falling,
+    Mixed,
+}
+
+/// Chains of unique literal clauses that clash, some more than once, among clauses that nearly clash.
+pub fn clashing(random: &mut Random, order: Order) -> Formula {
+    let last = if random.chance(50) {
+        8_000
+    } else {
+        random.between(64, 8_000)
+    };
+    let at = runs(random, last);
+    let mut clauses = chains(random, &at, order);
+    let others: BTreeSet<i32> = (0..random.below(30))
+        .map(|_| random.between(1, last) as i32)
+        .filter(|variable| !at.contains(variable))
+        .collect();
+    nearly_clash(random, &mut clauses, others);
+    for clause in &mut clauses {
+        random.shuffle(clause);
+    }
+    if random.chance(80) {
+        random.shuffle(&mut clauses);
+    }
+    Formula::new(last as i32, clauses)
+}
+
+/// Up to six runs of variables that lie close together; half of them begin at an end of the range or of a word
+/// of 32.
+fn runs(random: &mut Random, last: usize) -> BTreeSet<i32> {
+    let mut at = BTreeSet::new();
+    for _ in 0..random.below(7) {
+        let mut variable = if random.chance(50) {
+            *random.one_of(&[1, 31, 32, 33, 63, 64, last - 1, last])
+        } else {
+            random.between(1, last)
+        };
+        let farthest = *random.one_of(&[1, 1, 9, 50]);
+        for _ in 0..random.between(1, 6) {
+            if variable <= last {
+                at.insert(variable as i32);
+            }
+            variable += random.between(1, farthest);
+        }
+    }
+    at
+}
+
+/// Up to four chains of clauses, the variables dealt out among them.
+fn chains(random: &mut Random, at: &BTreeSet<i32>, order: Order) -> Vec<Vec<i32>> {
+    let mut variables: Vec<i32> = at.iter().copied().collect();
+    match order {
+        Order::Rising => {}
+        Order::Falling => variables.reverse(),
+        Order::Mixed => random.shuffle(&mut variables),
+    }
+    let count = random.between(1, 4);
+    let mut clauses: Vec<Vec<i32>> = Vec::new();
+    for chain in 0..count {
+        let own = variables.iter().copied().skip(chain).step_by(count);
+        clauses.extend(clashing_at(random, &own.collect::<Vec<i32>>()));
+    }
+    clauses
+}
+
+/// Clauses that clash at the variables: in a chain, and any two at the variables left over.
+fn clashing_at(random: &mut Random, variables: &[i32]) -> Vec<Vec<i32>> {
+    let most = variables.len() + 1;
+    let pieces = if random.chance(40) {
+        most
+    } else {
+        random.between(2.min(most), most)
+    };
+    let mut clauses: Vec<Vec<i32>> = vec![Vec::new(); pieces];
+    for (link, &variable) in variables.iter().enumerate() {
+        let (one, other) = if link + 1 < pieces {
+            (link, link + 1)
+        } else {
+            let one = random.below(pieces);
+            (one, (one + random.between(1, pieces - 1)) % pieces)
+        };
+        let literal = random.sign(variable);
+        clauses[one].push(literal);
+        clauses[other].push(-literal);
+    }
+    clauses.retain(|clause| !clause.is_empty());
+    clauses
+}
+
+/// Puts the variables into the clauses, and negations of them into clauses that are not unique literal clauses:
+/// some stand twice, some beside a literal that does. At times a literal of the first clause stands elsewhere, too.
+fn nearly_clash(random: &mut Random, clauses: &mut Vec<Vec<i32>>, variables: BTreeSet<i32>) {
+    let mut not_unique: Vec<Vec<i32>> = Vec::new();
+    if let Some(clause) = clauses.first().filter(|_| random.chance(20)) {
+        not_unique.push(vec![*random.one_of(clause)]);
+    }
+    let literals: Vec<i32> = variables.iter().map(|&v| random.sign(v)).collect();
+    for &literal in &literals {
+        if clauses.is_empty() || random.chance(20) {
+            clauses.push(Vec::new());
+        }
+        let place = random.below(clauses.len());
+        clauses[place].push(literal);
+        match random.below(3) {
+            0 => not_unique.extend([vec![-literal], vec![-literal]]),
+            1 if literal != literals[0] => not_unique.push(vec![-literal, -literals[0]]),
+            _ => {}
+        }
+    }
+    if let Some(shared) = literals.first() {
+        not_unique.extend([vec![-shared], vec![-shared]]);
+    }
+    clauses.append(&mut not_unique);
 }

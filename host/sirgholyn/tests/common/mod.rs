@@ -5,7 +5,10 @@ pub mod command;
 pub mod formulas;
 pub mod solvers;
 
+use model::encoding::Encoding;
+use model::generator::text_of;
 use model::reading::Formula;
+use model::texts::log_text;
 use sirgholyn::{calls, Arrangement, Form, Refusal};
 use std::collections::BTreeMap;
 use std::ops::Range;
@@ -42,6 +45,25 @@ pub fn count(numbers: &mut Numbers, outcome: u32) {
     *numbers.entry(outcome).or_default() += 1;
 }
 
+/// How often what is remarkable occurred, by name.
+pub type Occurred = BTreeMap<String, usize>;
+
+pub fn note(occurred: &mut Occurred, what: impl Into<String>, times: usize) {
+    *occurred.entry(what.into()).or_default() += times;
+}
+
+/// Each occurred more often than its number.
+pub fn expect_more<S: AsRef<str>>(
+    occurred: &Occurred,
+    cases: impl IntoIterator<Item = (S, usize)>,
+) {
+    for (what, number) in cases {
+        let what = what.as_ref();
+        let times = occurred.get(what).copied().unwrap_or(0);
+        assert!(times > number, "{what}: {times}");
+    }
+}
+
 pub fn in_model(form: Form, arrangement: Arrangement) -> (model::Form, model::Arrangement) {
     let form = match form {
         Form::Counter => model::Form::Counter,
@@ -54,13 +76,9 @@ pub fn in_model(form: Form, arrangement: Arrangement) -> (model::Form, model::Ar
     (form, arrangement)
 }
 
-pub fn run_model(
-    formula: &Formula,
-    form: Form,
-    arrangement: Arrangement,
-) -> model::encoding::Encoding {
+pub fn run_model(formula: &Formula, form: Form, arrangement: Arrangement) -> Encoding {
     let (form, arrangement) = in_model(form, arrangement);
-    model::encoding::Encoding::run(formula, form, arrangement)
+    Encoding::run(formula, form, arrangement)
 }
 
 /// Sizes of a reencoding's buffers.
@@ -69,6 +87,17 @@ pub struct Room {
     pub work: usize,
     pub log: usize,
     pub formula: usize,
+}
+
+impl Room {
+    /// What reencoding asks for, and the lengths of both texts.
+    pub fn exact(formula: &Formula, encoding: &Encoding) -> Room {
+        Room {
+            work: work_for(formula),
+            log: log_text(&encoding.log).len(),
+            formula: text_of(&new_formula(encoding)).len(),
+        }
+    }
 }
 
 /// Reencodes by library and model, and compares number, tally and every byte; the answer is the number.
@@ -250,7 +279,7 @@ pub fn over_seeds<C: Default + Send>(
 }
 
 /// The clauses left standing.
-pub fn new_formula(encoding: &model::encoding::Encoding) -> Formula {
+pub fn new_formula(encoding: &Encoding) -> Formula {
     Formula::new(encoding.highest, encoding.standing.clauses())
 }
 

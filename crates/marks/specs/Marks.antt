@@ -37,9 +37,13 @@ abbrev pub answer-of : Option ℕ → Lowest
 answer-of (some v) = At v
 answer-of none = Nothing
 
--- the first from a variable on that is marked
+-- so many variables have a mark, from a variable on
+abbrev pub left-from : List ℕ → ℕ → ℕ
+left-from m from = 32 * length m - from
+
+-- the first of them that is marked
 unfoldable pub lowest-from : List ℕ → ℕ → Lowest
-lowest-from m from = answer-of (first-from from (32 * length m - from) (λ v. cond (marked m v) (some v) none))
+lowest-from m from = answer-of (first-from from (left-from m from) (λ v. cond (marked m v) (some v) none))
 
 -- The answer is the lowest marked variable from a variable on, and none exactly when none of them is marked.
 pub record Lowest-marked (m : List ℕ) (from : ℕ) : Type 0 where

@@ -37,7 +37,7 @@ abbrev pub answer-of : Option ℕ → Lowest
 answer-of (some v) = At v
 answer-of none = Nothing
 
--- so many variables have a mark, from a variable on
+-- how many variables the words have digits for, from a variable on
 abbrev pub left-from : List ℕ → ℕ → ℕ
 left-from m from = 32 * length m - from
 

@@ -197,6 +197,4 @@ scanned-end {work} {new} {log} {new-log} {m} {new-m} {y} {z} s h =
     subst (λ (es : List Event). Runs es work log (y .progress) new new-log (z .progress)) e (s .runs)
   where
     none : (v : ℕ) → clashes (standing new (z .progress)) v ≡ false
-    none v =
-        sym (s .searching .exact v)
-        ∙ by-test (ltb v (32 * z .word)) (λ t. s .searching .passed v (ltb-true v _ t)) (λ t. none-past new-m v (omega (arith, ltb-false v (32 * z .word) t)))
+    none v = sym (s .searching .exact v) ∙ none-below (s .searching) (v + 1) (λ k a _. none-past new-m k (omega arith)) v (omega arith)

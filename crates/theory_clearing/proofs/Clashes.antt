@@ -76,20 +76,9 @@ clash-at-none F p n e a b i j s t x y = go (ulc-with F (pos n)) refl (ulc-with F
     go (some c) q (some d) r e = found (record { v = pos n; one = c; other = d }) d r (holds (pos n) d) refl e
 
 -- ---- the lowest clash
--- what is known of a clash that is found: it is one, of a variable from 1, and no lower variable has one
-pub record Lowest (F : Formula) (c : Clash) : Type 0 where
-  pub is-clash : Is-clash F c
-  pub variable : ℕ
-  positive : 1 ≤ variable
-  pub literal : c .v ≡ pos variable
-  pub lowest : (n : ℕ) → 1 ≤ n → n < variable → clash-at F n ≡ none
-
-pub lowest-some : (F : Formula) (c : Clash) → lowest-clash F ≡ some c → Lowest F c
+pub lowest-some : (F : Formula) (c : Clash) → lowest-clash F ≡ some c → Is-clash F c
 unfolding lowest-clash
-lowest-some F c e =
-    let r = first-from-some (clash-at F) 1 (highest-of F) c e in
-    let s = clash-at-some F (r .0) c (r .3) in
-    record { is-clash = s .1; variable = r .0; positive = r .1; literal = s .0; lowest = r .4 }
+lowest-some F c e = let r = first-from-some (clash-at F) 1 (highest-of F) c e in clash-at-some F (r .0) c (r .3) .1
 
 pub lowest-none : (G : Formula) → Proper-all G → lowest-clash G ≡ none → Clash-free G
 unfolding lowest-clash
@@ -129,10 +118,10 @@ module _ (h : ℕ) (F : Formula) (c : Clash) (es : List Event) (p : Proper-all F
       Sound (after F (clash-lines c)) es xs G L → Sound F (clash-cleared c ∷ es) (clash-lines c ++ xs) G L
   clash-first f w s = weaken clash-ones (clash-sound F c p q (f (c .one) (q .one-stands) (c .v) (q .one-holds) .1) w s)
 
--- ---- the events that clear clashes one after another, each the lowest
+-- ---- the events that clear clashes one after another
 pub data Clears : Formula → List Event → Formula → Type 0 where
   no-more : {F : Formula} → Clears F [] F
-  next : {F G : Formula} {c : Clash} {es : List Event} → Lowest F c → Clears (after F (clash-lines c)) es G → Clears F (clash-cleared c ∷ es) G
+  next : {F G : Formula} {c : Clash} {es : List Event} → Is-clash F c → Clears (after F (clash-lines c)) es G → Clears F (clash-cleared c ∷ es) G
 
 up-to-clears : (n : ℕ) (F : Formula) → Clears F (clear-up-to n F) (after F (lines (clear-up-to n F)))
 unfolding clear-up-to clear-next lines lines-of for-each after
@@ -146,21 +135,21 @@ up-to-clears (suc n) F = go (lowest-clash F) refl (up-to-clears n)
 
 clears-proper : {h : ℕ} {F G : Formula} {es : List Event} → Proper-all F → Fits h F → Clears F es G → Proper-all G × Fits h G
 clears-proper p f no-more = (p, f)
-clears-proper {h} {F} p f (next {c = c} l s) = clears-proper (after-proper F c p (l .is-clash)) (after-fits F c p (l .is-clash) h f) s
+clears-proper {h} {F} p f (next {c = c} l s) = clears-proper (after-proper F c p l) (after-fits F c p l h f) s
 
 clears-sound : {h : ℕ} {F E G : Formula} {es rest L : List Event} {xs : List Line} → Proper-all F → Fits h F → Clears F es E →
     Known h rest E → Sound E rest xs G L → Sound F (es ++ rest) (lines es ++ xs) G L × Known h (es ++ rest) F
 unfolding lines lines-of for-each
 clears-sound p f no-more w s = (s, w)
 clears-sound {h} {F} {rest = rest} {xs = xs} p f (next {c = c} {es = es} l r) w s =
-    let q = clears-sound (after-proper F c p (l .is-clash)) (after-fits F c p (l .is-clash) h f) r w s in
-    (rw append-assoc (clash-first h F c (es ++ rest) p (l .is-clash) f (q .1) (q .0)), clash-known h F c (es ++ rest) p (l .is-clash) (q .1))
+    let q = clears-sound (after-proper F c p l) (after-fits F c p l h f) r w s in
+    (rw append-assoc (clash-first h F c (es ++ rest) p l f (q .1) (q .0)), clash-known h F c (es ++ rest) p l (q .1))
 
 pub clears-lines-fit : {h : ℕ} {F G : Formula} {es : List Event} → Proper-all F → Fits h F → Clears F es G → (x : Line) → List·Memᴰ x (lines es) → Line-fits h x
 unfolding lines lines-of for-each
 clears-lines-fit {h} {F} p f (next {c = c} l s) x i = ⊎-elim
-    (λ j. clash-lines-fit F c p (l .is-clash) f x j)
-    (λ j. clears-lines-fit (after-proper F c p (l .is-clash)) (after-fits F c p (l .is-clash) h f) s x j)
+    (λ j. clash-lines-fit F c p l f x j)
+    (λ j. clears-lines-fit (after-proper F c p l) (after-fits F c p l h f) s x j)
     (List·Memᴰ·append-cases (clash-lines c) i)
 
 -- as many as clauses are enough
@@ -180,7 +169,7 @@ up-to-none-left (suc n) F p b = go (lowest-clash F) refl (up-to-none-left n)
     go (some c) e ih =
         let l = lowest-some F c e in
         rw (after-++ F (clash-lines c) (lines (clear-up-to n (after F (clash-lines c)))))
-        (ih (after F (clash-lines c)) (after-proper F c p (l .is-clash)) (omega (arith, after-shorter F c p (l .is-clash))))
+        (ih (after F (clash-lines c)) (after-proper F c p l) (omega (arith, after-shorter F c p l)))
 
 -- ---- all clashes of the formula
 pub clashes-clear : (F : Formula) → Clears F (clear-clashes F) (unclashed F)

@@ -130,7 +130,7 @@ up-to-enough (suc m) (suc n) F p a b = go (lowest-clash F) refl (up-to-enough m 
         clear-next (clear-up-to m) F o ≡ clear-next (clear-up-to n) F o
     go none e ih = refl
     go (some c) e ih =
-        let q = lowest-some F c e .is-clash in
+        let q = lowest-some F c e in
         let s = after-shorter F c p q in
         rw (ih (after F (clash-lines c)) (after-proper F c p q) (omega arith) (omega arith))
 

@@ -3,7 +3,7 @@ use mathlib.Core.Bool.{Bool, not, _&&_, cond}
 use mathlib.Core.List.{List, [], _∷_, _++_}
 use mathlib.Core.Option.{Option, some, none}
 use Prim.Native.Nat.{ℕ, zero, suc}
-use lib.Dec.{eqb, ltb}
+use lib.Dec.{eqb, ltb, leb}
 use lib.IntN.{ℤ, pos, negℤ}
 use lib.ListN.{length}
 use Rattle.definition.specs.Lists.{all, first, count, only-if, first-from}
@@ -63,9 +63,13 @@ clear-clashes f = clear-up-to (length f) f
 unfoldable pub pure : Formula → ℤ → Bool
 pure f l = eqb (times (negℤ l) f) 0
 
--- the clauses that are deleted if they have a pure literal
+-- 5 to 64 literals
+unfoldable pub choice-size : Clause → Bool
+choice-size c = leb 5 (length c) && leb (length c) 64
+
+-- the clauses that are deleted if they have a pure literal; a ULC of 5 to 64 literals is not, and is taken as a choice
 unfoldable pub deletable : Formula → Clause → Bool
-deletable f c = unique f c
+deletable f c = unique f c && not (choice-size c)
 
 -- its first pure literal
 unfoldable pub pure-literal : Formula → Clause → Option ℤ
@@ -91,5 +95,5 @@ clear-pure f = clear-pure-from [] f
 
 -- all of this file, for a proof that computes: `unfolding computing` opens every name of the next line
 unfoldable pub computing : Unit {0}
-unfolding times unique ulc-with clash-of clash-at lowest-clash resolvent clash-lines clear-next clear-up-to clear-clashes pure deletable pure-literal pure-lines pure-next clear-pure-from clear-pure
+unfolding times unique ulc-with clash-of clash-at lowest-clash resolvent clash-lines clear-next clear-up-to clear-clashes pure choice-size deletable pure-literal pure-lines pure-next clear-pure-from clear-pure
 computing = tt

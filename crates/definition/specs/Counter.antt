@@ -1,20 +1,16 @@
 -- "Counter form".
-use mathlib.Core.Bool.{Bool, not, _&&_}
+use mathlib.Core.Bool.{not, _&&_}
 use mathlib.Core.List.{List, [], _∷_, _++_, map}
 use Prim.Native.Nat.{ℕ, _+_, _-_}
-use lib.Dec.{leb}
 use lib.IntN.{ℤ, pos, negℤ}
 use lib.ListN.{length, getD, replicate}
 use Rattle.definition.specs.Lists.{those, count, for-each, for-from}
 use Rattle.definition.specs.Literals.{Clause, Formula, same-set}
 use Rattle.definition.specs.Standing.{Line, addition, deletion, stands}
 use Rattle.definition.specs.Events.{Choice, Event, choice-taken}
-use Rattle.definition.specs.Clearing.{unique}
+use Rattle.definition.specs.Clearing.{unique, choice-size}
 
 -- the ULCs of 5 to 64 literals are the choices
-unfoldable pub choice-size : Clause → Bool
-choice-size c = leb 5 (length c) && leb (length c) 64
-
 unfoldable pub choices : Formula → List Clause
 choices f = those (λ c. choice-size c && unique f c) f
 
@@ -86,5 +82,5 @@ choice-lines c missing copies =
 
 -- all of this file, for a proof that computes: `unfolding computing` opens every name of the next line
 unfoldable pub computing : Unit {0}
-unfolding choice-size choices below-new last-new pairs missing-pairs size lit new stage-2 stage-3 counter copies take-choice choice-lines
+unfolding choices below-new last-new pairs missing-pairs size lit new stage-2 stage-3 counter copies take-choice choice-lines
 computing = tt

@@ -3,9 +3,11 @@ use mathlib.Core.Bool.{Bool, false, _&&_}
 use mathlib.Core.List.{List, [], _∷_, map}
 use Prim.Native.Nat.{ℕ}
 use Prim.Native.String.{String}
+use lib.ListN.{length}
+use lib.IntN.{pos}
 use lib.Dec.{T, eqb}
 use Rattle.definition.specs.Lists
-use Rattle.definition.specs.Lists.{all, for-each}
+use Rattle.definition.specs.Lists.{all, for-each, for-from}
 use Rattle.definition.specs.Checked
 use Rattle.definition.specs.Checked.{Checked, fault, value}
 use Rattle.definition.specs.Literals
@@ -22,7 +24,7 @@ use Rattle.definition.specs.Order
 use Rattle.definition.specs.Alignment
 use Rattle.definition.specs.Alignment.{as-listed, arranged, alignment}
 use Rattle.definition.specs.Reencoding
-use Rattle.definition.specs.Reencoding.{Settings}
+use Rattle.definition.specs.Reencoding.{Settings, cleared}
 use Rattle.definition.specs.Log
 use Rattle.definition.specs.Log.{clause-text, formula-text}
 use Rattle.definition.specs.LogReading
@@ -48,8 +50,10 @@ pub data Session : Type 0 where
   walks : Settings → String → String → ℕ → String → Session
   -- the new formula, read back and written again, is the same text
   reads-back : Settings → String → Session
-  -- the choices of a formula without clashes and pure literals, aligned
+  -- the choices of a formula as it stands, aligned
   aligns : String → String → Session
+  -- how many choices are taken of a formula that is the clause 1..n alone
+  alone : ℕ → ℕ → Session
   -- the clauses kept of a text that may have so many literals
   reads : ℕ → String → String → Session
   -- the number that such a text is refused with
@@ -92,6 +96,7 @@ passes (aligns t out) =
     good (read-formula input-limits (bytes t)) (λ i.
     let cs = choices (i .formula) in
     same-bytes (for-each (map (arranged alignment (i .formula) cs) cs) clause-text) (bytes out))
+passes (alone n m) = eqb (length (choices (cleared (for-from 1 n (λ v. pos v ∷ []) ∷ [])))) m
 passes (reads n t out) = good (read-within n t) (λ i. same-bytes (for-each (i .formula) clause-text) (bytes out))
 passes (not-read n t m) = is-fault (read-within n t) m
 passes (refused t n) = is-fault (run counter t) n
@@ -104,11 +109,14 @@ e-text = "p cnf 3 2\n1 2 0\n-1 3 0\n"
 f-text : String
 f-text = "p cnf 6 7\n1 2 3 4 5 0\n-1 -2 0\n-1 6 0\n-2 6 0\n-3 6 0\n-4 -6 0\n-5 -6 0\n"
 
+free-text : String
+free-text = "p cnf 6 1\n1 2 3 4 5 6 0\n"
+
 g-formula : String
 g-formula = "p cnf 10 8\n8 -7 0\n9 -8 0\n10 -9 0\n-7 6 0\n7 -8 6 0\n8 -9 6 0\n9 -10 -6 0\n10 -6 0\n"
 
 pub sessions : List Session
-unfolding counter order e-text f-text g-formula
+unfolding counter order e-text f-text free-text g-formula
 sessions =
     -- A to E
     texts counter "p cnf 0 0\n" "" "p cnf 0 0\n"
@@ -138,6 +146,18 @@ sessions =
     ∷ aligns "p cnf 11 4\n1 2 3 4 5 0\n6 7 8 9 10 0\n-1 -8 0\n-6 -2 0\n" "1 2 3 4 5 0\n8 6 7 9 10 0\n"
     -- 1-8-2: not alignable
     ∷ aligns "p cnf 11 4\n1 2 3 4 5 0\n6 7 8 9 10 0\n-1 -8 0\n-8 -2 0\n" "1 2 3 4 5 0\n6 7 8 9 10 0\n"
+    -- nothing forbids any of six literals: they are a choice all the same; of two that are true, or of none, comes one
+    ∷ counts counter free-text 11 20 51
+    ∷ counts order free-text 11 4 67
+    ∷ walks order free-text "s SATISFIABLE\nv 1 2 -3 -4 -5 -6 -7 -8 9 10 11 0\n" 67 "v -1 -2 3 -4 -5 -6 0\n"
+    ∷ walks order free-text "s SATISFIABLE\nv 0\n" 67 "v -1 -2 -3 -4 -5 6 0\n"
+    -- so it is with 5 to 64 literals, also those of a resolvent; with 4 or 65 the clause is deleted
+    ∷ counts counter "p cnf 6 2\n1 2 3 0\n-1 4 5 6 0\n" 10 16 40
+    ∷ texts counter "p cnf 4 1\n1 2 3 4 0\n" "d 1 2 3 4 0\n" "p cnf 4 0\n"
+    ∷ alone 4 0
+    ∷ alone 5 1
+    ∷ alone 64 1
+    ∷ alone 65 0
     -- a repeated literal stays at its first place only; a clause with a literal and its negation is left out, but counts towards C
     ∷ reads 1 "p cnf 1 1\n1 1 0\n" "1 0\n"
     ∷ reads 0 "p cnf 1 1\n1 -1 0\n" ""

@@ -4,48 +4,27 @@ use mathlib.Core.Bool.{Bool, true, false, _&&_}
 use mathlib.Core.List.{List, [], _∷_, _++_, append-nil, List·Memᴰ·head as here, Memᴰ·append-right}
 use Prim.Native.Nat.{ℕ, _+_, _-_, _≤_, _<_}
 use native.Mathlib.Omega.{arith}
-use lib.Dec.{leb}
 use lib.IntN.{ℤ}
 use lib.ListN.{length, take, drop}
 use lib.Seq.{take-all}
-use borrow.Author.Tests.{le-leb, lt-leb, leb-true}
 use Rattle.definition.specs.Lists.{those}
 use Rattle.definition.specs.Literals.{Clause, Formula}
 use Rattle.definition.specs.Calls.{numbers-of}
-use Rattle.definition.specs.Clearing.{unique}
-use Rattle.definition.specs.Counter.{choice-size, choices}
-use Rattle.theory_base.proofs.Tests.{by-test, of-true, to-true, and-l, and-r}
-use Rattle.theory_base.proofs.Clauses.{numbers-none, numbers-first, numbers-++}
+use Rattle.definition.specs.Clearing.{unique, choice-size}
+use Rattle.definition.specs.Counter.{choices}
+use Rattle.theory_base.proofs.Tests.{by-test, of-true, and-l}
+use Rattle.theory_base.proofs.Clauses.{choice-size-within, numbers-none, numbers-first, numbers-++}
 use Rattle.store.specs.Store.{Formed, stored, Counted, deleted-at, clause-at, past, Place, end-after, with-entry}
 use Rattle.tables.specs.Sizes.{input-reach}
-use Rattle.tables.specs.Counts.{unique-by}
-use Rattle.tables.proofs.Counting.{unique-is}
+use Rattle.tables.specs.Counts.{unique-by, choice-by}
+use Rattle.tables.proofs.Counting.{choice-is}
 use Rattle.store.specs.declared.Added.the-variants.{To, Full}
 use Rattle.store.proofs.Laws.{stored-none, stored-split, place-start, place-next, stored-around, prefix-deleted, prefix-stands, appended, fits-within, part-there}
 use Rattle.theory_base.proofs.Members.{those-++}
-use Rattle.pass_choose.specs.Collecting.{choice-by, chosen-at, Joined, Collected}
-
--- ---- the test of a clause, by its length
-
-pub short-no : (t : List ℕ) (c : Clause) → length c < 5 → false ≡ choice-by t c
-unfolding choice-size
-short-no t c h = rw (lt-leb 5 (length c) h) refl
-
-pub long-no : (t : List ℕ) (c : Clause) → 64 < length c → false ≡ choice-by t c
-unfolding choice-size
-long-no t c h = go (leb 5 (length c)) (lt-leb (length c) 64 h)
-  where
-    go : (b : Bool) → leb (length c) 64 ≡ false → false ≡ ((b && leb (length c) 64) && unique-by t c)
-    go true e = rw e refl
-    go false e = refl
-
-pub size-yes : {r : Bool} (t : List ℕ) (c : Clause) → 5 ≤ length c → length c ≤ 64 → r ≡ unique-by t c → r ≡ choice-by t c
-unfolding choice-size
-size-yes t c a b e = rw (le-leb 5 (length c) a, le-leb (length c) 64 b) e
+use Rattle.pass_choose.specs.Collecting.{chosen-at, Joined, Collected}
 
 choice-within : (t : List ℕ) (c : Clause) → choice-by t c ≡ true → length c ≤ 64
-unfolding choice-size
-choice-within t c e = leb-true (length c) 64 (to-true (and-r (leb 5 (length c)) (leb (length c) 64) (and-l (leb 5 (length c) && leb (length c) 64) (unique-by t c) (of-true e))))
+choice-within t c e = choice-size-within c (and-l (choice-size c) (unique-by t c) (of-true e)) .1
 
 -- ---- one clause more
 
@@ -120,8 +99,7 @@ module _ {s : List ℤ} {t : List ℕ} {size : ℕ} (w : Counted input-reach s t
 
   same-test : deleted-at s at ≡ false → choice-by t c ≡ is-choice F c
   same-test d =
-      ap (λ (b : Bool). choice-size c && b)
-      (unique-is input-reach (omega arith) t F (w .table) c (λ x j. w .fits c (rw (stored-around s at h (i .place) d) (Memᴰ·append-right (stored (take at s)) (here refl))) x j .1))
+      choice-is input-reach (omega arith) t F (w .table) c (λ x j. w .fits c (rw (stored-around s at h (i .place) d) (Memᴰ·append-right (stored (take at s)) (here refl))) x j .1)
 
   -- the choices before the place past the entry
   more : those (is-choice F) (stored (take (past s at) s)) ≡ those (is-choice F) (stored (take at s)) ++ chosen-at t s at

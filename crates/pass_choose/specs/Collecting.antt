@@ -1,21 +1,16 @@
 -- Collecting the choices of a store.
 use mathlib.Core.Path.{_≡_}
-use mathlib.Core.Bool.{Bool, _&&_, cond}
+use mathlib.Core.Bool.{cond}
 use mathlib.Core.List.{List, [], _∷_, _++_}
 use Prim.Native.Nat.{ℕ, _+_, _≤_}
 use lib.IntN.{ℤ}
 use lib.ListN.{length, take}
 use Rattle.definition.specs.Literals.{Clause}
 use Rattle.definition.specs.Calls.{numbers-of}
-use Rattle.definition.specs.Counter.{choice-size}
 use Rattle.store.specs.Store.{Formed, stored, deleted-at, clause-at}
-use Rattle.tables.specs.Counts.{unique-by}
+use Rattle.tables.specs.Counts.{choice-by}
 
 -- ---- at a place
-
--- a choice, by the table of counts
-abbrev pub choice-by : List ℕ → Clause → Bool
-choice-by t c = choice-size c && unique-by t c
 
 -- the clause there, if it stands and is a choice
 abbrev pub chosen-at : List ℕ → List ℤ → ℕ → List Clause

@@ -8,21 +8,8 @@ ghost use Rattle.definition.specs.Counter.{choices};
 ghost use Rattle.tables.specs.Sizes.{input-reach};
 ghost use Rattle.store.specs.Store.{Formed, stored, Counted};
 ghost use Rattle.progress.specs.Progress.{standing, Good};
-ghost use Rattle.pass_choose.specs.Collecting.{choice-by, chosen-at, Joined, Collected};
+ghost use Rattle.pass_choose.specs.Collecting.{chosen-at, Joined, Collected};
 use progress::Progress;
-
-// Whether a clause is a choice.
-fn is_choice(counts: &[u32], clause: &[i32]) -> bool
-    ensures { λ r. ⌜ r ≡ choice-by (now (counts .entry)) (now (clause .entry)) ⌝ }
-{
-    if clause.len() < 5 {
-        return false;
-    }
-    if 64 < clause.len() {
-        return false;
-    }
-    tables::is_unique(counts, clause)
-}
 
 // Puts a choice at the end of the list; the result is the place past it.
 fn append(chosen: &mut [i32], end: usize, clause: &[i32]) -> usize
@@ -46,7 +33,7 @@ fn collect_at(store: &[i32], at: usize, counts: &[u32], chosen: &mut [i32], end:
     }
     let next = store::next_at(store, at);
     let first = at + 1;
-    if is_choice(counts, &store[first..next]) {
+    if tables::is_choice(counts, &store[first..next]) {
         append(chosen, end, &store[first..next])
     } else {
         end

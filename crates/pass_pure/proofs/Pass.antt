@@ -106,6 +106,7 @@ module _ {F : Formula} {x y : Bytes} {p q : Progress} {s : List ℤ} {at : ℕ} 
       stands = stands-there;
       literal = at-start .literal;
       alone = at-unique (X ++ (c ∷ R)) c (unique-some F c (at-start .alone)) (λ z j. omega (arith, fewer-there z, unique-at F c (at-start .alone) z j, times-at z stands-there j));
+      no-choice = at-start .no-choice;
       nowhere = omega (arith, fewer-there (negℤ l), at-start .nowhere);
     }
 

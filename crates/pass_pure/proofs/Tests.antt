@@ -9,11 +9,11 @@ use lib.IntN.{ℤ, pos, natAbs}
 use lib.ListN.{length, getD, drop}
 use Rattle.definition.specs.Lists.{first}
 use Rattle.definition.specs.Literals.{Clause, Formula}
-use Rattle.definition.specs.Clearing.{pure, deletable, pure-literal}
+use Rattle.definition.specs.Clearing.{pure, pure-literal}
 use Rattle.theory_base.proofs.Members.{first-agree}
 use Rattle.theory_base.proofs.Slices.{drop-step, drop-end}
-use Rattle.tables.specs.Counts.{Counts, unique-by, pure-in}
-use Rattle.tables.proofs.Counting.{unique-is, pure-is}
+use Rattle.tables.specs.Counts.{Counts, deletable-by, pure-in}
+use Rattle.tables.proofs.Counting.{deletable-is, pure-is}
 use Rattle.pass_pure.specs.Pass.{pure-by, as-pure}
 use Rattle.pass_pure.specs.declared.Pure.{Pure}
 use Rattle.pass_pure.specs.declared.Pure.the-variants.{Literal, Nothing}
@@ -33,10 +33,10 @@ module _ (t : List ℕ) (s : Clause) (i : ℕ) where
   unfolding first
   first-end h = rw (drop-end s i h) refl
 
-pub pure-yes : {u : Bool} {r : Pure} (t : List ℕ) (c : Clause) → u ≡ unique-by t c → u ≡ true → r ≡ as-pure (first (pure-in t) c) → r ≡ as-pure (pure-by t c)
+pub pure-yes : {u : Bool} {r : Pure} (t : List ℕ) (c : Clause) → u ≡ deletable-by t c → u ≡ true → r ≡ as-pure (first (pure-in t) c) → r ≡ as-pure (pure-by t c)
 pure-yes t c e k q = rw (sym e ∙ k) q
 
-pub pure-no : {u : Bool} (t : List ℕ) (c : Clause) → u ≡ unique-by t c → u ≡ false → Nothing ≡ as-pure (pure-by t c)
+pub pure-no : {u : Bool} (t : List ℕ) (c : Clause) → u ≡ deletable-by t c → u ≡ false → Nothing ≡ as-pure (pure-by t c)
 pure-no t c e k = rw (sym e ∙ k) refl
 
 -- what an answer says
@@ -52,5 +52,5 @@ nothing-is (some k) e = absurd (let z : _≡_ {A = ℕ} 0 1 = cc in omega arith)
 
 module _ (h : ℕ) (b : h ≤ 2147483647) (t : List ℕ) (F : Formula) (k : Counts h t F) (c : Clause) (f : (x : ℤ) → List·Memᴰ x c → natAbs x ≤ h) where
   pub pure-literal-is : pure-by t c ≡ pure-literal F c
-  unfolding pure-literal deletable
-  pure-literal-is = rw (unique-is h b t F k c f, first-agree (pure-in t) (pure F) c (pure-is h b t F k c f)) refl
+  unfolding pure-literal
+  pure-literal-is = rw (deletable-is h b t F k c f, first-agree (pure-in t) (pure F) c (pure-is h b t F k c f)) refl

@@ -13,7 +13,7 @@ use Rattle.definition.specs.Standing.{deletion}
 use Rattle.definition.specs.Clearing.{clear-pure}
 use Rattle.theory_clearing.specs.Clashes.{Clash-free}
 use Rattle.tables.specs.Sizes.{input-reach}
-use Rattle.tables.specs.Counts.{Counts, pure-in, unique-by}
+use Rattle.tables.specs.Counts.{Counts, pure-in, deletable-by}
 use Rattle.store.specs.Store.{deleted-at, clause-at, marked}
 use Rattle.progress.specs.declared.Progress.{Progress}
 use Rattle.progress.specs.Progress.{Written, standing, Good}
@@ -22,7 +22,7 @@ use Rattle.pass_pure.specs.declared.Pure.the-variants.{Literal, Nothing}
 
 -- the literal for which a clause is deleted, if it is
 abbrev pub pure-by : List ℕ → Clause → Option ℤ
-pure-by t c = cond (unique-by t c) (first (pure-in t) c) none
+pure-by t c = cond (deletable-by t c) (first (pure-in t) c) none
 
 -- the same as the function answers it
 abbrev pub as-pure : Option ℤ → Pure

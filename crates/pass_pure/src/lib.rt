@@ -1,4 +1,4 @@
-// Deleting the unique literal clauses that have a pure literal.
+// Deleting clauses for a pure literal: the unique literal clauses that have one, save those of 5 to 64 literals.
 ghost use mathlib.Core.Path.{_≡_};
 ghost use Prim.Native.Nat.{_<_, _^_};
 ghost use lib.ListN.{length, drop};
@@ -39,7 +39,7 @@ fn first_pure(counts: &[u32], clause: &[i32]) -> Pure
 fn pure_literal(counts: &[u32], clause: &[i32]) -> Pure
     ensures { λ r. ⌜ r ≡ as-pure (pure-by (now (counts .entry)) (now (clause .entry))) ⌝ }
 {
-    if tables::is_unique(counts, clause) {
+    if tables::is_deletable(counts, clause) {
         first_pure(counts, clause)
     } else {
         Pure::Nothing
@@ -48,7 +48,7 @@ fn pure_literal(counts: &[u32], clause: &[i32]) -> Pure
 
 // ---- the pass over the store
 
-// Deletes the clause at a place if it stands and is a unique literal clause with a pure literal.
+// Deletes the clause at a place if it stands and is to be deleted for a pure literal.
 fn delete_at(work: &mut [i32], at: usize, counts: &[u32], log: &mut [u8], p: Progress) -> Progress
     requires { ⌜ (at < length (now work)) × Formed (drop at (now work)) ⌝ }
     requires { ⌜ (p .at < 2 ^ 63) × (p .lines < 2 ^ 63) ⌝ }
@@ -65,7 +65,7 @@ fn delete_at(work: &mut [i32], at: usize, counts: &[u32], log: &mut [u8], p: Pro
     }
 }
 
-// Deletes the unique literal clauses with a pure literal from a workspace that is all store, in list order.
+// Deletes clauses for a pure literal from a workspace that is all store, in list order.
 fn delete_all(work: &mut [i32], counts: &[u32], log: &mut [u8], p: Progress) -> Progress
     requires { ⌜ Passable (now work) (now counts) p ⌝ }
     ensures { λ r. ⌜ Runs (clear-pure (standing (now (work .entry)) p)) (now (work .entry)) (now (log .entry)) p (now (work .exit)) (now (log .exit)) r ⌝ }
@@ -80,7 +80,7 @@ fn delete_all(work: &mut [i32], counts: &[u32], log: &mut [u8], p: Progress) -> 
     q
 }
 
-// Deletes the unique literal clauses with a pure literal from a store in which no clash is left.
+// Deletes clauses for a pure literal from a store in which no clash is left.
 pub fn delete_pure(work: &mut [i32], log: &mut [u8], p: Progress) -> Progress
     requires { ⌜ Good input-reach (clear-pure (standing (now work) p)) (now work) p × Clash-free (standing (now work) p) ⌝ }
     ensures { λ r. ⌜ Runs (clear-pure (standing (now (work .entry)) p)) (now (work .entry)) (now (log .entry)) p (now (work .exit)) (now (log .exit)) r ⌝ }

@@ -8,8 +8,8 @@ use lib.IntN.{ℤ}
 use lib.ListN.{length, take, drop, length-append, length-drop}
 use lib.Seq.{length-take-le, take-at}
 use Rattle.definition.specs.Literals.{Formula}
-use Rattle.definition.specs.Clearing.{unique}
-use Rattle.definition.specs.Counter.{choices, choice-size}
+use Rattle.definition.specs.Clearing.{unique, choice-size}
+use Rattle.definition.specs.Counter.{choices}
 use Rattle.definition.specs.Alignment.{Arrangement, as-listed, alignment, arranged}
 use Rattle.theory_base.specs.Clauses.{Fits}
 use Rattle.theory_base.proofs.Members.{those-mem}

@@ -1,17 +1,17 @@
 -- A table counted from zeros: its entry at a literal is the number of clauses in which the literal stands, and the tests by it are the definition's. Assumes nothing.
 use mathlib.Core.Path.{_≡_, refl, sym, ap, _∙_}
-use mathlib.Core.Bool.{Bool, true, false, cond, _&&_, _||_}
+use mathlib.Core.Bool.{Bool, true, false, not, cond, _&&_, _||_, and-true, and-false}
 use mathlib.Core.List.{List, [], _∷_, List·Memᴰ}
 use Prim.Native.Nat.{ℕ, _+_, _≤_, _<_, min}
 use native.Mathlib.Omega.{arith}
-use lib.Dec.{eqb, ltb}
+use lib.Dec.{eqb, ltb, leb}
 use lib.IntN.{ℤ, pos, negℤ, natAbs}
 use lib.ListN.{length, getD, set, drop, length-set, replicate, length-replicate}
 use lib.Seq.{set-getD}
-use borrow.Author.Tests.{lt-ltb, le-ltb}
+use borrow.Author.Tests.{lt-ltb, le-ltb, le-leb, lt-leb}
 use Rattle.definition.specs.Lists.{bit, any, all, count, sum-of}
 use Rattle.definition.specs.Literals.{Clause, Formula, same, holds, repeated}
-use Rattle.definition.specs.Clearing.{times, unique, pure}
+use Rattle.definition.specs.Clearing.{times, unique, pure, choice-size, deletable}
 use Rattle.theory_base.specs.Clauses.{Proper-all}
 use Rattle.theory_base.proofs.Clauses.{proper-unrepeated}
 use Rattle.theory_base.proofs.Tests.{of-true, differ, by-test, to-false}
@@ -20,7 +20,7 @@ use Rattle.theory_base.proofs.Slices.{drop-step, drop-end}
 use Rattle.literals.specs.Literal.{index-of, negation}
 use Rattle.literals.proofs.Laws.{negation-small, index-within}
 use Rattle.tables.specs.Entries.{entry-of, most, counted-at, tallied, tallied-all}
-use Rattle.tables.specs.Counts.{Counts, once-in, pure-in, unique-by}
+use Rattle.tables.specs.Counts.{Counts, once-in, pure-in, unique-by, choice-by, deletable-by}
 use Rattle.tables.proofs.Laws.{entry-zeros, entry-set}
 
 -- ---- the code's ways
@@ -46,6 +46,28 @@ unique-some t c h e = rw (lt-ltb 0 (length c) h) e
 
 pub unique-none : (t : List ℕ) (c : Clause) → length c ≤ 0 → false ≡ unique-by t c
 unique-none t c h = rw (le-ltb 0 (length c) h) refl
+
+pub size-short : (c : Clause) → length c < 5 → false ≡ choice-size c
+unfolding choice-size
+size-short c h = rw (lt-leb 5 (length c) h) refl
+
+pub size-else : (c : Clause) → 5 ≤ length c → leb (length c) 64 ≡ choice-size c
+unfolding choice-size
+size-else c h = rw (le-leb 5 (length c) h) refl
+
+-- a choice or a clause to be deleted, by the size and by being unique
+module _ (t : List ℕ) (c : Clause) {s : Bool} (e : s ≡ choice-size c) where
+  pub choice-sized : {r : Bool} → s ≡ true → r ≡ unique-by t c → r ≡ choice-by t c
+  choice-sized k u = rw (sym e ∙ k) u
+
+  pub choice-unsized : s ≡ false → false ≡ choice-by t c
+  choice-unsized k = rw (sym e ∙ k) refl
+
+  pub deletable-sized : s ≡ true → false ≡ deletable-by t c
+  deletable-sized k = rw (sym e ∙ k) (sym (and-false (unique-by t c)))
+
+  pub deletable-unsized : {r : Bool} → s ≡ false → r ≡ unique-by t c → r ≡ deletable-by t c
+  deletable-unsized k u = rw (sym e ∙ k) (u ∙ sym (and-true (unique-by t c)))
 
 -- ---- lengths
 
@@ -146,6 +168,13 @@ module _ (h : ℕ) (b : h ≤ 2147483647) (t : List ℕ) (F : Formula) (k : Coun
   pub unique-is : unique-by t c ≡ unique F c
   unfolding unique
   unique-is = ap (λ (z : Bool). ltb 0 (length c) && z) (all-same (once-in t) (λ l. eqb (times l F) 1) c (λ x i. ap (λ (n : ℕ). eqb n 1) (k x (f x i))))
+
+  pub choice-is : choice-by t c ≡ (choice-size c && unique F c)
+  choice-is = ap (λ (z : Bool). choice-size c && z) unique-is
+
+  pub deletable-is : deletable-by t c ≡ deletable F c
+  unfolding deletable
+  deletable-is = ap (λ (z : Bool). z && not (choice-size c)) unique-is
 
   pub pure-is : (x : ℤ) → List·Memᴰ x c → pure-in t x ≡ pure F x
   unfolding pure

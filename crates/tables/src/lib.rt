@@ -5,10 +5,11 @@ ghost use lib.IntN.{natAbs};
 ghost use lib.ListN.{length, getD, set};
 ghost use Rattle.definition.specs.Lists.{all};
 ghost use Rattle.definition.specs.Literals.{Clause};
+ghost use Rattle.definition.specs.Clearing.{choice-size};
 ghost use Rattle.literals.specs.Literal.{index-of};
 ghost use Rattle.tables.specs.Sizes.{log-reach, log-size};
 ghost use Rattle.tables.specs.Entries.{entry-of as entry-at-literal, with-entries, counted-at, tallied};
-ghost use Rattle.tables.specs.Counts.{once-in, pure-in, unique-by};
+ghost use Rattle.tables.specs.Counts.{once-in, pure-in, unique-by, choice-by, deletable-by};
 ghost use Rattle.tables.specs.Places.{with-numbers, place-in};
 ghost use Rattle.tables.specs.Stamps.{Marks, Fresh, At-most, Mark-post};
 
@@ -147,6 +148,38 @@ pub fn is_unique(counts: &[u32], clause: &[i32]) -> bool
         all_once(counts, clause)
     } else {
         false
+    }
+}
+
+// Whether a clause has as many literals as a choice.
+fn is_choice_size(clause: &[i32]) -> bool
+    ensures { λ r. ⌜ r ≡ choice-size (now (clause .entry)) ⌝ }
+{
+    if clause.len() < 5 {
+        return false;
+    }
+    clause.len() <= 64
+}
+
+// Whether a clause is a choice.
+pub fn is_choice(counts: &[u32], clause: &[i32]) -> bool
+    ensures { λ r. ⌜ r ≡ choice-by (now (counts .entry)) (now (clause .entry)) ⌝ }
+{
+    if is_choice_size(clause) {
+        is_unique(counts, clause)
+    } else {
+        false
+    }
+}
+
+// Whether a clause is deleted if it has a pure literal: a unique literal clause that is no choice.
+pub fn is_deletable(counts: &[u32], clause: &[i32]) -> bool
+    ensures { λ r. ⌜ r ≡ deletable-by (now (counts .entry)) (now (clause .entry)) ⌝ }
+{
+    if is_choice_size(clause) {
+        false
+    } else {
+        is_unique(counts, clause)
     }
 }
 

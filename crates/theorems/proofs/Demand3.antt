@@ -2,7 +2,6 @@
 use mathlib.Core.List.{[]}
 use lib.ListN.{take}
 use Rattle.definition.specs.Literals.{Formula}
-use Rattle.definition.specs.Reading.{input-limits}
 use Rattle.definition.specs.Assignments.{Satisfiable, Exactly-one, carried-back}
 use Rattle.definition.specs.Reencoding.{events, log, result}
 use Rattle.theory_base.proofs.Trues.{sat-satisfies, satisfies-sat}

@@ -1,4 +1,5 @@
 pub mod Demand3
+pub mod Choices
 pub mod Texts
 pub mod WayBack
 pub mod Premise

@@ -9,7 +9,7 @@ use lib.ListN.{length, take}
 use borrow.Author.Tests.{le-ltb}
 use Rattle.definition.specs.Checked.{value, _>>=_, refuse-if}
 use Rattle.definition.specs.Literals.{Clause, Formula}
-use Rattle.definition.specs.Reading.{Input, input-limits, read-formula}
+use Rattle.definition.specs.Reading.{Input}
 use Rattle.definition.specs.Text.{Bytes}
 use Rattle.definition.specs.Standing.{Line, replay}
 use Rattle.definition.specs.Assignments.{Assignment, satisfies, carried-back}

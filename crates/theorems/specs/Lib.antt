@@ -1,5 +1,6 @@
 -- What is promised of the definition.
 pub mod Demand3
+pub mod Choices
 pub mod Texts
 pub mod WayBack
 pub mod Refusals

@@ -6,11 +6,13 @@ use mathlib.Core.Logic.{_≢_, ⊎-elim, _⊎_, inl, inr}
 use mathlib.Core.List.{List, [], _∷_, _++_, List·Memᴰ, List·Memᴰ·head as here, List·Memᴰ·tail as there, List·Memᴰ·not-nil, List·Memᴰ·cases-cons, List·Memᴰ·append-cases, List·Memᴰ·eq-of-singleton, Memᴰ·append-right, Memᴰ·append-left, Memᴰ·cast}
 use Prim.Native.Nat.{ℕ, _+_, _≤_}
 use native.Mathlib.Omega.{arith}
+use lib.Dec.{T, leb, leb→le}
 use lib.IntN.{ℤ, pos, negsuc, negℤ, natAbs}
 use lib.ListN.{length}
 use Rattle.definition.specs.Lists.{any, sum-of}
 use Rattle.definition.specs.Literals.{Clause, Formula, same, holds, with-literal, literals-of, repeated, opposed}
-use Rattle.theory_base.proofs.Tests.{to-false, differ, or-false-both, to-true, of-true, or-l, or-r}
+use Rattle.definition.specs.Clearing.{choice-size}
+use Rattle.theory_base.proofs.Tests.{to-false, differ, or-false-both, to-true, of-true, and-l, and-r, or-l, or-r}
 use Rattle.theory_base.proofs.Sums.{sum-++, count-length, Distinct, sum-within}
 use Rattle.theory_base.proofs.Members.{unlike, unlike-false, turn, holds-snoc, holds-false, mem-holds, opposes-mem, mem-opposes, proper-unopposed, proper-literal}
 use Rattle.theory_base.specs.Clauses.{Same, Proper}
@@ -182,3 +184,8 @@ two-of u v d p s n = by-length d s (same-length (u ∷ v ∷ []) d pair p s)
     by-length (x ∷ []) s e = absurd (omega arith)
     by-length (x ∷ y ∷ []) s e = by-members x y (s .0 u (here refl)) (s .0 v (there (here refl)))
     by-length (x ∷ y ∷ z ∷ c) s e = absurd (omega arith)
+
+-- the sizes of choices
+pub choice-size-within : (c : Clause) → T (choice-size c) → (5 ≤ length c) × (length c ≤ 64)
+unfolding choice-size
+choice-size-within c t = (leb→le 5 (length c) (and-l (leb 5 (length c)) (leb (length c) 64) t), leb→le (length c) 64 (and-r (leb 5 (length c)) (leb (length c) 64) t))

@@ -13,7 +13,7 @@ use Rattle.theory_clearing.specs.Clashes.{Clash-free}
 use Rattle.theory_clearing.proofs.Pure.{Eliminates, eliminates-mem, eliminates-lines-fit, pure-eliminates}
 use Rattle.theory_clearing.proofs.Pass.{eliminates-free}
 
-cleared-eliminates : (F : Formula) → Eliminates (unclashed F) (clear-pure (unclashed F)) (cleared F)
+pub cleared-eliminates : (F : Formula) → Eliminates (unclashed F) (clear-pure (unclashed F)) (cleared F)
 unfolding cleared
 cleared-eliminates F = pure-eliminates (unclashed F)
 

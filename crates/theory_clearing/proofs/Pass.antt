@@ -1,6 +1,6 @@
 -- Where no clash is left, the pure literals may all be looked for in the formula at the start.
-use mathlib.Core.Path.{_≡_, refl, sym, _∙_, ap}
-use mathlib.Core.Bool.{Bool, true, false, cond}
+use mathlib.Core.Path.{_≡_, refl, ap}
+use mathlib.Core.Bool.{Bool, true, false, not, cond}
 use mathlib.Core.List.{List, [], _∷_, _++_, append-assoc, List·Memᴰ, List·Memᴰ·head as here, Memᴰ·append-right}
 use mathlib.Core.Option.{Option, some, none}
 use native.Mathlib.Omega.{arith}
@@ -9,34 +9,31 @@ use lib.IntN.{ℤ, negℤ}
 use Rattle.definition.specs.Lists.{bit, first, for-each}
 use Rattle.definition.specs.Literals.{Clause, Formula, with-first}
 use Rattle.definition.specs.Events.{Event, pure-deleted}
-use Rattle.definition.specs.Clearing.{times, unique, pure, deletable, pure-literal, pure-next, clear-pure-from, clear-pure}
-use Rattle.theory_base.proofs.Tests.{of-true}
+use Rattle.definition.specs.Clearing.{times, unique, pure, choice-size, deletable, pure-literal, pure-next, clear-pure-from, clear-pure}
+use Rattle.theory_base.proofs.Tests.{of-true, and-l}
 use Rattle.theory_base.proofs.Members.{all-same, first-agree, holds-false}
 use Rattle.theory_base.proofs.Removal.{mem-removed}
-use Rattle.theory_soundness.proofs.Times.{times-removed, unique-at, unique-some, at-unique}
+use Rattle.theory_soundness.proofs.Times.{times-removed}
 use Rattle.theory_soundness.proofs.Without.{first-same}
 use Rattle.theory_clearing.specs.Clashes.{Clash-free}
-use Rattle.theory_clearing.proofs.Pure.{Eliminates, no-more, next, eliminates-mem, eliminates-times, eliminates-unique, pure-some, pure-removed}
+use Rattle.theory_clearing.proofs.Pure.{Eliminates, no-more, next, eliminates-mem, eliminates-times, eliminates-unique, unique-after, pure-some, pure-removed}
 
 -- a clause's pure literal depends only on how often its literals and their negations stand
 pure-agree : (F G : Formula) (c : Clause) → ((x : ℤ) → List·Memᴰ x c → times x F ≡ times x G) → (T (unique F c) → (x : ℤ) → List·Memᴰ x c → times (negℤ x) F ≡ times (negℤ x) G) →
     pure-literal F c ≡ pure-literal G c
 unfolding pure-literal deletable unique pure
-pure-agree F G c h n = go (unique F c) refl
+pure-agree F G c h n = go (deletable F c) refl
   where
-    same-test : unique F c ≡ unique G c
+    same-test : deletable F c ≡ deletable G c
     same-test = rw (all-same (λ l. eqb (times l F) 1) (λ l. eqb (times l G) 1) c (λ x i. rw (h x i)))
 
-    go : (b : Bool) → unique F c ≡ b → cond (unique F c) (first (pure F) c) none ≡ cond (unique G c) (first (pure G) c) none
-    go true e = rw (← same-test, e) (first-agree (pure F) (pure G) c (λ x i. rw (n (of-true e) x i)))
+    go : (b : Bool) → deletable F c ≡ b → cond (deletable F c) (first (pure F) c) none ≡ cond (deletable G c) (first (pure G) c) none
+    go true e = rw (← same-test, e) (first-agree (pure F) (pure G) c (λ x i. rw (n (and-l (unique F c) (not (choice-size c)) (of-true e)) x i)))
     go false e = rw (← same-test, e)
 
 -- ---- deletions for pure literals take no literal away whose negation stands in another unique literal clause
 pub eliminates-free : {F G : Formula} {es : List Event} → Clash-free F → Eliminates F es G → Clash-free G
 eliminates-free n s c k i j t u = n c k (eliminates-mem s c i) (eliminates-mem s k j) (eliminates-unique s c i t) (eliminates-unique s k j u)
-
-unique-after : {F G : Formula} {es : List Event} → Eliminates F es G → (c : Clause) → List·Memᴰ c G → T (unique F c) → T (unique G c)
-unique-after {F} {G} s c i t = at-unique G c (unique-some F c t) (λ x j. sym (eliminates-times s x c i j) ∙ unique-at F c t x j)
 
 eliminates-negation : {F G : Formula} {es : List Event} → Clash-free F → Eliminates F es G → (c : Clause) → List·Memᴰ c G → T (unique F c) → (x : ℤ) → List·Memᴰ x c → times (negℤ x) F ≡ times (negℤ x) G
 eliminates-negation n no-more c i t x j = refl

@@ -1,7 +1,7 @@
--- Deleting the unique literal clauses with a pure literal: what is found, that every line is sound, and what is left.
+-- Deleting clauses for a pure literal: what is found, that every line is sound, and what is left.
 use mathlib.Core.Path.{_≡_, refl, sym, _∙_, ap, subst}
 use mathlib.Core.Logic.{inl, inr, ⊎-elim}
-use mathlib.Core.Bool.{Bool, true, false, cond}
+use mathlib.Core.Bool.{Bool, true, false, not, cond}
 use mathlib.Core.List.{List, [], _∷_, _++_, append-assoc, List·Memᴰ, List·Memᴰ·head as here, List·Memᴰ·tail as there, Memᴰ·append-right}
 use mathlib.Core.Option.{Option, some, none}
 use Prim.Native.Nat.{ℕ}
@@ -12,15 +12,15 @@ use Rattle.definition.specs.Lists.{bit, first, for-each}
 use Rattle.definition.specs.Literals.{Clause, Formula, with-first}
 use Rattle.definition.specs.Standing.{Line, literals, changed, after}
 use Rattle.definition.specs.Events.{Event, pure-deleted}
-use Rattle.definition.specs.Clearing.{times, unique, pure, deletable, pure-literal, pure-lines, pure-next, clear-pure-from, clear-pure}
+use Rattle.definition.specs.Clearing.{times, unique, pure, choice-size, deletable, pure-literal, pure-lines, pure-next, clear-pure-from, clear-pure}
 use Rattle.definition.specs.Reencoding.{lines-of, lines, Goes-into, later}
-use Rattle.theory_base.proofs.Tests.{of-true}
+use Rattle.theory_base.proofs.Tests.{of-true, not-true, differ, and-l, and-r}
 use Rattle.theory_base.proofs.Members.{holds-false}
 use Rattle.theory_base.specs.Clauses.{Proper-all, Fits, Absent}
-use Rattle.theory_base.proofs.Removal.{Removed, removed-take-out, mem-removed}
+use Rattle.theory_base.proofs.Removal.{Removed, removed-take-out, mem-removed, split}
 use Rattle.theory_soundness.proofs.Sound.{Into, Sound, weaken}
 use Rattle.theory_soundness.proofs.Rules.{del-blocked}
-use Rattle.theory_soundness.proofs.Times.{holds-yes, times-removed, none-times, unique-at, unique-some, at-unique}
+use Rattle.theory_soundness.proofs.Times.{holds-yes, times-removed, none-times, one-clause, unique-at, unique-some, at-unique}
 use Rattle.theory_soundness.proofs.Without.{first-same, first-proper, Known, clear-absent, only-removed}
 use Rattle.theory_base.proofs.Loops.{none-some, first-some}
 use Rattle.theory_base.proofs.Fitting.{highest-le, Line-fits}
@@ -30,16 +30,23 @@ pub record Is-pure (F : Formula) (d : Clause) (l : ℤ) : Type 0 where
   pub stands : List·Memᴰ d F
   pub literal : List·Memᴰ l d
   pub alone : T (unique F d)
+  pub no-choice : choice-size d ≡ false
   pub nowhere : times (negℤ l) F ≡ 0
 
 pub pure-some : (F : Formula) (d : Clause) (l : ℤ) → List·Memᴰ d F → pure-literal F d ≡ some l → Is-pure F d l
 unfolding pure-literal deletable pure
-pure-some F d l i e = go (unique F d) refl e
+pure-some F d l i e = go (deletable F d) refl e
   where
-    go : (b : Bool) → unique F d ≡ b → cond b (first (pure F) d) none ≡ some l → Is-pure F d l
+    go : (b : Bool) → deletable F d ≡ b → cond b (first (pure F) d) none ≡ some l → Is-pure F d l
     go true t e =
         let r = first-some (pure F) d l e in
-        record { stands = i; literal = r .0; alone = of-true t; nowhere = eqb→eq (times (negℤ l) F) 0 (r .1) }
+        record {
+          stands = i;
+          literal = r .0;
+          alone = and-l (unique F d) (not (choice-size d)) (of-true t);
+          no-choice = not-true (and-r (unique F d) (not (choice-size d)) (of-true t));
+          nowhere = eqb→eq (times (negℤ l) F) 0 (r .1);
+        }
     go false t e = none-some e
 
 -- ---- one deletion
@@ -125,6 +132,18 @@ eliminates-lines-fit p f (next q r s) x (there i) = eliminates-lines-fit (λ c j
 -- a ULC of what is left was one before
 pub eliminates-unique : {F G : Formula} {es : List Event} → Eliminates F es G → (c : Clause) → List·Memᴰ c G → T (unique G c) → T (unique F c)
 eliminates-unique {F} {G} s c i t = at-unique F c (unique-some G c t) (λ x j. eliminates-times s x c i j ∙ unique-at G c t x j)
+
+-- and one before is one of what is left, if it stands there
+pub unique-after : {F G : Formula} {es : List Event} → Eliminates F es G → (c : Clause) → List·Memᴰ c G → T (unique F c) → T (unique G c)
+unique-after {F} {G} s c i t = at-unique G c (unique-some F c t) (λ x j. sym (eliminates-times s x c i j) ∙ unique-at F c t x j)
+
+-- a unique literal clause of a choice's size stays
+pub eliminates-keeps : {F G : Formula} {es : List Event} → Eliminates F es G → (c : Clause) → List·Memᴰ c F → T (unique F c) → T (choice-size c) → List·Memᴰ c G
+eliminates-keeps no-more c i t u = i
+eliminates-keeps {F} (next {E = E} {d = d} {l = l} q r s) c i t u =
+    let other : List·Memᴰ l c → ⊥ = λ m. differ {b = choice-size c} u (rw (one-clause l F (unique-at F c t l m) c d i m (q .stands) (q .literal)) (q .no-choice)) in
+    let j : List·Memᴰ c E = ⊎-elim (λ e. absurd (other (e .0 l (first-same l d (q .literal) .1 l (q .literal))))) (λ j. j) (split r i) in
+    eliminates-keeps s c j (unique-after (next q r no-more) c j t) u
 
 -- ---- the whole pass
 pub pure-eliminates : (F : Formula) → Eliminates F (clear-pure F) (after F (lines (clear-pure F)))

@@ -14,7 +14,7 @@ use Rattle.definition.specs.Literals.{Clause, Formula, holds, opposes, opposed,
 use Rattle.definition.specs.Standing.{addition, deletion, after}
 use Rattle.definition.specs.Reading.{Input}
 use Rattle.definition.specs.Events.{Choice, Event, clause-replaced, literals-deleted}
-use Rattle.definition.specs.Counter.{last-new, size, counter, take-choice, below-new}
+use Rattle.definition.specs.Counter.{last-new, size, counter, take-choice}
 use Rattle.definition.specs.Order.{replacement-lines, replaced, replace, order-events, deletions-of, literal-deletions}
 use Rattle.definition.specs.Reencoding.{lines-of, lines, Form, counter-form, order-form, Settings, choice-events, choices-events, cleared, chosen, events, result}
 use Rattle.definition.specs.Calls.{workspace-need, numbers-of}
@@ -29,7 +29,7 @@ use Rattle.theory_soundness.proofs.Times.{holds-yes}
 use Rattle.theory_order.proofs.Replace.{replaced-old}
 use Rattle.theory_room.proofs.Weights.{weight, Of-set, weight-of-set, gained, added, added-deletions, deleted, balance, Raises, raised}
 use Rattle.theory_room.proofs.Replaced.{Weighs, replaced-weight}
-use Rattle.theory_room.proofs.Lines.{before-counter, taken-lines, after-taken, order-gone-through, Of-choice, Arranges, ordered-length, ordered-size, ordered-proper, ordered-formed, ordered-new, others, choices-lines-to, choices-standing-to, From-choices, from-choice, events-of-choices, used-least, below-to}
+use Rattle.theory_room.proofs.Lines.{before-counter, taken-lines, after-taken, order-gone-through, Of-choice, Arranges, ordered-length, ordered-size, ordered-proper, ordered-formed, choices-lines-to, choices-standing-to, From-choices, from-choice, events-of-choices, used-least, below-to}
 use Rattle.theory_room.specs.Choices.{new-variables, as-choice, clearing, order-of, events-of-first, standing-after-first, next-choice, used-after}
 use Rattle.theory_room.proofs.Cleared.{clearing-event, cleared-after}
 use Rattle.theory_room.proofs.Runs.{Run, choosing, events-are, standing-to, chosen-mem, arranges, parts-lead, run-raises, weight-after, few-new-variables, literal-weight, literal-most, literal-least, weighs, weight-most, weight-least}

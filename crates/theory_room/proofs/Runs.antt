@@ -5,7 +5,7 @@ use mathlib.Core.Bool.{Bool, true, false, cond, _&&_}
 use mathlib.Core.List.{List, [], _∷_, _++_, List·Memᴰ, Memᴰ·append-left, Memᴰ·append-right, List·Memᴰ·append-cases, append-nil}
 use Prim.Native.Nat.{ℕ, _+_, _-_, _*_, _≤_}
 use native.Mathlib.Omega.{arith}
-use lib.Dec.{T, leb, leb→le}
+use lib.Dec.{T}
 use lib.IntN.{ℤ, negℤ, negℤ-negℤ, natAbs}
 use lib.ListN.{length}
 use Rattle.definition.specs.Lists.{sum-of}
@@ -13,13 +13,14 @@ use Rattle.definition.specs.Literals.{Clause, Formula, holds, literals-of}
 use Rattle.definition.specs.Standing.{literals, after}
 use Rattle.definition.specs.Reading.{Input}
 use Rattle.definition.specs.Events.{Event}
-use Rattle.definition.specs.Clearing.{unique}
-use Rattle.definition.specs.Counter.{choice-size, choices, below-new}
+use Rattle.definition.specs.Clearing.{unique, choice-size}
+use Rattle.definition.specs.Counter.{choices}
 use Rattle.definition.specs.Alignment.{choice-literals}
 use Rattle.definition.specs.Reencoding.{lines-of, lines, Settings, choices-events, cleared, chosen, events, log, result}
 use Rattle.theory_base.proofs.Tests.{and-l, and-r}
 use Rattle.theory_base.proofs.Members.{those-mem, holds-false, natAbs-neg}
 use Rattle.theory_base.specs.Clauses.{Proper, Proper-all, Fits}
+use Rattle.theory_base.proofs.Clauses.{choice-size-within}
 use Rattle.theory_base.proofs.Replay.{Leads, leads-split, lines-++, All-clauses, All-lines, all-lines-++}
 use Rattle.theory_base.proofs.Loops.{for-each-mem, mem-for-each}
 use Rattle.theory_base.proofs.Sums.{sum-++, sum-≤, sum-those, sum-most, sum-least}
@@ -107,12 +108,12 @@ events-are s i = refl
 
 -- a choice stands when the clearing is done, and has 5 to 64 literals, all unique
 pub chosen-mem : (s : Settings) (i : Input) (c : Clause) → List·Memᴰ c (chosen s i) → List·Memᴰ c (cleared (i .formula)) × (5 ≤ length c) × (length c ≤ 64) × T (unique (cleared (i .formula)) c)
-unfolding chosen choices choice-size
+unfolding chosen choices
 chosen-mem s i c m =
     let f = cleared (i .formula) in
     let r = those-mem (λ c. choice-size c && unique f c) f c m in
-    let t = and-l (choice-size c) (unique f c) (r .1) in
-    (r .0, leb→le 5 (length c) (and-l (leb 5 (length c)) (leb (length c) 64) t), leb→le (length c) 64 (and-r (leb 5 (length c)) (leb (length c) 64) t), and-r (choice-size c) (unique f c) (r .1))
+    let b = choice-size-within c (and-l (choice-size c) (unique f c) (r .1)) in
+    (r .0, b .0, b .1, and-r (choice-size c) (unique f c) (r .1))
 
 -- the literals of a choice keep the order's promise
 pub chosen-arranges : (s : Settings) (i : Input) → Proper-all (i .formula) → Fits (i .highest) (i .formula) → Arranges (i .highest) (order-of s i) (chosen s i)

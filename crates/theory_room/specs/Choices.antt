@@ -1,8 +1,8 @@
 -- The choices of a run one after another: their new variables, events and what stands after them.
 use mathlib.Core.List.{List, [], _∷_, _++_}
-use Prim.Native.Nat.{ℕ, _+_, _-_}
+use Prim.Native.Nat.{ℕ, _-_}
 use Rattle.definition.specs.Literals.{Clause, Formula}
-use Rattle.definition.specs.Standing.{after, literals}
+use Rattle.definition.specs.Standing.{after}
 use Rattle.definition.specs.Events.{Event, Choice, choice-of}
 use Rattle.definition.specs.Clearing.{clear-clashes, clear-pure}
 use Rattle.definition.specs.Reencoding.{lines, unclashed, cleared, choices-events, Settings, chosen}

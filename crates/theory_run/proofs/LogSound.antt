@@ -11,8 +11,8 @@ use Rattle.definition.specs.Lists.{those}
 use Rattle.definition.specs.Literals.{Clause, Formula}
 use Rattle.definition.specs.Reading.{Input, input-limits}
 use Rattle.definition.specs.Standing.{after}
-use Rattle.definition.specs.Clearing.{times, unique, clear-clashes, clear-pure}
-use Rattle.definition.specs.Counter.{choice-size, choices, size}
+use Rattle.definition.specs.Clearing.{times, unique, choice-size, clear-clashes, clear-pure}
+use Rattle.definition.specs.Counter.{choices, size}
 use Rattle.definition.specs.Reencoding.{Settings, lines, unclashed, cleared, chosen, events, log, result}
 use Rattle.theory_base.proofs.Tests.{of-true, and-r}
 use Rattle.theory_base.proofs.Members.{those-mem, same-variable}

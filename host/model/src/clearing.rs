@@ -1,5 +1,6 @@
 //! Clearing clashes, then pure literals.
 
+use crate::counter::is_choice;
 use crate::encoding::Encoding;
 use crate::standing::{holds_opposites, Standing};
 
@@ -57,18 +58,29 @@ pub fn clear_clashes(encoding: &mut Encoding, variables: i32) {
     }
 }
 
+/// The first literal of the clause at a place whose negation stands nowhere.
+fn pure_literal(standing: &Standing, place: usize) -> Option<i32> {
+    let mut literals = standing.clause(place)?.iter().copied();
+    literals.find(|&literal| standing.count_holding(-literal) == 0)
+}
+
+/// Deletes the unique literal clauses with a pure literal, except the choices.
 pub fn delete_pure(encoding: &mut Encoding) {
     for place in encoding.standing.all_places() {
         if !encoding.standing.is_unique_literal_clause(place) {
             continue;
         }
-        let clause = encoding.clause(place);
-        let pure = clause
-            .iter()
-            .find(|&&literal| encoding.standing.count_holding(-literal) == 0);
-        if let Some(&literal) = pure {
+        let Some(literal) = pure_literal(&encoding.standing, place) else {
+            continue;
+        };
+        if is_choice(&encoding.standing, place) {
+            encoding.tally.free_choices += 1;
+            if place >= encoding.input_clauses {
+                encoding.tally.joined_free_choices += 1;
+            }
+        } else {
             encoding.tally.pure += 1;
-            encoding.delete(written_first(literal, &clause));
+            encoding.delete(written_first(literal, &encoding.clause(place)));
         }
     }
 }

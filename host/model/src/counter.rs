@@ -3,16 +3,18 @@
 use crate::encoding::Encoding;
 use crate::standing::Standing;
 
-/// The unique literal clauses of 5 to 64 literals, as places, in list order.
+/// Whether the clause at a place is a choice: a unique literal clause of 5 to
+/// 64 literals.
+pub fn is_choice(standing: &Standing, place: usize) -> bool {
+    let size = standing.clause(place).map_or(0, <[i32]>::len);
+    (5..=64).contains(&size) && standing.is_unique_literal_clause(place)
+}
+
+/// The places of the choices, in list order.
 pub fn choice_places(standing: &Standing) -> Vec<usize> {
-    standing
-        .all_places()
-        .into_iter()
-        .filter(|&place| {
-            let size = standing.clause(place).map_or(0, <[i32]>::len);
-            (5..=64).contains(&size) && standing.is_unique_literal_clause(place)
-        })
-        .collect()
+    let mut places = standing.all_places();
+    places.retain(|&place| is_choice(standing, place));
+    places
 }
 
 /// The pairs -li -lj, by i then j.

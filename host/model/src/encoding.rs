@@ -18,7 +18,12 @@ pub struct Tally {
     /// A clash whose resolvent holds a literal and its negation.
     pub double_clashes: usize,
     pub empty_resolvents: usize,
+    /// A clause deleted for a pure literal.
     pub pure: usize,
+    /// A choice with a pure literal when no clash is left.
+    pub free_choices: usize,
+    /// A free choice that a clash added.
+    pub joined_free_choices: usize,
     /// A pair of which stage 4 deleted several copies.
     pub repeated_pairs: usize,
     /// A clause with several negated literals of one choice.

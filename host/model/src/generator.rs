@@ -6,6 +6,7 @@ use crate::reading::Formula;
 use crate::standing::holds_opposites;
 use crate::texts::{formula_text, Line};
 use crate::walk_back::{highest_allowed, is_true, replay};
+use crate::{Arrangement, Form};
 use std::collections::HashSet;
 
 /// An xorshift generator.
@@ -227,6 +228,27 @@ fn cover(random: &mut Random, chosen: &[Vec<i32>], others: &mut [Vec<i32>]) {
             count += others[place].len() - before;
         }
     }
+}
+
+/// Up to three literals of each choice of the formula, of some choices all.
+fn some_literals_of_choices(random: &mut Random, formula: &Formula) -> Vec<i32> {
+    let mut some = Vec::new();
+    for (_, mut choice) in Encoding::run(formula, Form::Counter, Arrangement::AsListed).choices {
+        random.shuffle(&mut choice);
+        if !random.chance(20) {
+            choice.truncate(random.below(4));
+        }
+        some.append(&mut choice);
+    }
+    some
+}
+
+/// The formula without the clauses that hold the negations of some literals of its choices.
+pub fn freed(random: &mut Random, mut formula: Formula) -> Formula {
+    let free = some_literals_of_choices(random, &formula);
+    let forbids = |clause: &Vec<i32>| free.iter().any(|literal| clause.contains(&-literal));
+    formula.clauses.retain(|clause| !forbids(clause));
+    formula
 }
 
 /// V 8,000, C 20,000 and L near 60,000: choices of the size, and clauses of two or three negated literals.

@@ -5,3 +5,6 @@ pub const F: &str = "p cnf 6 7\n1 2 3 4 5 0\n-1 -2 0\n-1 6 0\n-2 6 0\n-3 6 0\n-4
 
 /// Session E with literals repeated, and a clause that is left out.
 pub const JOINED_E: &str = "p cnf 3 3\n1 1 2 0\n3 -3 0\n-1 3 -1 0\n";
+
+/// A choice of six literals that nothing forbids.
+pub const SIX: &str = "p cnf 6 1\n1 2 3 4 5 6 0\n";

@@ -1,11 +1,13 @@
 //! Demand 3 on random small formulas, by full truth tables: every cut of the
 //! log, every assignment.
 
+use model::clearing::written_first;
 use model::encoding::{Encoding, Tally};
 use model::generator::{
-    clauses_with_repeat, noise, one_of_three_joined, planned, repeats_in_choices, written_clauses,
-    Joined, Random,
+    clauses_with_repeat, freed, noise, one_of_three_joined, planned, repeats_in_choices,
+    written_clauses, Joined, Random,
 };
+use model::reading::Formula;
 use model::texts::{answer_text, formula_text, log_text, Line};
 use model::walk_back::{carry_back, is_true, satisfies};
 use model::{read_back, reencode, walk_back, Arrangement, Form};
@@ -171,6 +173,37 @@ fn apply(standing: &mut Vec<Vec<i32>>, line: &Line) {
     }
 }
 
+/// What stands when no clash is left. A clash writes three lines, or two if no resolvent is added.
+fn unclashed(formula: &Formula, encoding: &Encoding) -> Vec<Vec<i32>> {
+    let tally = &encoding.tally;
+    let lines = 3 * tally.clashes - tally.double_clashes;
+    let mut standing = formula.clauses.clone();
+    for line in &encoding.log[..lines] {
+        apply(&mut standing, line);
+    }
+    standing
+}
+
+fn count_holding(clauses: &[Vec<i32>], literal: i32) -> usize {
+    let holders = clauses.iter().filter(|clause| clause.contains(&literal));
+    holders.count()
+}
+
+/// The unique literal clauses of 5 to 64 literals, in list order.
+fn long_unique(clauses: &[Vec<i32>]) -> Vec<Vec<i32>> {
+    let is_unique = |clause: &[i32]| clause.iter().all(|&l| count_holding(clauses, l) == 1);
+    let mut long = clauses.to_vec();
+    long.retain(|clause| (5..=64).contains(&clause.len()) && is_unique(clause));
+    long
+}
+
+/// Each clause with its literals sorted.
+fn as_sets(clauses: impl IntoIterator<Item = Vec<i32>>) -> Vec<Vec<i32>> {
+    let mut sets: Vec<Vec<i32>> = clauses.into_iter().collect();
+    sets.iter_mut().for_each(|clause| clause.sort_unstable());
+    sets
+}
+
 /// All of demand 3 for one formula; the answer is whether it can be satisfied.
 fn check(joined: &Joined, form: Form, arrangement: Arrangement, random: &mut Random) -> bool {
     let Joined { text, formula } = joined;
@@ -183,6 +216,9 @@ fn check(joined: &Joined, form: Form, arrangement: Arrangement, random: &mut Ran
     let input = tables.list(&formula.clauses);
     let written = tables.list(&written_clauses(text));
     assert!(input == written, "as it is written, {seen}");
+    let choices = encoding.choices.iter().map(|(_, choice)| choice.clone());
+    let expected = long_unique(&unclashed(formula, &encoding));
+    assert_eq!(as_sets(choices), as_sets(expected), "choices, {seen}");
     let in_choices: Vec<usize> = encoding.input_clauses_in_choices();
     let mut exactly_one = Table::all(tables.variables, true);
     for &place in &in_choices {
@@ -277,6 +313,12 @@ struct Occurred {
     with_choice: usize,
     with_two_choices: usize,
     with_joined_choice: usize,
+    with_free_choice: usize,
+    with_joined_free_choice: usize,
+    /// A free choice beside another choice.
+    with_free_of_two_choices: usize,
+    satisfiable_with_free_choice: usize,
+    satisfiable_with_joined_free_choice: usize,
     with_repeat: usize,
     /// A clause with a repeat that goes into a choice.
     with_repeat_in_choice: usize,
@@ -300,6 +342,10 @@ impl Occurred {
                 .iter()
                 .any(|&(place, _)| place >= encoding.input_clauses),
         );
+        let has_free = tally.free_choices > 0;
+        self.with_free_choice += usize::from(has_free);
+        self.with_joined_free_choice += usize::from(tally.joined_free_choices > 0);
+        self.with_free_of_two_choices += usize::from(has_free && encoding.choices.len() > 1);
         self.with_repeat += clauses_with_repeat(&joined.text).len();
         self.with_repeat_in_choice += repeats_in_choices(&joined.text, encoding);
         self.left_out += joined.formula.left_out;
@@ -311,12 +357,20 @@ impl Occurred {
         total.double_clashes += tally.double_clashes;
         total.empty_resolvents += tally.empty_resolvents;
         total.pure += tally.pure;
+        total.free_choices += tally.free_choices;
+        total.joined_free_choices += tally.joined_free_choices;
         total.repeated_pairs += tally.repeated_pairs;
         total.several_negated += tally.several_negated;
         total.replaced_by_nothing += tally.replaced_by_nothing;
         total.aligned += tally.aligned;
         total.unalignable += tally.unalignable;
         total.chained_links += tally.chained_links;
+    }
+
+    fn count_satisfiable(&mut self, tally: &Tally) {
+        self.satisfiable += 1;
+        self.satisfiable_with_free_choice += usize::from(tally.free_choices > 0);
+        self.satisfiable_with_joined_free_choice += usize::from(tally.joined_free_choices > 0);
     }
 }
 
@@ -327,27 +381,35 @@ const WAYS: [(Form, Arrangement); 4] = [
     (Form::Order, Arrangement::Alignment),
 ];
 
+fn drawn(random: &mut Random, variables: (usize, usize)) -> Joined {
+    let variable_count = random.between(variables.0, variables.1);
+    let clause_limit = random.between(2, 26);
+    let mut formula = if random.chance(10) {
+        noise(random, variable_count, clause_limit)
+    } else {
+        planned(random, variable_count, clause_limit)
+    };
+    if random.chance(50) {
+        formula = freed(random, formula);
+    }
+    one_of_three_joined(random, formula)
+}
+
 /// Runs the formulas of the seeds that need at most the given variables in total.
 fn run(seeds: std::ops::Range<u64>, variables: (usize, usize), highest: i32) -> Occurred {
     let mut occurred = Occurred::default();
     for seed in seeds {
         let mut random = Random::new(seed);
-        let variable_count = random.between(variables.0, variables.1);
-        let clause_limit = random.between(2, 26);
-        let formula = if random.chance(10) {
-            noise(&mut random, variable_count, clause_limit)
-        } else {
-            planned(&mut random, variable_count, clause_limit)
-        };
-        let joined = one_of_three_joined(&mut random, formula);
+        let joined = drawn(&mut random, variables);
         let (form, arrangement) = *random.one_of(&WAYS);
         let encoding = Encoding::run(&joined.formula, form, arrangement);
         if encoding.highest > highest {
             continue;
         }
         occurred.count(&joined, &encoding);
-        let satisfiable = check(&joined, form, arrangement, &mut random);
-        occurred.satisfiable += usize::from(satisfiable);
+        if check(&joined, form, arrangement, &mut random) {
+            occurred.count_satisfiable(&encoding.tally);
+        }
     }
     occurred
 }
@@ -360,6 +422,8 @@ fn small_formulas() {
     for count in [
         occurred.with_choice,
         occurred.with_joined_choice,
+        occurred.satisfiable_with_free_choice,
+        occurred.satisfiable_with_joined_free_choice,
         occurred.with_repeat,
         occurred.with_repeat_in_choice,
         occurred.left_out,
@@ -381,10 +445,46 @@ fn formulas_with_two_choices() {
     let occurred = run(0..600, (10, 11), 19);
     println!("{occurred:#?}");
     assert!(occurred.with_two_choices > 10);
+    assert!(occurred.with_free_of_two_choices > 10);
+    assert!(occurred.satisfiable_with_free_choice > 50);
+    assert!(occurred.satisfiable_with_joined_free_choice > 10);
     assert!(occurred.with_repeat_in_choice > 10);
     assert!(occurred.left_out_beside_choice > 10);
     assert!(occurred.tally.aligned > 2);
     assert!(occurred.tally.unalignable > 2);
+}
+
+/// Whether the choice, deleted with its pure literal first, can come back with another number of true
+/// literals than one.
+fn fails_if_deleted(standing: &[Vec<i32>], choice: &[i32], pure: i32, tables: &Tables) -> bool {
+    let line = Line {
+        deletion: true,
+        literals: written_first(pure, choice),
+    };
+    let mut left = standing.to_vec();
+    apply(&mut left, &line);
+    let exactly_one = tables.before(&line, &tables.exactly_one(choice));
+    !tables.list(&left).within(&exactly_one)
+}
+
+#[test]
+fn free_choices_deleted_instead() {
+    let (mut free_choices, mut failing) = (0, 0);
+    for seed in 0..2_000 {
+        let formula = drawn(&mut Random::new(seed), (5, 12)).formula;
+        let encoding = Encoding::run(&formula, Form::Counter, Arrangement::AsListed);
+        let standing = unclashed(&formula, &encoding);
+        let tables = Tables::new(formula.variables as usize);
+        for choice in long_unique(&standing) {
+            let mut literals = choice.iter().copied();
+            if let Some(pure) = literals.find(|literal| count_holding(&standing, -literal) == 0) {
+                free_choices += 1;
+                failing += usize::from(fails_if_deleted(&standing, &choice, pure, &tables));
+            }
+        }
+    }
+    println!("of {free_choices} free choices {failing} not exactly one if deleted");
+    assert!(failing > 100);
 }
 
 #[test]

@@ -27,6 +27,69 @@ fn twenty_thousand_clauses() {
     }
 }
 
+/// Clauses of the size, over as many variables as there are literals: choices that nothing forbids.
+fn free_choices(size: i32, count: i32) -> Vec<u8> {
+    let clauses = (0..count).map(|place| clause(place * size + 1..=(place + 1) * size, 1));
+    let body: String = clauses.collect();
+    format!("p cnf {} {count}\n{body}", size * count).into_bytes()
+}
+
+/// L 64, C 1, V 64.
+#[test]
+fn workspace_of_a_free_choice_of_64() {
+    let text = free_choices(64, 1);
+    for form in [Form::Counter, Form::Order] {
+        let encode = |workspace| {
+            let room = 1 << 20;
+            reencode(&text, form, Arrangement::Alignment, workspace, room, room)
+        };
+        let whole = encode(1 << 40).unwrap();
+        assert_eq!((whole.choices, whole.highest), (1, 127));
+        assert_eq!(encode(9_858), Ok(whole));
+        assert_eq!(encode(9_857), Err(11));
+    }
+}
+
+/// For each choice of k: k(k-1) lines for pairs, 4(k-1) counter clauses and one deletion; in order form 3k-2
+/// deletions more, after which k-2 clauses stand.
+#[test]
+fn eight_thousand_variables_in_free_choices() {
+    for (size, count, highest, tallies) in [
+        (64, 125, 15_875, [(31_500, 535_625), (7_750, 559_375)]),
+        (5, 1_600, 14_400, [(25_600, 59_200), (4_800, 80_000)]),
+    ] {
+        let text = free_choices(size, count);
+        for (form, tally) in [Form::Counter, Form::Order].into_iter().zip(tallies) {
+            let room = 1 << 30;
+            let result =
+                reencode(&text, form, Arrangement::Alignment, 1 << 40, room, room).unwrap();
+            assert_eq!((result.clauses, result.lines), tally);
+            assert_eq!(result.choices, count as usize);
+            assert_eq!(result.highest, highest);
+            let (read, clauses) = read_back(&result.formula, 1 << 40).unwrap();
+            assert_eq!((read, clauses.len()), (highest, result.clauses));
+        }
+    }
+}
+
+/// With all counter variables false, the last literal of each choice is the true one.
+#[test]
+fn free_choices_walked_back() {
+    for (size, count) in [(64, 125), (5, 1_600)] {
+        let (text, room) = (free_choices(size, count), 1 << 30);
+        let arrangement = Arrangement::AsListed;
+        let result = reencode(&text, Form::Order, arrangement, 1 << 40, room, room).unwrap();
+        let answer = format!("s SATISFIABLE\nv {}", clause(1..=8_000, 1));
+        let (log, lines) = (&result.log, result.lines);
+        let walked = walk_back(&text, log, lines, answer.as_bytes(), 1 << 40, room);
+        let expected = (1..=8_000).map(|v| if v % size == 0 { v } else { -v });
+        assert_eq!(
+            walked,
+            Ok(format!("v {}", clause(expected, 1)).into_bytes())
+        );
+    }
+}
+
 /// The clause that holds the literals, each written so many times.
 fn clause(literals: impl Iterator<Item = i32>, times: usize) -> String {
     let words: String = literals.map(|l| format!("{l} ").repeat(times)).collect();

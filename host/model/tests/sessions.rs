@@ -1,8 +1,10 @@
-//! The sessions listed in document 01, two of them as M-100 has them, and the example vectors of its readings.
+//! The sessions listed in document 01, two of them as M-100 has them, the example vectors of its readings, and
+//! the choices with a pure literal of M-112.
 
 use model::reading::{read_formula, INPUT_LIMITS};
-use model::sessions::{F, JOINED_E};
+use model::sessions::{F, JOINED_E, SIX};
 use model::{read_back, reencode, walk_back, Arrangement, Form, Reencoded};
+use std::slice::from_ref;
 
 const PLENTY: usize = 1 << 30;
 const G_OUT: &str = "p cnf 10 8\n8 -7 0\n9 -8 0\n10 -9 0\n-7 6 0\n7 -8 6 0\n8 -9 6 0\n\
@@ -127,17 +129,32 @@ fn the_two_sessions_let_in() {
     assert_eq!(walk(opposed, b"", 0, answer), Ok("v -1 0\n".into()));
 }
 
+fn line_of(literals: &[i32]) -> String {
+    let words: String = literals
+        .iter()
+        .map(|literal| format!("{literal} "))
+        .collect();
+    words + "0\n"
+}
+
+/// The negation of each of the literals in two clauses, which are not unique.
+fn forbidding(literals: &[i32]) -> String {
+    let negations = literals.iter().map(|&literal| line_of(&[-literal]));
+    negations.map(|line| line.repeat(2)).collect()
+}
+
+fn with_forbidden(clauses: &[Vec<i32>], forbidden: &[i32]) -> String {
+    let variables = clauses.iter().flatten().map(|literal| literal.abs());
+    let highest = variables.max().unwrap_or(0);
+    let count = clauses.len() + 2 * forbidden.len();
+    let lines: String = clauses.iter().map(|clause| line_of(clause)).collect();
+    format!("p cnf {highest} {count}\n{lines}") + &forbidding(forbidden)
+}
+
 /// A clause of the given size, its literals' negations in clauses that are not unique.
 fn one_choice(size: usize) -> String {
-    let mut text = format!("p cnf {} {}\n", size, 2 * size + 1);
-    for literal in 1..=size {
-        text += &format!("{literal} ");
-    }
-    text += "0\n";
-    for literal in 1..=size {
-        text += &format!("-{literal} 0\n-{literal} 0\n");
-    }
-    text
+    let clause: Vec<i32> = (1..=size as i32).collect();
+    with_forbidden(from_ref(&clause), &clause)
 }
 
 #[test]
@@ -153,6 +170,220 @@ fn sizes_4_5_64_65() {
         assert_eq!(result.choices, 1);
         assert_eq!(result.highest as usize, 2 * size - 1);
         assert_eq!(result.clauses, 2 * size + 4 * (size - 1));
+    }
+}
+
+/// Choices, H, M and log lines.
+type Tally = (usize, usize, usize, usize);
+
+fn tally_of(text: &str, form: Form) -> Tally {
+    let result = encode(text, form);
+    let highest = result.highest as usize;
+    (result.choices, highest, result.clauses, result.lines)
+}
+
+/// The tally in counter form and in order form.
+fn tallies_of(text: &str) -> [Tally; 2] {
+    [Form::Counter, Form::Order].map(|form| tally_of(text, form))
+}
+
+/// The tallies of V variables, lines before the choice, a choice of k literals and clauses of one of its negated
+/// literals, none of which is a pair. Counter form adds the pairs in stage 1 and deletes them in stage 4, k(k-1)
+/// lines, adds 4(k-1) clauses and deletes the choice. Order form replaces each of the other clauses in two lines.
+/// Then it deletes the clauses with li, k of them, with -li si and with -li -s(i-1), k-1 of each; the k-2 clauses
+/// si -s(i-1) stay.
+fn tallies_of_choice(variables: usize, before: usize, k: usize, others: usize) -> [Tally; 2] {
+    let highest = variables + k - 1;
+    let lines = before + k * (k - 1) + 4 * (k - 1) + 1;
+    [
+        (1, highest, others + 4 * (k - 1), lines),
+        (1, highest, others + k - 2, lines + 2 * others + 3 * k - 2),
+    ]
+}
+
+/// Counter form writes 15 pairs, 20 counter clauses, the deletion of the choice and those of 15 pairs. Order form
+/// replaces nothing and deletes 6 + 5 + 5 clauses.
+#[test]
+fn six_literals_that_nothing_forbids() {
+    let [counter, order] = tallies_of(SIX);
+    assert_eq!(counter, (1, 11, 20, 15 + 20 + 1 + 15));
+    assert_eq!(order, (1, 11, 4, 51 + 16));
+    assert_eq!([counter, order], tallies_of_choice(6, 0, 6, 0));
+    let formula = encode(SIX, Form::Order).formula;
+    assert_eq!(
+        String::from_utf8_lossy(&formula),
+        "p cnf 11 4\n8 -7 0\n9 -8 0\n10 -9 0\n11 -10 0\n"
+    );
+}
+
+/// All sets of two of the literals.
+fn twos(literals: &[i32]) -> Vec<[i32; 2]> {
+    let mut twos = Vec::new();
+    for (place, &one) in literals.iter().enumerate() {
+        twos.extend(literals[place + 1..].iter().map(|&other| [one, other]));
+    }
+    twos
+}
+
+/// The answer in which these variables are true.
+fn answer_with(variables: &[i32]) -> String {
+    format!("s SATISFIABLE\nv {}", line_of(variables))
+}
+
+/// The counter variables that are true if the chosen literal, from 1 to k, is the only one: s(i) for i from the
+/// chosen on.
+fn steps_of(chosen: usize, first_step: i32, k: usize) -> Vec<i32> {
+    (chosen..k).map(|i| first_step + i as i32 - 1).collect()
+}
+
+#[test]
+fn six_literals_walked_back() {
+    let [counter, order] = [Form::Counter, Form::Order].map(|form| encode(SIX, form));
+    for chosen in 1..=6 {
+        let steps = steps_of(chosen as usize, 7, 6);
+        let one = (1..=6).map(|l| if l == chosen { l } else { -l });
+        let expected = format!("v {}", line_of(&one.collect::<Vec<i32>>()));
+        for two in twos(&[1, 2, 3, 4, 5, 6]) {
+            let answer = answer_with(&[&two[..], &steps].concat());
+            let walked = walk(SIX, &order.log, order.lines, &answer);
+            assert_eq!(walked.as_ref(), Ok(&expected), "{answer:?}");
+            let walked = walk(SIX, &counter.log, counter.lines, &answer);
+            assert_eq!(walked, Err(44), "{answer:?}");
+        }
+        let answer = answer_with(&[&[chosen][..], &steps].concat());
+        let walked = walk(SIX, &counter.log, counter.lines, &answer);
+        assert_eq!(walked.as_ref(), Ok(&expected), "{answer:?}");
+    }
+}
+
+/// Clauses of the size, in each the variables from 1 on: positive, negative, and both by turns.
+fn clauses_of(size: usize) -> [Vec<i32>; 3] {
+    let by_turns = |variable: i32| {
+        if variable % 2 == 0 {
+            variable
+        } else {
+            -variable
+        }
+    };
+    let variables = 1..=size as i32;
+    [
+        variables.clone().collect(),
+        variables.clone().map(|variable| -variable).collect(),
+        variables.map(by_turns).collect(),
+    ]
+}
+
+/// Which of the literals are forbidden: none, all but the first, the last, or one between.
+fn all_but_some(clause: &[i32]) -> Vec<Vec<i32>> {
+    let all_but = |place| {
+        let mut forbidden = clause.to_vec();
+        forbidden.remove(place);
+        forbidden
+    };
+    let last = clause.len() - 1;
+    vec![Vec::new(), all_but(0), all_but(last / 2), all_but(last)]
+}
+
+/// The deletion of the clause for its first literal that is not forbidden.
+fn pure_deletion(clause: &[i32], forbidden: &[i32]) -> String {
+    let mut literals = clause.to_vec();
+    let pure = literals.iter().position(|l| !forbidden.contains(l));
+    literals[..=pure.unwrap()].rotate_right(1);
+    format!("d {}", line_of(&literals))
+}
+
+#[test]
+fn sizes_with_a_pure_literal() {
+    for size in [1, 2, 3, 4, 5, 6, 63, 64, 65, 66] {
+        for clause in clauses_of(size) {
+            for forbidden in all_but_some(&clause) {
+                let text = with_forbidden(from_ref(&clause), &forbidden);
+                let others = 2 * forbidden.len();
+                if (5..=64).contains(&size) {
+                    let expected = tallies_of_choice(size, 0, size, others);
+                    assert_eq!(tallies_of(&text), expected, "{text}");
+                } else {
+                    let out = format!("p cnf {size} {others}\n{}", forbidding(&forbidden));
+                    expect(&text, &pure_deletion(&clause, &forbidden), &out);
+                }
+            }
+        }
+    }
+}
+
+/// 1 and further literals, -1 and further literals: a and b of them. The resolvent has a + b - 2.
+fn clashing(a: i32, b: i32) -> [Vec<i32>; 2] {
+    [
+        (1..=a).collect(),
+        [-1].into_iter().chain(a + 1..a + b).collect(),
+    ]
+}
+
+/// The resolvent's addition and two deletions, then a choice.
+#[test]
+fn clashes_that_join_a_choice_with_a_pure_literal() {
+    for (a, b) in [(3, 4), (1, 6), (6, 1), (5, 2), (33, 33), (64, 2), (65, 1)] {
+        let (variables, size) = ((a + b - 1) as usize, (a + b - 2) as usize);
+        let last = a + b - 1;
+        for forbidden in [vec![], (2..last).collect(), (3..=last).collect()] {
+            let text = with_forbidden(&clashing(a, b), &forbidden);
+            let expected = tallies_of_choice(variables, 3, size, 2 * forbidden.len());
+            assert_eq!(tallies_of(&text), expected, "{text}");
+        }
+    }
+}
+
+/// The sizes of the clauses that clash do not count, only the resolvent's.
+#[test]
+fn clashes_that_join_a_clause_with_a_pure_literal() {
+    for (a, b) in [(3, 3), (5, 1), (2, 2), (33, 34), (64, 3), (65, 2), (5, 62)] {
+        let [one, other] = clashing(a, b);
+        let resolvent = [&one[1..], &other[1..]].concat();
+        let last = a + b - 1;
+        for forbidden in [
+            vec![],
+            (3..=last).collect(),
+            (2..last).collect::<Vec<i32>>(),
+        ] {
+            let text = with_forbidden(&[one.clone(), other.clone()], &forbidden);
+            let log = [
+                line_of(&resolvent),
+                format!("d {}d {}", line_of(&one), line_of(&other)),
+                pure_deletion(&resolvent, &forbidden),
+            ];
+            let others = 2 * forbidden.len();
+            let out = format!("p cnf {last} {others}\n{}", forbidding(&forbidden));
+            expect(&text, &log.concat(), &out);
+        }
+    }
+    let double = "p cnf 8 2\n1 2 3 4 5 0\n-1 -2 6 7 8 0\n";
+    let log = "d 1 2 3 4 5 0\nd -1 -2 6 7 8 0\n";
+    expect(double, log, "p cnf 8 0\n");
+}
+
+/// How many of the literals are true in a walked-back line.
+fn count_true(line: &str, literals: &[i32]) -> usize {
+    let is_true = |literal: &&i32| line.split(' ').any(|word| word == literal.to_string());
+    literals.iter().filter(is_true).count()
+}
+
+/// 3 and 4 literals that clash, with the resolvent 2 3 4 5 6.
+#[test]
+fn a_joined_choice_walked_back() {
+    let clauses = clashing(3, 4);
+    let text = with_forbidden(&clauses, &[]);
+    let order = encode(&text, Form::Order);
+    for chosen in 1..=5 {
+        let steps = steps_of(chosen, 7, 5);
+        for two in twos(&[2, 3, 4, 5, 6]) {
+            for clashing in [&[][..], &[1]] {
+                let answer = answer_with(&[clashing, &two, &steps].concat());
+                let line = walk(&text, &order.log, order.lines, &answer).unwrap();
+                let counts = clauses.each_ref().map(|clause| count_true(&line, clause));
+                assert_eq!(counts, [1, 1], "{answer:?}");
+                assert_eq!(count_true(&line, &[chosen as i32 + 1]), 1, "{answer:?}");
+            }
+        }
     }
 }
 
@@ -184,6 +415,18 @@ fn alignment_example() {
         assert!(plain.contains("\nd 6 7 8 9 10 0\n"));
         let aligned = log_with(Arrangement::Alignment, form, &text);
         assert!(aligned.contains("\nd 1 2 3 4 5 0\n"));
+        assert!(aligned.contains("\nd 8 6 7 9 10 0\n"));
+    }
+}
+
+/// Each link stands twice, and nothing else is forbidden.
+#[test]
+fn alignment_of_choices_with_pure_literals() {
+    let text = "p cnf 10 6\n1 2 3 4 5 0\n6 7 8 9 10 0\n-1 -8 0\n-1 -8 0\n-2 -6 0\n-6 -2 0\n";
+    for form in [Form::Counter, Form::Order] {
+        let plain = log_with(Arrangement::AsListed, form, text);
+        assert!(plain.contains("\nd 6 7 8 9 10 0\n"));
+        let aligned = log_with(Arrangement::Alignment, form, text);
         assert!(aligned.contains("\nd 8 6 7 9 10 0\n"));
     }
 }

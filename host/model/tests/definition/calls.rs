@@ -3,7 +3,7 @@
 use crate::rows::{Call, Reencode, Text, WalkBack, PLENTY};
 use model::encoding::Encoding;
 use model::generator::{
-    answer_after, damage, damage_log, noise, one_of_three_joined, planned, Joined, Random,
+    answer_after, damage, damage_log, freed, noise, one_of_three_joined, planned, Joined, Random,
 };
 use model::reading::Formula;
 use model::texts::log_text;
@@ -21,6 +21,14 @@ pub fn small(random: &mut Random) -> Joined {
     } else {
         planned(random, variables, clauses)
     };
+    one_of_three_joined(random, formula)
+}
+
+/// The same, made so that choices have pure literals.
+pub fn small_freed(random: &mut Random) -> Joined {
+    let (variables, clauses) = (random.between(5, 12), random.between(1, 14));
+    let formula = planned(random, variables, clauses);
+    let formula = freed(random, formula);
     one_of_three_joined(random, formula)
 }
 
@@ -61,6 +69,16 @@ pub fn unique_clause(random: &mut Random, size: usize) -> Formula {
     let (clause, mut negated) = literals(random, size);
     let rest = negated.split_off(random.between(1, size - 1));
     let mut clauses = vec![clause, negated.clone(), rest.clone(), rest, negated];
+    random.shuffle(&mut clauses);
+    Formula::new(size as i32, clauses)
+}
+
+/// A clause of the size without a clash, in a formula of few clauses: some of its negated literals stand in
+/// a clause that stands twice, the others nowhere.
+pub fn free_clause(random: &mut Random, size: usize) -> Formula {
+    let (clause, mut negated) = literals(random, size);
+    negated.truncate(random.between(1, size - 1));
+    let mut clauses = vec![clause, negated.clone(), negated];
     random.shuffle(&mut clauses);
     Formula::new(size as i32, clauses)
 }

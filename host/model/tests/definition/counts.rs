@@ -26,6 +26,7 @@ pub fn counts(rows: &[Row]) -> Counts {
         }
         count_reencoding(&mut counts, row);
         count_walk_back(&mut counts, row);
+        count_choose(&mut counts, row);
     }
     counts
 }
@@ -60,6 +61,12 @@ fn count_reencoding(counts: &mut Counts, row: &Row) {
         Arrangement::AsListed => "",
     };
     count(counts, format!("{form:?}{aligned}"), 1);
+    let free_choices = run.tally.free_choices;
+    count(
+        counts,
+        format!("{form:?}{aligned}, free choices"),
+        free_choices,
+    );
     let matters = usize::from(row.alignment_matters());
     count(counts, format!("{form:?}, alignment matters"), matters);
     for (place, choice) in &run.choices {
@@ -81,6 +88,7 @@ fn count_run(counts: &mut Counts, run: &Encoding) {
         ("double clashes", tally.double_clashes),
         ("empty resolvents", tally.empty_resolvents),
         ("pure deletions", tally.pure),
+        ("free choices joined by clashes", tally.joined_free_choices),
         ("pairs in several copies", tally.repeated_pairs),
         ("several negated literals", tally.several_negated),
         ("replaced by nothing", tally.replaced_by_nothing),
@@ -99,4 +107,17 @@ fn count_walk_back(counts: &mut Counts, row: &Row) {
     count(counts, format!("walk-back, {log}"), 1);
     let changed = usize::from(row.is_changed());
     count(counts, format!("walk-back, {log}, answer changed"), changed);
+    let has_free = usize::from(row.free_choices() > 0);
+    count(
+        counts,
+        format!("walk-back, {log}, free choice, answer changed"),
+        changed * has_free,
+    );
+}
+
+fn count_choose(counts: &mut Counts, row: &Row) {
+    if matches!(row.call, Call::Choose { .. }) {
+        count(counts, "choose, free choices", row.free_choices());
+        count(counts, "choose, pure deletions", row.pure_deletions());
+    }
 }

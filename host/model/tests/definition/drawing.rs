@@ -1,8 +1,8 @@
 //! Rows drawn from a seed: so many of each case.
 
 use crate::calls::{
-    choice_of_20, linked_choices, reading_back, reencoding, small, unique_clause, walking_back,
-    ARRANGEMENTS, FORMS,
+    choice_of_20, free_clause, linked_choices, reading_back, reencoding, small, small_freed,
+    unique_clause, walking_back, ARRANGEMENTS, FORMS,
 };
 use crate::rows::{Call, Row, READER};
 use model::encoding::Encoding;
@@ -26,6 +26,10 @@ pub fn rows(seed: u64) -> Vec<Row> {
     drawn.refused_read_backs();
     drawn.refused_walk_backs();
     drawn.sizes();
+    for form in FORMS {
+        drawn.free_choices(form);
+    }
+    drawn.free_sizes();
     drawn.rows
 }
 
@@ -179,6 +183,32 @@ impl Drawn {
             let draw = |random: &mut Random| {
                 let formula = unique_clause(random, size);
                 reencoding(formula, random, Form::Order, Arrangement::Alignment, 0)
+            };
+            self.add(1, draw, |_| true);
+        }
+    }
+
+    /// Choices with a pure literal, written and walked back.
+    fn free_choices(&mut self, form: Form) {
+        for arrangement in ARRANGEMENTS {
+            let draw =
+                |random: &mut Random| reencoding(small_freed(random), random, form, arrangement, 0);
+            self.add(3, draw, |row| has(row, |run| run.tally.free_choices > 0));
+            self.add(1, draw, |row| {
+                has(row, |run| run.tally.joined_free_choices > 0)
+            });
+        }
+        let draw = |random: &mut Random| walking_back(small_freed(random), random, form, 0);
+        let is_wanted = |row: &Row| row.free_choices() > 0 && row.is_changed();
+        self.add(2, draw, |row| is_wanted(row) && !row.is_cut());
+        self.add(3, draw, |row| is_wanted(row) && row.is_cut());
+    }
+
+    /// Clauses with a pure literal: those of 5 to 64 literals are choices.
+    fn free_sizes(&mut self) {
+        for size in [4, 5, 64, 65] {
+            let draw = |random: &mut Random| Call::Choose {
+                text: text_of(&free_clause(random, size)),
             };
             self.add(1, draw, |_| true);
         }

@@ -1,16 +1,23 @@
-//! Rows that are not drawn: the limits, repeated and opposed literals, and all formulas of a small kind.
+//! Rows that are not drawn: the limits, repeated and opposed literals, clauses with a pure literal, and all
+//! formulas of a small kind.
 
-use crate::rows::{Call, Reencode, Row, WalkBack, PLENTY};
+use crate::calls::FORMS;
+use crate::rows::{Call, Reencode, Row, Text, WalkBack, PLENTY};
+use model::encoding::Encoding;
 use model::log_reading::read_kept_lines;
 use model::reading::{read_formula, INPUT_LIMITS};
-use model::sessions::JOINED_E;
-use model::texts::formula_text;
+use model::sessions::{JOINED_E, SIX};
+use model::texts::{formula_text, log_text};
 use model::walk_back::workspace_needed;
 use model::{Arrangement, Form};
 
 fn reencoding(work: usize, text: &[u8]) -> Call {
+    reencoding_in(Form::Counter, work, text)
+}
+
+fn reencoding_in(form: Form, work: usize, text: &[u8]) -> Call {
     Call::Reencode(Reencode {
-        form: Form::Counter,
+        form,
         arrangement: Arrangement::AsListed,
         work,
         log_room: PLENTY,
@@ -102,6 +109,44 @@ pub fn joined() -> Vec<Row> {
     rows.push(walk("d 2 1 0\nd 1 2 0\n", 2, ""));
     rows.extend(workspaces().into_iter().flatten());
     rows
+}
+
+/// The formula of one clause of so many literals.
+pub fn one_clause(size: i32) -> Text {
+    formula_text(size, &[(1..=size).collect()])
+}
+
+/// 1 and -1 in two clauses of so many literals.
+fn clashing(a: i32, b: i32) -> Text {
+    let one = (1..=a).collect();
+    let other = [-1].into_iter().chain(a + 1..a + b).collect();
+    formula_text(a + b - 1, &[one, other])
+}
+
+/// Over the whole log in order form.
+fn walking_back_ordered(text: &[u8], answer: &str) -> Call {
+    let formula = read_formula(text, &INPUT_LIMITS).expect("in order");
+    let log = Encoding::run(&formula, Form::Order, Arrangement::AsListed).log;
+    let text_of_log = String::from_utf8(log_text(&log)).expect("in ASCII");
+    walking_back(PLENTY, text, &text_of_log, log.len(), answer)
+}
+
+/// Clauses of which each literal is pure: choices, and clauses that are deleted.
+pub fn free() -> Vec<Row> {
+    let (six, joined) = (SIX.as_bytes(), clashing(3, 4));
+    let mut calls = Vec::new();
+    for form in FORMS {
+        calls.extend([six, &joined].map(|text| reencoding_in(form, PLENTY, text)));
+    }
+    for text in [one_clause(4), one_clause(65), clashing(33, 34)] {
+        calls.push(reencoding(PLENTY, &text));
+    }
+    let text = clashing(33, 33);
+    calls.push(Call::Choose { text });
+    // 2 and 3 are true, but the counter variables choose 4
+    calls.push(walking_back_ordered(six, "2 3 10 11 "));
+    calls.push(walking_back_ordered(&joined, "2 3 9 10 "));
+    calls.into_iter().map(Row::of).collect()
 }
 
 /// Calls with just enough workspace, and with one entry less.

@@ -13,7 +13,7 @@ use checker::check;
 use counts::{counts, Counts};
 use rows::{Row, READER};
 use std::collections::BTreeSet;
-use wrong::{miscounted, misread, short_rows, wrong};
+use wrong::{mischosen, miscounted, misread, short_rows, wrong};
 
 /// Each row with the name of its theorem.
 fn named(name: &str, rows: Vec<Row>) -> Vec<(String, Row)> {
@@ -33,6 +33,7 @@ fn definition_and_model_agree() {
     let mut rows = drawing::rows(1);
     rows.extend(fixed::limits());
     rows.extend(fixed::joined());
+    rows.extend(fixed::free());
     let counts = counts(&rows);
     println!("{} rows: {counts:#?}", rows.len());
     assert!(rows.len() >= 500);
@@ -70,6 +71,15 @@ fn assert_cases(counts: &Counts) {
         ("double clashes", 16),
         ("empty resolvents", 8),
         ("pure deletions", 50),
+        ("Counter, free choices", 8),
+        ("Counter, aligned, free choices", 8),
+        ("Order, free choices", 8),
+        ("Order, aligned, free choices", 8),
+        ("free choices joined by clashes", 10),
+        ("walk-back, whole log, free choice, answer changed", 6),
+        ("walk-back, cut log, free choice, answer changed", 6),
+        ("choose, free choices", 3),
+        ("choose, pure deletions", 2),
         ("pairs in several copies", 10),
         ("several negated literals", 50),
         ("replaced by nothing", 50),
@@ -109,6 +119,7 @@ fn wrong_rows_are_refused() {
     let mut wrong: Vec<Row> = right.iter().flat_map(wrong).collect();
     wrong.extend(miscounted());
     wrong.extend(misread());
+    wrong.extend(mischosen());
     let wrong = named("wrong", wrong);
     let mut rows = named("right", right);
     rows.extend(wrong.iter().cloned());

@@ -132,6 +132,32 @@ impl Row {
         }
     }
 
+    /// The run in counter form of the formula that is reencoded, walked back to or chosen from.
+    fn plain_run(&self) -> Option<Encoding> {
+        let text = match &self.call {
+            Call::Reencode(call) => &call.text,
+            Call::WalkBack(call) => &call.text,
+            Call::Choose { text } => text,
+            Call::ReadBack { .. } => return None,
+        };
+        let formula = read_formula(text, &INPUT_LIMITS).ok()?;
+        Some(Encoding::run(
+            &formula,
+            Form::Counter,
+            Arrangement::AsListed,
+        ))
+    }
+
+    /// How many choices of the formula have a pure literal.
+    pub fn free_choices(&self) -> usize {
+        self.plain_run().map_or(0, |run| run.tally.free_choices)
+    }
+
+    /// How many clauses of the formula are deleted for a pure literal.
+    pub fn pure_deletions(&self) -> usize {
+        self.plain_run().map_or(0, |run| run.tally.pure)
+    }
+
     /// Without the arrangement, the log would be another one.
     pub fn alignment_matters(&self) -> bool {
         match (&self.call, &self.outcome) {

@@ -1,7 +1,7 @@
 //! Rows made wrong on purpose.
 
 use crate::antt::row_text;
-use crate::fixed::workspaces;
+use crate::fixed::{one_clause, workspaces};
 use crate::rows::{Call, Outcome, Row, PLENTY};
 use model::sessions::JOINED_E;
 
@@ -97,4 +97,19 @@ pub fn misread() -> Vec<Row> {
     ]
     .map(wrong)
     .to_vec()
+}
+
+/// Rows of one clause, each literal pure, in which a choice is none or another clause is one. Of a clause of 64
+/// the checker does not compute a false row to its end.
+pub fn mischosen() -> Vec<Row> {
+    let wrong = |size: i32, is_choice: bool| {
+        let text = one_clause(size);
+        let body = text.splitn(2, |&byte| byte == b'\n').nth(1);
+        let clause = body.filter(|_| is_choice).unwrap_or_default().to_vec();
+        Row {
+            call: Call::Choose { text },
+            outcome: Outcome::Chosen(clause),
+        }
+    };
+    vec![wrong(4, true), wrong(5, false)]
 }

@@ -147,6 +147,13 @@ fn compare(valleys: &[usize], with_largest: bool) {
         ));
     }
     if with_largest {
+        let mut valley = Valley::random(&mut Random::new(1), 300, 12, 780);
+        valley.free = (0..300).map(|trap| (trap, 11)).collect();
+        texts.push((
+            "valley with free lures",
+            "valley, 300 traps, a free lure each".into(),
+            text_of(&valley.formula()),
+        ));
         texts.push(("largest", "largest, k = 5".into(), largest_with(5)));
         texts.push(("largest", "largest, k = 64".into(), largest_with(64)));
         for clashes in [650, 1_300, 2_600] {

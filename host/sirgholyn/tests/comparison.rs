@@ -11,6 +11,7 @@ use model::encoding::Encoding;
 use model::generator::{
     answer_after, clauses_with_repeat, damage, damage_log, repeats_in_choices, Joined, Random,
 };
+use model::reading::{read_formula, INPUT_LIMITS};
 use model::texts::{log_text, Line};
 
 const FORMULAS: u64 = 22_000;
@@ -38,6 +39,31 @@ fn note_run(occurred: &mut Occurred, encoding: &Encoding) {
         if [4, 65].contains(&size) && encoding.standing.is_unique_literal_clause(place) {
             note(occurred, format!("stays {size:02}"), 1);
         }
+    }
+}
+
+/// Choices with a pure literal, by a name of the way.
+fn note_free(occurred: &mut Occurred, way: &str, encoding: &Encoding) {
+    let tally = &encoding.tally;
+    for (what, times) in [
+        ("free choices", tally.free_choices),
+        ("free choices joined by clashes", tally.joined_free_choices),
+    ] {
+        note(occurred, format!("{way}: {what}"), times);
+    }
+}
+
+/// A walk-back that gave a plan, over all lines or some, of a log with a free choice.
+fn note_free_walked(occurred: &mut Occurred, way: &str, encoding: &Encoding, kept: usize) {
+    let tally = &encoding.tally;
+    let cleared = 3 * tally.clashes - tally.double_clashes + tally.pure;
+    if tally.free_choices > 0 && kept > cleared {
+        let what = if kept == encoding.log.len() {
+            "whole logs with a free choice"
+        } else {
+            "logs with a free choice, cut in a choice"
+        };
+        note(occurred, format!("{way}: {what}"), 1);
     }
 }
 
@@ -78,8 +104,10 @@ fn in_order(seed: u64, occurred: &mut Occurred) {
     let input = any_kind_joined(&mut random);
     for form in [0, 2] {
         let (form, arrangement) = WAYS[form + random.below(2)];
+        let way = format!("{form:?} {arrangement:?}");
         let encoding = run_model(&input.formula, form, arrangement);
         note_run(occurred, &encoding);
+        note_free(occurred, &way, &encoding);
         let repeats = repeats_in_choices(&input.text, &encoding);
         note(occurred, "repeats in choices", repeats);
         let new: Joined = new_formula(&encoding).into();
@@ -95,13 +123,16 @@ fn in_order(seed: u64, occurred: &mut Occurred) {
             let number = compare_read_back(&text.text, store);
             read_outcome(occurred, "read-back", number, text);
         }
-        let number = walk_in_order(&mut random, &input, &encoding);
+        let (number, kept) = walk_in_order(&mut random, &input, &encoding);
         read_outcome(occurred, "walk-back", number, &input);
+        if number == 0 {
+            note_free_walked(occurred, &way, &encoding, kept);
+        }
     }
 }
 
-/// Walks back over all lines of a log or the first of them.
-fn walk_in_order(random: &mut Random, input: &Joined, encoding: &Encoding) -> u32 {
+/// Walks back over all lines of a log or the first of them; the answer is the number, and how many were kept.
+fn walk_in_order(random: &mut Random, input: &Joined, encoding: &Encoding) -> (u32, usize) {
     let log = log_text(&encoding.log);
     let lines = encoding.log.len();
     let kept = if random.chance(50) {
@@ -117,7 +148,8 @@ fn walk_in_order(random: &mut Random, input: &Joined, encoding: &Encoding) -> u3
     } else {
         random.below(longest)
     };
-    compare_walk_back(&input.text, &log, kept, &answer, work, room)
+    let number = compare_walk_back(&input.text, &log, kept, &answer, work, room);
+    (number, kept)
 }
 
 /// Texts with a few changes.
@@ -137,6 +169,10 @@ fn changed(seed: u64, occurred: &mut Occurred) {
     };
     let number = compare_reencode(&text, form, arrangement, room);
     outcome(occurred, "reencode", number);
+    if number == 0 {
+        let read = read_formula(&text, &INPUT_LIMITS).unwrap();
+        note_free(occurred, "changed", &run_model(&read, form, arrangement));
+    }
     outcome(occurred, "read-back", compare_read_back(&text, room.work));
     let number = walk_changed(&mut random, &input, encoding.log);
     outcome(occurred, "walk-back", number);
@@ -177,6 +213,7 @@ fn library_and_model_agree() {
     let occurred = sum(counted);
     println!("{FORMULAS} formulas in both forms, and half as many changed: {occurred:#?}");
     expect_cases(&occurred);
+    expect_free_choices(&occurred);
     for (call, numbers) in [
         ("reencode", &[0, 1, 2, 3, 4, 7, 8, 11, 12, 13][..]),
         ("read-back", &[0, 1, 2, 3, 4, 7, 8, 11]),
@@ -207,6 +244,25 @@ fn expect_cases(occurred: &Occurred) {
         ("stays 65", 100),
     ];
     expect_more(occurred, cases);
+}
+
+/// Choices with a pure literal in each way, and in texts that were changed.
+fn expect_free_choices(occurred: &Occurred) {
+    for (form, arrangement) in WAYS {
+        let cases = [
+            ("free choices", 500),
+            ("free choices joined by clashes", 200),
+            ("whole logs with a free choice", 200),
+            ("logs with a free choice, cut in a choice", 200),
+        ];
+        let of_way = |(what, least)| (format!("{form:?} {arrangement:?}: {what}"), least);
+        expect_more(occurred, cases.map(of_way));
+    }
+    let changed = [
+        ("changed: free choices", 500),
+        ("changed: free choices joined by clashes", 200),
+    ];
+    expect_more(occurred, changed);
 }
 
 /// The call ended with each of these numbers and no other, and accepted texts of both kinds.

@@ -14,7 +14,7 @@ use model::sessions::{self, JOINED_E};
 use model::texts::log_text;
 use sirgholyn::{Arrangement, Form};
 
-const TEXTS: [&[u8]; 8] = [
+const TEXTS: [&[u8]; 9] = [
     F,
     JOINED_F.as_bytes(),
     JOINED_E.as_bytes(),
@@ -23,6 +23,8 @@ const TEXTS: [&[u8]; 8] = [
     b"p cnf 2 3\n1 -2 0\t2\r\n-1 0 0\n",
     b"p cnf 10 9\n1 2 3 4 5 0\n6 7 8 9 10 0\n-1 -8 0\n-2 -6 0\n-1 -2 0\n-2 -1 0\n-3 -4 -5 -7 0\n-3 -9 -10 0\n-4 -5 -7 -9 -10 0\n",
     b"p cnf 8000 1\n8000 -7999 0\n",
+    // a choice that nothing forbids, and none where a literal is lost
+    b"p cnf 5 1\n1 2 3 4 5 0\n",
 ];
 const ROOM: Room = Room {
     work: 60_000,

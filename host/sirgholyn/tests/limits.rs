@@ -2,17 +2,17 @@
 
 mod common;
 
-use common::formulas::{clash_chain, JOINED_F};
+use common::formulas::{clash_chain, free_choices, JOINED_F};
 use common::{
     compare_read_back, compare_reencode, compare_walk_back, new_formula, run_model, walk_back_work,
     work_for, Room, PLENTY, WAYS,
 };
 use model::generator::{largest_with, text_of};
-use model::reading::{read_formula, INPUT_LIMITS};
+use model::reading::{read_formula, Formula, INPUT_LIMITS};
 use model::sessions;
 use model::texts::log_text;
-use sirgholyn::calls::{library, on_large_stack};
-use sirgholyn::{Arrangement, Form};
+use sirgholyn::calls::{library, on_large_stack, Tally};
+use sirgholyn::{Arrangement, Error, Form, ReencodeRoom, Refusal, WalkBackRoom};
 
 const LARGE: Room = Room {
     work: PLENTY,
@@ -322,6 +322,175 @@ fn largest() {
             formula: 1 << 23,
         };
         assert_eq!(compare_reencode(&text, form, arrangement, room), 0);
+    }
+}
+
+// Choices with a pure literal
+
+/// The tally on buffers that just suffice; the bytes are the model's.
+fn tally_of(formula: &Formula, form: Form, arrangement: Arrangement) -> Tally {
+    let text = text_of(formula);
+    let room = Room::exact(formula, &run_model(formula, form, arrangement));
+    let literals = formula.clauses.iter().map(Vec::len).sum::<usize>();
+    let (clauses, variables) = (formula.clauses.len(), formula.variables as usize);
+    let by_the_rule = 20 * literals + 2 * clauses + 6 * variables + 8_192;
+    assert_eq!(room.work, by_the_rule);
+    assert_eq!(compare_reencode(&text, form, arrangement, room), 0);
+    let exact = ReencodeRoom {
+        work: Some(room.work),
+        log: Some(room.log),
+        formula: Some(room.formula),
+    };
+    let new = sirgholyn::reencode(&text, form, arrangement, exact);
+    new.unwrap().tally
+}
+
+/// L 64, C 1, V 64, and 2,016 pairs that stand from stage 1 to stage 4.
+#[test]
+fn a_free_choice_of_64() {
+    let formula = free_choices(64, 1);
+    let text = text_of(&formula);
+    for (form, arrangement) in WAYS {
+        let enough = Room::exact(&formula, &run_model(&formula, form, arrangement));
+        for (work, log, formula, number) in [
+            (9_858, 0, 0, 0),
+            (9_857, 0, 0, 11),
+            (9_857, 1, 1, 11),
+            (9_858, 1, 0, 12),
+            (9_858, 1, 1, 12),
+            (9_858, 0, 1, 13),
+        ] {
+            let room = Room {
+                work,
+                log: enough.log - log,
+                formula: enough.formula - formula,
+            };
+            let found = compare_reencode(&text, form, arrangement, room);
+            assert_eq!(found, number, "{form:?} {arrangement:?} {room:?}");
+        }
+    }
+}
+
+/// 8,000 variables in choices that nothing forbids.
+#[test]
+fn most_free_choices() {
+    for (size, count, highest, tallies) in [
+        (64, 125, 15_875, [(31_500, 535_625), (7_750, 559_375)]),
+        (5, 1_600, 14_400, [(25_600, 59_200), (4_800, 80_000)]),
+    ] {
+        let formula = free_choices(size, count);
+        let ways = [WAYS[1], WAYS[2]];
+        for ((form, arrangement), (clauses, lines)) in ways.into_iter().zip(tallies) {
+            let tally = tally_of(&formula, form, arrangement);
+            assert_eq!((tally.choices, tally.highest), (count as u64, highest));
+            assert_eq!((tally.clauses, tally.lines), (clauses, lines));
+        }
+    }
+}
+
+/// The line that gives 1..8,000 their values.
+fn line_of(is_true: impl Fn(usize) -> bool) -> String {
+    let sign = |variable| if is_true(variable) { "" } else { "-" };
+    let words: String = (1..=8_000).map(|v| format!("{}{v} ", sign(v))).collect();
+    format!("v {words}0\n")
+}
+
+/// An answer with all of 1..8,000 true and the counters' variables false. In order form, where the new formula has
+/// none of the first, the last literal of each choice comes back.
+#[test]
+fn most_free_choices_walked_back() {
+    let answer = format!("s SATISFIABLE\n{}", line_of(|_| true));
+    for (size, count) in [(64, 125), (5, 1_600)] {
+        let formula = free_choices(size, count);
+        let text = text_of(&formula);
+        let last = line_of(|variable| variable % size == 0);
+        for (form, expected) in [
+            (Form::Counter, Err(Error::Refused(Refusal(44)))),
+            (Form::Order, Ok(last.as_bytes())),
+        ] {
+            let room = ReencodeRoom::default();
+            let new = sirgholyn::reencode(&text, form, Arrangement::AsListed, room).unwrap();
+            let lines = new.tally.lines as usize;
+            let exact = WalkBackRoom {
+                work: Some(walk_back_work(&formula, &new.log, lines)),
+                line: Some(last.len()),
+            };
+            let line = sirgholyn::walk_back(&text, &new.log, lines, answer.as_bytes(), exact);
+            assert!(
+                line.as_deref() == expected.as_ref().copied(),
+                "{form:?} {size}"
+            );
+        }
+    }
+}
+
+/// A clause of the size, and the negations of some of its literals twice each in clauses of their own.
+fn one_clause(size: usize, forbidden: &[i32]) -> Formula {
+    let clause: Vec<i32> = (1..=size as i32).collect();
+    let negated = forbidden.iter().flat_map(|l| [vec![-l], vec![-l]]);
+    let clauses = std::iter::once(clause).chain(negated).collect();
+    Formula::new(size as i32, clauses)
+}
+
+/// Nothing, or all literals of a clause of the size but the first, the middle or the last.
+fn all_but_one(size: usize) -> Vec<Vec<i32>> {
+    let pure = [1, 1 + size as i32 / 2, size as i32];
+    let rest = pure.map(|pure| (1..=size as i32).filter(|&l| l != pure).collect());
+    [vec![Vec::new()], rest.to_vec()].concat()
+}
+
+/// The choices and log lines of a choice of the size and clauses of one of its negated literals: pairs added and
+/// deleted, the counter's clauses, the choice; in order form each other clause in two lines, and what is deleted.
+fn taken(form: Form, size: u64, others: u64) -> (u64, u64) {
+    let lines = size * (size - 1) + 4 * (size - 1) + 1;
+    match form {
+        Form::Counter => (1, lines),
+        Form::Order => (1, lines + 2 * others + 3 * size - 2),
+    }
+}
+
+/// Sizes 5 to 64 are taken, the others deleted in one line, whether all literals are pure or one.
+#[test]
+fn sizes_with_a_pure_literal() {
+    for size in [1, 2, 3, 4, 5, 6, 63, 64, 65, 66] {
+        for forbidden in all_but_one(size) {
+            let formula = one_clause(size, &forbidden);
+            let others = 2 * forbidden.len() as u64;
+            for (form, arrangement) in WAYS {
+                let tally = tally_of(&formula, form, arrangement);
+                let expected = match size {
+                    5..=64 => taken(form, size as u64, others),
+                    _ => (0, 1),
+                };
+                let seen = format!("{size}, without {forbidden:?}, {form:?}");
+                assert_eq!((tally.choices, tally.lines), expected, "{seen}");
+            }
+        }
+    }
+}
+
+/// Two clauses that clash at 1, with a resolvent of the size; nothing forbids its literals.
+fn clashing(size: i32) -> Formula {
+    let (half, last) = (1 + size / 2, size + 1);
+    let one = (1..=half).collect();
+    let other = [-1].into_iter().chain(half + 1..=last).collect();
+    Formula::new(last, vec![one, other])
+}
+
+/// The clash is three lines; then the size of the resolvent counts.
+#[test]
+fn sizes_joined_by_a_clash() {
+    for size in [1, 4, 5, 6, 63, 64, 65, 66] {
+        let formula = clashing(size);
+        for (form, arrangement) in WAYS {
+            let tally = tally_of(&formula, form, arrangement);
+            let (choices, lines) = match size {
+                5..=64 => taken(form, size as u64, 0),
+                _ => (0, 1),
+            };
+            let found = (tally.choices, tally.lines);
+            assert_eq!(found, (choices, 3 + lines), "{size}, {form:?}");
+        }
     }
 }
 

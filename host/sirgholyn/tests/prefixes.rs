@@ -3,9 +3,9 @@
 mod common;
 
 use common::formulas::is_joined;
-use common::{over_seeds, run_model, WAYS};
+use common::{count_true, over_seeds, run_model, WAYS};
 use model::generator::{
-    clauses_with_repeat, one_of_three_joined, planned, written_clauses, Joined, Random,
+    clauses_with_repeat, freed, one_of_three_joined, planned, written_clauses, Joined, Random,
 };
 use model::texts::log_text;
 use model::walk_back::{replay, satisfies};
@@ -20,7 +20,11 @@ struct Walked {
     repeats: usize,
     left_out: usize,
     cuts: usize,
+    /// Cuts of logs with a choice that has a pure literal.
+    cuts_with_free: usize,
     lines: usize,
+    /// True literals of clauses that go into a choice, where the whole log was walked back.
+    chosen: usize,
 }
 
 /// Walks back from every cut of one formula's log.
@@ -39,6 +43,8 @@ fn walk_all(input: &Joined, seed: u64, walked: &mut Walked) {
     walked.repeats += clauses_with_repeat(text).len();
     walked.left_out += formula.left_out;
 
+    let free = encoding.tally.free_choices > 0;
+    let in_choices = encoding.input_clauses_in_choices();
     let can = can_be_satisfied(formula.variables, &written_clauses(text));
     for kept in 0..=encoding.log.len() {
         let standing = replay(&formula.clauses, &encoding.log[..kept]).unwrap();
@@ -50,9 +56,17 @@ fn walk_all(input: &Joined, seed: u64, walked: &mut Walked) {
             let bytes = outcome.unwrap_or_else(|number| panic!("{number}: {}", seen()));
             let line = String::from_utf8_lossy(&line[..bytes]);
             assert!(plan::satisfies(&shown(text), &line), "{line}: {}", seen());
+            if kept == encoding.log.len() {
+                for &place in &in_choices {
+                    let chosen = count_true(&line, &formula.clauses[place]);
+                    assert_eq!(chosen, 1, "{line}: clause {place}, {}", seen());
+                    walked.chosen += chosen;
+                }
+            }
             walked.lines += 1;
         });
         walked.cuts += 1;
+        walked.cuts_with_free += usize::from(free);
         assert_eq!(walked.lines > lines, can, "{kept} lines of {}", shown(text));
     }
 }
@@ -102,7 +116,10 @@ fn every_cut_walks_back() {
         let mut random = Random::new(seed);
         let variables = random.between(3, 8);
         let clauses = random.between(3, 22);
-        let formula = planned(&mut random, variables, clauses);
+        let mut formula = planned(&mut random, variables, clauses);
+        if random.chance(33) {
+            formula = freed(&mut random, formula);
+        }
         let input = one_of_three_joined(&mut random, formula);
         if run_model(&input.formula, WAYS[0].0, WAYS[0].1).highest <= 13 {
             walk_all(&input, seed, walked);
@@ -113,11 +130,14 @@ fn every_cut_walks_back() {
     let (repeats, left_out) = (sum(|w| w.repeats), sum(|w| w.left_out));
     let (cuts, lines) = (sum(|w| w.cuts), sum(|w| w.lines));
     let joined_with_choice = sum(|w| w.joined_with_choice);
+    let (cuts_with_free, chosen) = (sum(|w| w.cuts_with_free), sum(|w| w.chosen));
     println!(
         "{formulas} formulas, {with_choice} with a choice, {joined_with_choice} of these joined; \
          clauses: {repeats} with a repeat, {left_out} left out; \
-         {cuts} cuts, {lines} lines walked back"
+         {cuts} cuts, {cuts_with_free} of logs with a free choice, {lines} lines walked back, \
+         {chosen} times exactly one literal"
     );
     assert!(with_choice > 100 && cuts > 5_000 && lines > 40_000);
+    assert!(cuts_with_free > 1_000 && chosen > 500);
     assert!(joined_with_choice > 20 && repeats > 200 && left_out > 150);
 }

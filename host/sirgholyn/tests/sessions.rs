@@ -1,6 +1,6 @@
 //! The sessions listed in document 01, word for word.
 
-use model::sessions::F;
+use model::sessions::{F, SIX};
 use sirgholyn::{
     read_back, reencode, walk_back, Arrangement, Error, Form, ReencodeRoom, Reencoded, Refusal,
     WalkBackRoom,
@@ -94,6 +94,25 @@ fn g_and_h() {
         "s SATISFIABLE\nv 1 2 3 4 5 -6 -7 -8 -9 10 0\n",
     );
     assert_eq!(line.as_deref(), Ok("v -1 -2 -3 4 -5 -6 0\n"));
+}
+
+/// Six literals that nothing forbids are a choice.
+#[test]
+fn six_literals() {
+    let [counter, order] =
+        [Form::Counter, Form::Order].map(|form| encode(SIX, form, Arrangement::AsListed));
+    for (new, clauses, lines) in [(&counter, 20, 51), (&order, 4, 67)] {
+        let tally = &new.tally;
+        assert_eq!((tally.choices, tally.highest), (1, 11));
+        assert_eq!((tally.clauses, tally.lines), (clauses, lines));
+    }
+    let steps = "p cnf 11 4\n8 -7 0\n9 -8 0\n10 -9 0\n11 -10 0\n";
+    assert_eq!(String::from_utf8_lossy(&order.formula), steps);
+    let answer = "s SATISFIABLE\nv 1 2 -3 -4 -5 -6 -7 -8 9 10 11 0\n";
+    let line = walk(SIX, &order.log, 67, answer);
+    assert_eq!(line.as_deref(), Ok("v -1 -2 3 -4 -5 -6 0\n"));
+    let refused = walk(SIX, &counter.log, 51, answer);
+    assert_eq!(refused, Err(Error::Refused(Refusal(44))));
 }
 
 /// A repeated literal is kept once; a clause that holds a literal and its negation is left out.

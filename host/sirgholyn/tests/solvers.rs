@@ -2,25 +2,15 @@
 
 mod common;
 
-use common::formulas::{any_kind_joined, is_joined, rewritten};
-use common::solvers::{cadical, minisat, Answer};
-use common::{over_seeds, WAYS};
-use model::generator::{written_clauses, Joined, Random};
+use common::formulas::{any_kind, any_kind_joined, beside_free_choice, is_joined, rewritten};
+use common::solvers::{cadical, fullest_answer, minisat, Answer};
+use common::{count_true, expect_more, note, over_seeds, run_model, sum, Occurred, WAYS};
+use model::generator::{one_of_three_joined, written_clauses, Joined, Random};
 use model::log_reading::read_kept_lines;
 use model::valleys::Valley;
 use sirgholyn::drat::{self, Checker, Ground};
-use sirgholyn::{plan, reencode, walk_back, ReencodeRoom, WalkBackRoom};
+use sirgholyn::{plan, Arrangement, Form, ReencodeRoom, Reencoded, WalkBackRoom};
 use std::io::Read;
-
-#[derive(Debug, Default)]
-struct Trips {
-    plans: usize,
-    no_plans: usize,
-    proof_lines: usize,
-    /// Of texts that are not kept in full.
-    joined_plans: usize,
-    joined_no_plans: usize,
-}
 
 fn either(formula: &[u8], is_satisfiable: bool, solve: fn(&[u8]) -> Answer) -> Answer {
     let answer = solve(formula);
@@ -28,56 +18,91 @@ fn either(formula: &[u8], is_satisfiable: bool, solve: fn(&[u8]) -> Answer) -> A
     answer
 }
 
-/// Solves input, as it is written, and new formula by both solvers, and carries each answer back.
-fn round_trip(input: &Joined, seed: u64, trips: &mut Trips) {
-    let text = &input.text;
-    let plain_text = String::from_utf8_lossy(text);
-    let (form, arrangement) = WAYS[seed as usize % WAYS.len()];
-    let new = reencode(text, form, arrangement, ReencodeRoom::default()).unwrap();
-    let lines = new.tally.lines as usize;
-    let can = matches!(cadical(text), Answer::Satisfiable(_));
-    either(text, can, minisat);
-    trips.joined_plans += usize::from(can && is_joined(input));
-    trips.joined_no_plans += usize::from(!can && is_joined(input));
-    for solve in [cadical, minisat] {
-        match either(&new.formula, can, solve) {
-            Answer::Satisfiable(answer) => {
-                let line =
-                    walk_back(text, &new.log, lines, &answer, WalkBackRoom::default()).unwrap();
-                assert!(
-                    plan::satisfies(&plain_text, &String::from_utf8_lossy(&line)),
-                    "{plain_text}"
-                );
-                trips.plans += 1;
-            }
-            Answer::Unsatisfiable(Some(proof)) => {
-                let whole = new.log.as_slice().chain(proof.as_bytes());
-                let checked = drat::check(text, whole, &mut |_| {})
-                    .unwrap_or_else(|why| panic!("{why}: {plain_text}"));
-                trips.proof_lines += checked.lines as usize;
-                trips.no_plans += 1;
-            }
-            Answer::Unsatisfiable(None) => trips.no_plans += 1,
+/// A text reencoded one way, and what the model tells of it.
+struct Trip<'a> {
+    input: &'a Joined,
+    new: Reencoded,
+    /// Clauses of the input that go into a choice.
+    in_choices: Vec<&'a [i32]>,
+    /// Whether a choice has a pure literal.
+    free: bool,
+}
+
+impl<'a> Trip<'a> {
+    fn new(input: &'a Joined, (form, arrangement): (Form, Arrangement)) -> Trip<'a> {
+        let room = ReencodeRoom::default();
+        let new = sirgholyn::reencode(&input.text, form, arrangement, room).unwrap();
+        let encoding = run_model(&input.formula, form, arrangement);
+        assert_eq!(new.tally.choices as usize, encoding.choices.len());
+        let clause = |place: usize| input.formula.clauses[place].as_slice();
+        let places = encoding.input_clauses_in_choices();
+        Trip {
+            input,
+            new,
+            in_choices: places.into_iter().map(clause).collect(),
+            free: encoding.tally.free_choices > 0,
         }
+    }
+
+    fn note(&self, trips: &mut Occurred, what: &str) {
+        note(trips, what, 1);
+        for (of, applies) in [("joined", is_joined(self.input)), ("free", self.free)] {
+            note(trips, format!("{of}: {what}"), usize::from(applies));
+        }
+    }
+
+    /// The answer carried back: a plan, with exactly one true literal in each clause that goes into a choice.
+    fn walk_back(&self, answer: &[u8], trips: &mut Occurred) -> String {
+        let Reencoded { log, tally, .. } = &self.new;
+        let (text, room) = (&self.input.text, WalkBackRoom::default());
+        let line = sirgholyn::walk_back(text, log, tally.lines as usize, answer, room).unwrap();
+        let line = String::from_utf8(line).unwrap();
+        let plain_text = String::from_utf8_lossy(text);
+        assert!(plan::satisfies(&plain_text, &line), "{plain_text}");
+        for clause in &self.in_choices {
+            let chosen = count_true(&line, clause);
+            assert_eq!(chosen, 1, "{clause:?} in {line} of {plain_text}");
+        }
+        self.note(trips, "plans");
+        line
+    }
+
+    /// The log and the solver's proof show that the text has no plan.
+    fn check(&self, proof: &str, trips: &mut Occurred) {
+        let text = &self.input.text;
+        let whole = self.new.log.as_slice().chain(proof.as_bytes());
+        let checked = drat::check(text, whole, &mut |_| {})
+            .unwrap_or_else(|why| panic!("{why}: {}", String::from_utf8_lossy(text)));
+        note(trips, "proof lines", checked.lines as usize);
+        self.note(trips, "proofs");
+    }
+
+    /// Solves input, as it is written, and new formula by both solvers, and carries each answer back to a line.
+    fn round(&self, trips: &mut Occurred) -> Vec<String> {
+        let text = &self.input.text;
+        let can = matches!(cadical(text), Answer::Satisfiable(_));
+        either(text, can, minisat);
+        let mut lines = Vec::new();
+        for solve in [cadical, minisat] {
+            match either(&self.new.formula, can, solve) {
+                Answer::Satisfiable(answer) => lines.push(self.walk_back(&answer, trips)),
+                Answer::Unsatisfiable(Some(proof)) => self.check(&proof, trips),
+                Answer::Unsatisfiable(None) => self.note(trips, "no plans without proof"),
+            }
+        }
+        lines
     }
 }
 
-fn sum(trips: Vec<Trips>) -> Trips {
-    let mut sum = Trips::default();
-    for part in trips {
-        sum.plans += part.plans;
-        sum.no_plans += part.no_plans;
-        sum.proof_lines += part.proof_lines;
-        sum.joined_plans += part.joined_plans;
-        sum.joined_no_plans += part.joined_no_plans;
-    }
-    println!("{sum:?}");
-    sum
+fn total(trips: Vec<Occurred>) -> Occurred {
+    let trips = sum(trips);
+    println!("{trips:#?}");
+    trips
 }
 
 #[test]
 fn valleys() {
-    let trips = sum(over_seeds(0..160, |seed, trips: &mut Trips| {
+    let trips = total(over_seeds(0..160, |seed, trips: &mut Occurred| {
         let mut random = Random::new(seed);
         let (traps, lures) = (random.between(10, 24), random.between(5, 6));
         let pairs = random.between(traps * 2, traps * 4);
@@ -89,61 +114,142 @@ fn valleys() {
             0 => rewritten(&mut random, valley.formula()),
             _ => valley.formula().into(),
         };
-        round_trip(&input, seed, trips);
+        Trip::new(&input, WAYS[seed as usize % WAYS.len()]).round(trips);
     }));
-    assert!(trips.plans > 60 && trips.no_plans > 60 && trips.proof_lines > 10_000);
-    assert!(trips.joined_plans > 10 && trips.joined_no_plans > 10);
+    let cases = [
+        ("plans", 60),
+        ("proofs", 60),
+        ("proof lines", 10_000),
+        ("joined: plans", 20),
+        ("joined: proofs", 10),
+        ("free: plans", 20),
+        ("free: proofs", 10),
+    ];
+    expect_more(&trips, cases);
+}
+
+/// Whether no rule between two traps is a unique literal clause, so that no clash takes a trap's clause.
+fn nothing_clashes(valley: &Valley) -> bool {
+    let clauses = valley.formula().clauses;
+    let holders = |literal: &i32| clauses.iter().filter(|c| c.contains(literal)).count();
+    let is_unique = |clause: &Vec<i32>| clause.iter().all(|literal| holders(literal) == 1);
+    !clauses[valley.traps..].iter().any(is_unique)
+}
+
+/// A valley with lures that nothing forbids, in which nothing clashes.
+fn with_free_lures(random: &mut Random) -> Valley {
+    loop {
+        let valley = any_with_free_lures(random);
+        if nothing_clashes(&valley) {
+            return valley;
+        }
+    }
+}
+
+/// A valley with lures that nothing forbids, at some traps all of them. One of two is crowded, and has no plan;
+/// there the lures are those of traps around the crowd.
+fn any_with_free_lures(random: &mut Random) -> Valley {
+    let lures = random.between(5, 6);
+    let (mut valley, first) = if random.chance(50) {
+        let around = random.between(4, 8);
+        let crowded = Valley::crowded(random, lures + 1, lures, around);
+        (crowded, lures + 1)
+    } else {
+        let traps = random.between(8, 16);
+        let pairs = random.between(traps * 2, traps * 3);
+        (Valley::random(random, traps, lures, pairs), 0)
+    };
+    for _ in 0..random.between(1, 4) {
+        let trap = random.between(first, valley.traps - 1);
+        if random.chance(20) {
+            valley.free.extend((0..lures).map(|lure| (trap, lure)));
+        } else {
+            valley.free.push((trap, random.below(lures)));
+        }
+    }
+    valley
+}
+
+/// Whoever answers, each trap gets exactly one lure.
+#[test]
+fn valleys_with_free_lures() {
+    let trips = total(over_seeds(0..120, |seed, trips: &mut Occurred| {
+        let valley = with_free_lures(&mut Random::new(seed));
+        let input: Joined = valley.formula().into();
+        for form in [0, 2] {
+            let trip = Trip::new(&input, WAYS[form + seed as usize % 2]);
+            assert!(trip.free);
+            let mut lines = trip.round(trips);
+            if let Some(answer) = fullest_answer(&trip.new.formula, input.formula.variables) {
+                lines.push(trip.walk_back(&answer, trips));
+            }
+            for line in lines {
+                for trap in &input.formula.clauses[..valley.traps] {
+                    assert_eq!(count_true(&line, trap), 1, "{trap:?} in {line}");
+                }
+                note(trips, "lures", valley.traps);
+            }
+        }
+    }));
+    let cases = [("free: plans", 200), ("free: proofs", 60), ("lures", 2_000)];
+    expect_more(&trips, cases);
 }
 
 #[test]
 fn random_formulas() {
-    let trips = sum(over_seeds(0..240, |seed, trips: &mut Trips| {
-        let input = any_kind_joined(&mut Random::new(seed));
-        round_trip(&input, seed, trips);
+    let trips = total(over_seeds(0..240, |seed, trips: &mut Occurred| {
+        let random = &mut Random::new(seed);
+        let mut formula = any_kind(random);
+        if seed % 3 == 0 {
+            formula = beside_free_choice(random, formula);
+        }
+        let input = one_of_three_joined(random, formula);
+        Trip::new(&input, WAYS[seed as usize % WAYS.len()]).round(trips);
     }));
-    assert!(trips.plans > 60 && trips.no_plans > 60);
-    assert!(trips.joined_plans > 10 && trips.joined_no_plans > 10);
-}
-
-/// Lines of logs by what they are.
-#[derive(Debug, Default)]
-struct Lines {
-    by_propagation: usize,
-    by_resolvents: usize,
-    deletions: usize,
-    /// All lines of logs of texts that are not kept in full.
-    of_joined: usize,
+    let cases = [
+        ("plans", 60),
+        ("proofs", 60),
+        ("joined: plans", 20),
+        ("joined: proofs", 10),
+        ("free: plans", 20),
+        ("free: proofs", 10),
+    ];
+    expect_more(&trips, cases);
 }
 
 /// Every log of ours passes line by line, whatever the formula, and with its clauses as they are written.
 #[test]
 fn our_lines_follow() {
-    let counted = over_seeds(0..600, |seed, lines: &mut Lines| {
-        let input = any_kind_joined(&mut Random::new(seed));
+    let lines = total(over_seeds(0..650, |seed, lines: &mut Occurred| {
+        let random = &mut Random::new(seed);
+        let input = match seed % 13 {
+            0 => with_free_lures(random).formula().into(),
+            _ => any_kind_joined(random),
+        };
         let text = &input.text;
-        let (form, arrangement) = WAYS[seed as usize % WAYS.len()];
-        let new = reencode(text, form, arrangement, ReencodeRoom::default()).unwrap();
-        let kept = read_kept_lines(&new.log, new.tally.lines as usize).unwrap();
-        lines.of_joined += kept.len() * usize::from(is_joined(&input));
+        let trip = Trip::new(&input, WAYS[seed as usize % WAYS.len()]);
+        let kept = read_kept_lines(&trip.new.log, trip.new.tally.lines as usize).unwrap();
         let mut checker = Checker::new(written_clauses(text));
         for line in kept {
             let seen = || format!("{line:?} of {}", String::from_utf8_lossy(text));
             if line.deletion {
                 assert!(checker.delete(&line.literals), "{}", seen());
-                lines.deletions += 1;
+                trip.note(lines, "deletions");
                 continue;
             }
             match checker.add_if_follows(&line.literals, &mut || {}) {
-                Some(Ground::Propagation) => lines.by_propagation += 1,
-                Some(Ground::Resolvents) => lines.by_resolvents += 1,
+                Some(Ground::Propagation) => trip.note(lines, "by propagation"),
+                Some(Ground::Resolvents) => trip.note(lines, "by resolvents"),
                 None => panic!("{}", seen()),
             }
         }
-    });
-    println!("{counted:?}");
-    let total = |of: fn(&Lines) -> usize| counted.iter().map(of).sum::<usize>();
-    assert!(total(|lines| lines.by_propagation) > 10_000);
-    assert!(total(|lines| lines.by_resolvents) > 10_000);
-    assert!(total(|lines| lines.deletions) > 20_000);
-    assert!(total(|lines| lines.of_joined) > 10_000);
+    }));
+    for (what, least) in [
+        ("by propagation", 10_000),
+        ("by resolvents", 10_000),
+        ("deletions", 20_000),
+    ] {
+        let of = |kind: &str, share: usize| (format!("{kind}{what}"), least / share);
+        expect_more(&lines, [of("", 1), of("joined: ", 10), of("free: ", 4)]);
+    }
 }

@@ -6,7 +6,7 @@ use common::command::{
     example, expect_failure, expect_message, run, run_with, script, wait_for, Ran, COMMAND,
 };
 use common::formulas::rewritten;
-use common::solvers::Folder;
+use common::solvers::{fullest_answer, named, Folder};
 use model::generator::Random;
 use model::reading::{read_formula, INPUT_LIMITS};
 use model::sessions::F;
@@ -50,6 +50,75 @@ fn a_plan() {
         (empty.status, empty.out.as_str()),
         (10, "s SATISFIABLE\nv 0\n")
     );
+}
+
+/// Form and alignment, as words of `solve`.
+const WAYS: [[&str; 3]; 4] = [
+    ["--form", "counter", "--no-align"],
+    ["--form", "counter", "--align"],
+    ["--form", "order", "--no-align"],
+    ["--form", "order", "--align"],
+];
+
+/// How many lures each trap of an example holds: six literals a trap.
+fn lures_held(ran: &Ran) -> Vec<usize> {
+    let line = ran.out.strip_prefix("s SATISFIABLE\nv ").unwrap();
+    let literals: Vec<&str> = line.split_whitespace().collect();
+    let (end, literals) = literals.split_last().unwrap();
+    assert_eq!((*end, literals.len()), ("0", 20 * 6));
+    let held = |trap: &[&str]| trap.iter().filter(|word| !word.starts_with('-')).count();
+    literals.chunks(6).map(held).collect()
+}
+
+#[track_caller]
+fn expect_one_lure_each(input: &str, ran: &Ran) {
+    assert_eq!((ran.status, ran.err.as_str()), (10, ""));
+    assert_eq!(lures_held(ran), [1; 20], "{input}");
+    let text = fs::read_to_string(input).unwrap();
+    assert!(plan::satisfies(&text, &ran.out["s SATISFIABLE\n".len()..]));
+}
+
+/// With cadical as it is, and without its lucky guesses.
+#[test]
+fn one_lure_for_each_trap() {
+    let solvers = [&[][..], &["--solver", "cadical -q --no-lucky"]];
+    for (words, solver) in WAYS.iter().flat_map(|way| solvers.map(|own| (way, own))) {
+        let solve = |input: &str| run(&[&["solve", input], &words[..], solver].concat());
+        for name in ["valley.cnf", "free_lure.cnf"] {
+            let input = example(name);
+            expect_one_lure_each(&input, &solve(&input));
+        }
+        let ran = solve(&example("no_plan.cnf"));
+        let found = (ran.status, ran.out.as_str(), ran.err.as_str());
+        assert_eq!(found, (20, "s UNSATISFIABLE\n", ""));
+    }
+}
+
+/// A solver that names as many lures as it can. The new formula in order form has no variable of a trap, so that
+/// all may be named.
+#[test]
+fn one_lure_for_each_trap_from_the_fullest_answer() {
+    let folder = Folder::new();
+    let (seen, answer) = (folder.path("seen"), folder.path("answer"));
+    let keep = format!("cp \"$1\" {seen}; exec cadical -q \"$1\"");
+    let keep = script(&folder, "keep", &keep);
+    let most = script(&folder, "most", &format!("cat {answer}; exit 10"));
+    for words in WAYS {
+        for name in ["valley.cnf", "free_lure.cnf"] {
+            let input = example(name);
+            let solve = |solver: &str| {
+                let own = ["solve", &input, "--solver", solver];
+                run(&[&own, &words[..]].concat())
+            };
+            expect_one_lure_each(&input, &solve(&keep));
+            let fullest = fullest_answer(&fs::read(&seen).unwrap(), 120).unwrap();
+            fs::write(&answer, &fullest).unwrap();
+            expect_one_lure_each(&input, &solve(&most));
+            let literals = named(&fullest);
+            let all = (1..=120).all(|variable| literals.contains(&variable));
+            assert_eq!(all, words[1] == "order");
+        }
+    }
 }
 
 #[test]

@@ -1,7 +1,9 @@
 //! Random formulas: with choices of named sizes, joined by clashes, linked, and negated in many ways; and with
 //! clashes at variables all over the range.
 
-use model::generator::{clauses_with_repeat, noise, one_of_three_joined, planned, Joined, Random};
+use model::generator::{
+    clauses_with_repeat, freed, noise, one_of_three_joined, planned, Joined, Random,
+};
 use model::reading::Formula;
 use model::texts::formula_text;
 use std::collections::BTreeSet;
@@ -35,10 +37,31 @@ pub fn any_kind(random: &mut Random) -> Formula {
     }
 }
 
-/// The same, one of three joined.
+/// The same, one of four freed, then one of three joined.
 pub fn any_kind_joined(random: &mut Random) -> Joined {
-    let formula = any_kind(random);
+    let mut formula = any_kind(random);
+    if random.chance(25) {
+        formula = freed(random, formula);
+    }
     one_of_three_joined(random, formula)
+}
+
+/// The formula with a choice among its clauses that has variables of its own and that nothing forbids.
+pub fn beside_free_choice(random: &mut Random, mut formula: Formula) -> Formula {
+    let first = formula.variables + 1;
+    formula.variables += random.between(5, 9) as i32;
+    let choice = (first..=formula.variables).map(|v| random.sign(v));
+    let choice: Vec<i32> = choice.collect();
+    let place = random.below(formula.clauses.len() + 1);
+    formula.clauses.insert(place, choice);
+    formula
+}
+
+/// So many choices of the size that nothing forbids, over as many variables as there are literals.
+pub fn free_choices(size: usize, count: usize) -> Formula {
+    let variables: Vec<i32> = (1..=(size * count) as i32).collect();
+    let clauses = variables.chunks(size).map(<[i32]>::to_vec).collect();
+    Formula::new((size * count) as i32, clauses)
 }
 
 /// Whether a clause of the text has a repeat or is left out.

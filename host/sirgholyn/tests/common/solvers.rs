@@ -1,5 +1,8 @@
 //! Solvers that are not ours, run on texts: cadical and minisat.
 
+use model::reading::{read_formula, READ_BACK_LIMITS};
+use model::texts::formula_text;
+use std::collections::HashSet;
 use std::fs;
 use std::path::PathBuf;
 use std::process::{Command, Output};
@@ -83,5 +86,39 @@ pub fn minisat(formula: &[u8]) -> Answer {
         }
         Some(20) => Answer::Unsatisfiable(None),
         other => panic!("minisat ended with {other:?}"),
+    }
+}
+
+/// The literals that an answer names.
+pub fn named(answer: &[u8]) -> HashSet<i32> {
+    let answer = String::from_utf8_lossy(answer);
+    let words = answer.split_whitespace();
+    words.filter_map(|word| word.parse().ok()).collect()
+}
+
+/// Those of the variables 1.. that no clause holds.
+fn unheld(variables: i32, clauses: &[Vec<i32>]) -> Vec<i32> {
+    let held: HashSet<i32> = clauses.iter().flatten().map(|l| l.abs()).collect();
+    (1..=variables).filter(|v| !held.contains(v)).collect()
+}
+
+/// An answer with so many of the variables 1.. true that none has these and one more; `None` if there is no answer.
+pub fn fullest_answer(formula: &[u8], variables: i32) -> Option<Vec<u8>> {
+    let read = read_formula(formula, &READ_BACK_LIMITS).unwrap();
+    let mut demanded = unheld(variables, &read.clauses);
+    let mut one_more = None;
+    let mut fullest = None;
+    loop {
+        let units = demanded.iter().map(|&variable| vec![variable]);
+        let more = units.chain(one_more).collect();
+        let clauses = [read.clauses.clone(), more].concat();
+        let Answer::Satisfiable(answer) = cadical(&formula_text(read.variables, &clauses)) else {
+            return fullest;
+        };
+        let named = named(&answer);
+        let (held, others) = (1..=variables).partition(|variable| named.contains(variable));
+        demanded = held;
+        one_more = Some(others);
+        fullest = Some(answer);
     }
 }

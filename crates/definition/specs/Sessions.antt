@@ -52,7 +52,7 @@ pub data Session : Type 0 where
   reads-back : Settings → String → Session
   -- the choices of a formula as it stands, aligned
   aligns : String → String → Session
-  -- how many choices are taken of a formula that is the clause 1..n alone
+  -- the clause 1..n alone: 1 if it is left when the formula is cleared, and a choice, 0 if it is deleted
   alone : ℕ → ℕ → Session
   -- the clauses kept of a text that may have so many literals
   reads : ℕ → String → String → Session
@@ -96,7 +96,9 @@ passes (aligns t out) =
     good (read-formula input-limits (bytes t)) (λ i.
     let cs = choices (i .formula) in
     same-bytes (for-each (map (arranged alignment (i .formula) cs) cs) clause-text) (bytes out))
-passes (alone n m) = eqb (length (choices (cleared (for-from 1 n (λ v. pos v ∷ []) ∷ [])))) m
+passes (alone n m) =
+    let left = cleared (for-from 1 n (λ v. pos v ∷ []) ∷ []) in
+    eqb (length left) m && eqb (length (choices left)) m
 passes (reads n t out) = good (read-within n t) (λ i. same-bytes (for-each (i .formula) clause-text) (bytes out))
 passes (not-read n t m) = is-fault (read-within n t) m
 passes (refused t n) = is-fault (run counter t) n

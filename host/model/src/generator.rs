@@ -251,6 +251,40 @@ pub fn freed(random: &mut Random, mut formula: Formula) -> Formula {
     formula
 }
 
+/// So many clauses of the size, over as many variables as there are literals: nothing forbids any of them.
+pub fn clauses_apart(size: usize, count: usize) -> Formula {
+    let variables: Vec<i32> = (1..=(size * count) as i32).collect();
+    let clauses = variables.chunks(size).map(<[i32]>::to_vec).collect();
+    Formula::new((size * count) as i32, clauses)
+}
+
+/// 1 and further literals, -1 and further literals: a and b of them. The resolvent has a + b - 2.
+pub fn clashing_at_1(a: i32, b: i32) -> [Vec<i32>; 2] {
+    [
+        (1..=a).collect(),
+        [-1].into_iter().chain(a + 1..a + b).collect(),
+    ]
+}
+
+/// The negation of each of the literals in two clauses, which are not unique.
+pub fn forbidding(literals: &[i32]) -> Vec<Vec<i32>> {
+    let negations = literals.iter().map(|&literal| vec![-literal]);
+    negations
+        .flat_map(|clause| [clause.clone(), clause])
+        .collect()
+}
+
+/// None of the literals, and all but the first, the last, or one between.
+pub fn all_but_one(literals: &[i32]) -> Vec<Vec<i32>> {
+    let all_but = |place| {
+        let mut others = literals.to_vec();
+        others.remove(place);
+        others
+    };
+    let last = literals.len() - 1;
+    vec![Vec::new(), all_but(0), all_but(last / 2), all_but(last)]
+}
+
 /// V 8,000, C 20,000 and L near 60,000: choices of the size, and clauses of two or three negated literals.
 pub fn largest_with(size: usize) -> Vec<u8> {
     let mut random = Random::new(size as u64);

@@ -1,5 +1,7 @@
 //! The texts that are written: log, new formula, walked-back answer.
 
+use std::collections::HashSet;
+
 /// One line of the log.
 #[derive(Debug, Clone, PartialEq, Eq)]
 pub struct Line {
@@ -34,6 +36,14 @@ pub fn formula_text(highest: i32, clauses: &[Vec<i32>]) -> Vec<u8> {
         write_line(&mut text, "", clause);
     }
     text
+}
+
+/// How many of the literals are true in a line `v .. 0`.
+pub fn count_true(line: &str, literals: &[i32]) -> usize {
+    let words = line.split_whitespace();
+    let named: HashSet<i32> = words.filter_map(|word| word.parse().ok()).collect();
+    let is_true = |literal: &&i32| named.contains(literal);
+    literals.iter().filter(is_true).count()
 }
 
 /// The literals of 1..V, as the values of the variables have it.

@@ -1,6 +1,6 @@
 //! Formulas at the reader's limits.
 
-use model::generator::largest_with;
+use model::generator::{clauses_apart, largest_with, text_of};
 use model::reading::{read_formula, Formula, Limits, INPUT_LIMITS, READ_BACK_LIMITS};
 use model::{read_back, reencode, walk_back, Arrangement, Form};
 
@@ -27,17 +27,10 @@ fn twenty_thousand_clauses() {
     }
 }
 
-/// Clauses of the size, over as many variables as there are literals: choices that nothing forbids.
-fn free_choices(size: i32, count: i32) -> Vec<u8> {
-    let clauses = (0..count).map(|place| clause(place * size + 1..=(place + 1) * size, 1));
-    let body: String = clauses.collect();
-    format!("p cnf {} {count}\n{body}", size * count).into_bytes()
-}
-
 /// L 64, C 1, V 64.
 #[test]
 fn workspace_of_a_free_choice_of_64() {
-    let text = free_choices(64, 1);
+    let text = text_of(&clauses_apart(64, 1));
     for form in [Form::Counter, Form::Order] {
         let encode = |workspace| {
             let room = 1 << 20;
@@ -58,13 +51,13 @@ fn eight_thousand_variables_in_free_choices() {
         (64, 125, 15_875, [(31_500, 535_625), (7_750, 559_375)]),
         (5, 1_600, 14_400, [(25_600, 59_200), (4_800, 80_000)]),
     ] {
-        let text = free_choices(size, count);
+        let text = text_of(&clauses_apart(size, count));
         for (form, tally) in [Form::Counter, Form::Order].into_iter().zip(tallies) {
             let room = 1 << 30;
             let result =
                 reencode(&text, form, Arrangement::Alignment, 1 << 40, room, room).unwrap();
             assert_eq!((result.clauses, result.lines), tally);
-            assert_eq!(result.choices, count as usize);
+            assert_eq!(result.choices, count);
             assert_eq!(result.highest, highest);
             let (read, clauses) = read_back(&result.formula, 1 << 40).unwrap();
             assert_eq!((read, clauses.len()), (highest, result.clauses));
@@ -76,13 +69,13 @@ fn eight_thousand_variables_in_free_choices() {
 #[test]
 fn free_choices_walked_back() {
     for (size, count) in [(64, 125), (5, 1_600)] {
-        let (text, room) = (free_choices(size, count), 1 << 30);
+        let (text, room) = (text_of(&clauses_apart(size, count)), 1 << 30);
         let arrangement = Arrangement::AsListed;
         let result = reencode(&text, Form::Order, arrangement, 1 << 40, room, room).unwrap();
         let answer = format!("s SATISFIABLE\nv {}", clause(1..=8_000, 1));
         let (log, lines) = (&result.log, result.lines);
         let walked = walk_back(&text, log, lines, answer.as_bytes(), 1 << 40, room);
-        let expected = (1..=8_000).map(|v| if v % size == 0 { v } else { -v });
+        let expected = (1..=8_000).map(|v| if v % size as i32 == 0 { v } else { -v });
         assert_eq!(
             walked,
             Ok(format!("v {}", clause(expected, 1)).into_bytes())

@@ -1,8 +1,10 @@
 //! The sessions listed in document 01, two of them as M-100 has them, the example vectors of its readings, and
 //! the choices with a pure literal of M-112.
 
+use model::generator::{all_but_one, clashing_at_1, forbidding};
 use model::reading::{read_formula, INPUT_LIMITS};
 use model::sessions::{F, JOINED_E, SIX};
+use model::texts::{count_true, formula_text};
 use model::{read_back, reencode, walk_back, Arrangement, Form, Reencoded};
 use std::slice::from_ref;
 
@@ -137,18 +139,14 @@ fn line_of(literals: &[i32]) -> String {
     words + "0\n"
 }
 
-/// The negation of each of the literals in two clauses, which are not unique.
-fn forbidding(literals: &[i32]) -> String {
-    let negations = literals.iter().map(|&literal| line_of(&[-literal]));
-    negations.map(|line| line.repeat(2)).collect()
+fn written(variables: i32, clauses: &[Vec<i32>]) -> String {
+    String::from_utf8(formula_text(variables, clauses)).expect("in ASCII")
 }
 
 fn with_forbidden(clauses: &[Vec<i32>], forbidden: &[i32]) -> String {
     let variables = clauses.iter().flatten().map(|literal| literal.abs());
     let highest = variables.max().unwrap_or(0);
-    let count = clauses.len() + 2 * forbidden.len();
-    let lines: String = clauses.iter().map(|clause| line_of(clause)).collect();
-    format!("p cnf {highest} {count}\n{lines}") + &forbidding(forbidden)
+    written(highest, &[clauses, &forbidding(forbidden)].concat())
 }
 
 /// A clause of the given size, its literals' negations in clauses that are not unique.
@@ -273,17 +271,6 @@ fn clauses_of(size: usize) -> [Vec<i32>; 3] {
     ]
 }
 
-/// Which of the literals are forbidden: none, all but the first, the last, or one between.
-fn all_but_some(clause: &[i32]) -> Vec<Vec<i32>> {
-    let all_but = |place| {
-        let mut forbidden = clause.to_vec();
-        forbidden.remove(place);
-        forbidden
-    };
-    let last = clause.len() - 1;
-    vec![Vec::new(), all_but(0), all_but(last / 2), all_but(last)]
-}
-
 /// The deletion of the clause for its first literal that is not forbidden.
 fn pure_deletion(clause: &[i32], forbidden: &[i32]) -> String {
     let mut literals = clause.to_vec();
@@ -296,27 +283,18 @@ fn pure_deletion(clause: &[i32], forbidden: &[i32]) -> String {
 fn sizes_with_a_pure_literal() {
     for size in [1, 2, 3, 4, 5, 6, 63, 64, 65, 66] {
         for clause in clauses_of(size) {
-            for forbidden in all_but_some(&clause) {
+            for forbidden in all_but_one(&clause) {
                 let text = with_forbidden(from_ref(&clause), &forbidden);
-                let others = 2 * forbidden.len();
                 if (5..=64).contains(&size) {
-                    let expected = tallies_of_choice(size, 0, size, others);
+                    let expected = tallies_of_choice(size, 0, size, 2 * forbidden.len());
                     assert_eq!(tallies_of(&text), expected, "{text}");
                 } else {
-                    let out = format!("p cnf {size} {others}\n{}", forbidding(&forbidden));
+                    let out = written(size as i32, &forbidding(&forbidden));
                     expect(&text, &pure_deletion(&clause, &forbidden), &out);
                 }
             }
         }
     }
-}
-
-/// 1 and further literals, -1 and further literals: a and b of them. The resolvent has a + b - 2.
-fn clashing(a: i32, b: i32) -> [Vec<i32>; 2] {
-    [
-        (1..=a).collect(),
-        [-1].into_iter().chain(a + 1..a + b).collect(),
-    ]
 }
 
 /// The resolvent's addition and two deletions, then a choice.
@@ -326,7 +304,7 @@ fn clashes_that_join_a_choice_with_a_pure_literal() {
         let (variables, size) = ((a + b - 1) as usize, (a + b - 2) as usize);
         let last = a + b - 1;
         for forbidden in [vec![], (2..last).collect(), (3..=last).collect()] {
-            let text = with_forbidden(&clashing(a, b), &forbidden);
+            let text = with_forbidden(&clashing_at_1(a, b), &forbidden);
             let expected = tallies_of_choice(variables, 3, size, 2 * forbidden.len());
             assert_eq!(tallies_of(&text), expected, "{text}");
         }
@@ -337,7 +315,7 @@ fn clashes_that_join_a_choice_with_a_pure_literal() {
 #[test]
 fn clashes_that_join_a_clause_with_a_pure_literal() {
     for (a, b) in [(3, 3), (5, 1), (2, 2), (33, 34), (64, 3), (65, 2), (5, 62)] {
-        let [one, other] = clashing(a, b);
+        let [one, other] = clashing_at_1(a, b);
         let resolvent = [&one[1..], &other[1..]].concat();
         let last = a + b - 1;
         for forbidden in [
@@ -351,8 +329,7 @@ fn clashes_that_join_a_clause_with_a_pure_literal() {
                 format!("d {}d {}", line_of(&one), line_of(&other)),
                 pure_deletion(&resolvent, &forbidden),
             ];
-            let others = 2 * forbidden.len();
-            let out = format!("p cnf {last} {others}\n{}", forbidding(&forbidden));
+            let out = written(last, &forbidding(&forbidden));
             expect(&text, &log.concat(), &out);
         }
     }
@@ -361,16 +338,10 @@ fn clashes_that_join_a_clause_with_a_pure_literal() {
     expect(double, log, "p cnf 8 0\n");
 }
 
-/// How many of the literals are true in a walked-back line.
-fn count_true(line: &str, literals: &[i32]) -> usize {
-    let is_true = |literal: &&i32| line.split(' ').any(|word| word == literal.to_string());
-    literals.iter().filter(is_true).count()
-}
-
 /// 3 and 4 literals that clash, with the resolvent 2 3 4 5 6.
 #[test]
 fn a_joined_choice_walked_back() {
-    let clauses = clashing(3, 4);
+    let clauses = clashing_at_1(3, 4);
     let text = with_forbidden(&clauses, &[]);
     let order = encode(&text, Form::Order);
     for chosen in 1..=5 {

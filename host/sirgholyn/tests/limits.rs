@@ -2,12 +2,14 @@
 
 mod common;
 
-use common::formulas::{clash_chain, free_choices, JOINED_F};
+use common::formulas::{clash_chain, JOINED_F};
 use common::{
     compare_read_back, compare_reencode, compare_walk_back, new_formula, run_model, walk_back_work,
     work_for, Room, PLENTY, WAYS,
 };
-use model::generator::{largest_with, text_of};
+use model::generator::{
+    all_but_one, clashing_at_1, clauses_apart, forbidding, largest_with, text_of,
+};
 use model::reading::{read_formula, Formula, INPUT_LIMITS};
 use model::sessions;
 use model::texts::log_text;
@@ -348,7 +350,7 @@ fn tally_of(formula: &Formula, form: Form, arrangement: Arrangement) -> Tally {
 /// L 64, C 1, V 64, and 2,016 pairs that stand from stage 1 to stage 4.
 #[test]
 fn a_free_choice_of_64() {
-    let formula = free_choices(64, 1);
+    let formula = clauses_apart(64, 1);
     let text = text_of(&formula);
     for (form, arrangement) in WAYS {
         let enough = Room::exact(&formula, &run_model(&formula, form, arrangement));
@@ -374,16 +376,11 @@ fn a_free_choice_of_64() {
 /// 8,000 variables in choices that nothing forbids.
 #[test]
 fn most_free_choices() {
-    for (size, count, highest, tallies) in [
-        (64, 125, 15_875, [(31_500, 535_625), (7_750, 559_375)]),
-        (5, 1_600, 14_400, [(25_600, 59_200), (4_800, 80_000)]),
-    ] {
-        let formula = free_choices(size, count);
-        let ways = [WAYS[1], WAYS[2]];
-        for ((form, arrangement), (clauses, lines)) in ways.into_iter().zip(tallies) {
+    for (size, count) in [(64, 125), (5, 1_600)] {
+        let formula = clauses_apart(size, count);
+        for (form, arrangement) in [WAYS[1], WAYS[2]] {
             let tally = tally_of(&formula, form, arrangement);
-            assert_eq!((tally.choices, tally.highest), (count as u64, highest));
-            assert_eq!((tally.clauses, tally.lines), (clauses, lines));
+            assert_eq!(tally.choices, count as u64);
         }
     }
 }
@@ -401,7 +398,7 @@ fn line_of(is_true: impl Fn(usize) -> bool) -> String {
 fn most_free_choices_walked_back() {
     let answer = format!("s SATISFIABLE\n{}", line_of(|_| true));
     for (size, count) in [(64, 125), (5, 1_600)] {
-        let formula = free_choices(size, count);
+        let formula = clauses_apart(size, count);
         let text = text_of(&formula);
         let last = line_of(|variable| variable % size == 0);
         for (form, expected) in [
@@ -424,72 +421,37 @@ fn most_free_choices_walked_back() {
     }
 }
 
-/// A clause of the size, and the negations of some of its literals twice each in clauses of their own.
-fn one_clause(size: usize, forbidden: &[i32]) -> Formula {
-    let clause: Vec<i32> = (1..=size as i32).collect();
-    let negated = forbidden.iter().flat_map(|l| [vec![-l], vec![-l]]);
-    let clauses = std::iter::once(clause).chain(negated).collect();
-    Formula::new(size as i32, clauses)
-}
-
-/// Nothing, or all literals of a clause of the size but the first, the middle or the last.
-fn all_but_one(size: usize) -> Vec<Vec<i32>> {
-    let pure = [1, 1 + size as i32 / 2, size as i32];
-    let rest = pure.map(|pure| (1..=size as i32).filter(|&l| l != pure).collect());
-    [vec![Vec::new()], rest.to_vec()].concat()
-}
-
-/// The choices and log lines of a choice of the size and clauses of one of its negated literals: pairs added and
-/// deleted, the counter's clauses, the choice; in order form each other clause in two lines, and what is deleted.
-fn taken(form: Form, size: u64, others: u64) -> (u64, u64) {
-    let lines = size * (size - 1) + 4 * (size - 1) + 1;
-    match form {
-        Form::Counter => (1, lines),
-        Form::Order => (1, lines + 2 * others + 3 * size - 2),
-    }
-}
-
-/// Sizes 5 to 64 are taken, the others deleted in one line, whether all literals are pure or one.
+/// Sizes 5 to 64 are taken, the others deleted, whether all literals are pure or one.
 #[test]
 fn sizes_with_a_pure_literal() {
     for size in [1, 2, 3, 4, 5, 6, 63, 64, 65, 66] {
-        for forbidden in all_but_one(size) {
-            let formula = one_clause(size, &forbidden);
-            let others = 2 * forbidden.len() as u64;
+        let clause = clauses_apart(size, 1);
+        for forbidden in all_but_one(&clause.clauses[0]) {
+            let clauses = [clause.clauses.clone(), forbidding(&forbidden)].concat();
+            let formula = Formula::new(size as i32, clauses);
             for (form, arrangement) in WAYS {
-                let tally = tally_of(&formula, form, arrangement);
-                let expected = match size {
-                    5..=64 => taken(form, size as u64, others),
-                    _ => (0, 1),
-                };
-                let seen = format!("{size}, without {forbidden:?}, {form:?}");
-                assert_eq!((tally.choices, tally.lines), expected, "{seen}");
+                let choices = tally_of(&formula, form, arrangement).choices;
+                let taken = u64::from((5..=64).contains(&size));
+                assert_eq!(choices, taken, "{size}, without {forbidden:?}, {form:?}");
             }
         }
     }
 }
 
-/// Two clauses that clash at 1, with a resolvent of the size; nothing forbids its literals.
-fn clashing(size: i32) -> Formula {
-    let (half, last) = (1 + size / 2, size + 1);
-    let one = (1..=half).collect();
-    let other = [-1].into_iter().chain(half + 1..=last).collect();
-    Formula::new(last, vec![one, other])
-}
-
-/// The clash is three lines; then the size of the resolvent counts.
+/// The size of the resolvent counts.
 #[test]
 fn sizes_joined_by_a_clash() {
     for size in [1, 4, 5, 6, 63, 64, 65, 66] {
-        let formula = clashing(size);
+        let half = 1 + size / 2;
+        let clauses = clashing_at_1(half, size + 2 - half).to_vec();
+        let formula = Formula::new(size + 1, clauses);
         for (form, arrangement) in WAYS {
-            let tally = tally_of(&formula, form, arrangement);
-            let (choices, lines) = match size {
-                5..=64 => taken(form, size as u64, 0),
-                _ => (0, 1),
-            };
-            let found = (tally.choices, tally.lines);
-            assert_eq!(found, (choices, 3 + lines), "{size}, {form:?}");
+            let choices = tally_of(&formula, form, arrangement).choices;
+            assert_eq!(
+                choices,
+                u64::from((5..=64).contains(&size)),
+                "{size}, {form:?}"
+            );
         }
     }
 }

@@ -3,11 +3,11 @@
 mod common;
 
 use common::formulas::is_joined;
-use common::{count_true, over_seeds, run_model, WAYS};
+use common::{over_seeds, run_model, WAYS};
 use model::generator::{
     clauses_with_repeat, freed, one_of_three_joined, planned, written_clauses, Joined, Random,
 };
-use model::texts::log_text;
+use model::texts::{count_true, log_text};
 use model::walk_back::{replay, satisfies};
 use sirgholyn::{calls, plan};
 

@@ -4,9 +4,10 @@ mod common;
 
 use common::formulas::{any_kind, any_kind_joined, beside_free_choice, is_joined, rewritten};
 use common::solvers::{cadical, fullest_answer, minisat, Answer};
-use common::{count_true, expect_more, note, over_seeds, run_model, sum, Occurred, WAYS};
+use common::{expect_more, note, over_seeds, run_model, sum, Occurred, WAYS};
 use model::generator::{one_of_three_joined, written_clauses, Joined, Random};
 use model::log_reading::read_kept_lines;
+use model::texts::count_true;
 use model::valleys::Valley;
 use sirgholyn::drat::{self, Checker, Ground};
 use sirgholyn::{plan, Arrangement, Form, ReencodeRoom, Reencoded, WalkBackRoom};

@@ -4,6 +4,7 @@
 use crate::calls::FORMS;
 use crate::rows::{Call, Reencode, Row, Text, WalkBack, PLENTY};
 use model::encoding::Encoding;
+use model::generator::{clashing_at_1, clauses_apart, text_of};
 use model::log_reading::read_kept_lines;
 use model::reading::{read_formula, INPUT_LIMITS};
 use model::sessions::{JOINED_E, SIX};
@@ -112,15 +113,12 @@ pub fn joined() -> Vec<Row> {
 }
 
 /// The formula of one clause of so many literals.
-pub fn one_clause(size: i32) -> Text {
-    formula_text(size, &[(1..=size).collect()])
+pub fn one_clause(size: usize) -> Text {
+    text_of(&clauses_apart(size, 1))
 }
 
-/// 1 and -1 in two clauses of so many literals.
 fn clashing(a: i32, b: i32) -> Text {
-    let one = (1..=a).collect();
-    let other = [-1].into_iter().chain(a + 1..a + b).collect();
-    formula_text(a + b - 1, &[one, other])
+    formula_text(a + b - 1, &clashing_at_1(a, b))
 }
 
 /// Over the whole log in order form.

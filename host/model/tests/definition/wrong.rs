@@ -102,7 +102,7 @@ pub fn misread() -> Vec<Row> {
 /// Rows of one clause, each literal pure, in which a choice is none or another clause is one. Of a clause of 64
 /// the checker does not compute a false row to its end.
 pub fn mischosen() -> Vec<Row> {
-    let wrong = |size: i32, is_choice: bool| {
+    let wrong = |size, is_choice: bool| {
         let text = one_clause(size);
         let body = text.splitn(2, |&byte| byte == b'\n').nth(1);
         let clause = body.filter(|_| is_choice).unwrap_or_default().to_vec();

@@ -57,13 +57,6 @@ pub fn beside_free_choice(random: &mut Random, mut formula: Formula) -> Formula 
     formula
 }
 
-/// So many choices of the size that nothing forbids, over as many variables as there are literals.
-pub fn free_choices(size: usize, count: usize) -> Formula {
-    let variables: Vec<i32> = (1..=(size * count) as i32).collect();
-    let clauses = variables.chunks(size).map(<[i32]>::to_vec).collect();
-    Formula::new((size * count) as i32, clauses)
-}
-
 /// Whether a clause of the text has a repeat or is left out.
 pub fn is_joined(input: &Joined) -> bool {
     input.formula.left_out > 0 || !clauses_with_repeat(&input.text).is_empty()

@@ -10,7 +10,7 @@ use model::generator::text_of;
 use model::reading::Formula;
 use model::texts::log_text;
 use sirgholyn::{calls, Arrangement, Form, Refusal};
-use std::collections::{BTreeMap, HashSet};
+use std::collections::BTreeMap;
 use std::ops::Range;
 use std::thread;
 
@@ -276,16 +276,6 @@ pub fn over_seeds<C: Default + Send>(
             })
             .collect()
     })
-}
-
-/// How many of the literals are true in a line `v .. 0`.
-pub fn count_true(line: &str, literals: &[i32]) -> usize {
-    let named: HashSet<i32> = line
-        .split_whitespace()
-        .filter_map(|word| word.parse().ok())
-        .collect();
-    let is_true = |literal: &&i32| named.contains(literal);
-    literals.iter().filter(is_true).count()
 }
 
 /// The clauses left standing.

@@ -101,6 +101,16 @@ fn total(trips: Vec<Occurred>) -> Occurred {
     trips
 }
 
+/// Also of texts that are not kept in full, and with a choice that has a pure literal.
+const ROUNDS: [(&str, usize); 6] = [
+    ("plans", 60),
+    ("proofs", 60),
+    ("joined: plans", 20),
+    ("joined: proofs", 10),
+    ("free: plans", 20),
+    ("free: proofs", 10),
+];
+
 #[test]
 fn valleys() {
     let trips = total(over_seeds(0..160, |seed, trips: &mut Occurred| {
@@ -117,16 +127,8 @@ fn valleys() {
         };
         Trip::new(&input, WAYS[seed as usize % WAYS.len()]).round(trips);
     }));
-    let cases = [
-        ("plans", 60),
-        ("proofs", 60),
-        ("proof lines", 10_000),
-        ("joined: plans", 20),
-        ("joined: proofs", 10),
-        ("free: plans", 20),
-        ("free: proofs", 10),
-    ];
-    expect_more(&trips, cases);
+    expect_more(&trips, ROUNDS);
+    expect_more(&trips, [("proof lines", 10_000)]);
 }
 
 /// Whether no rule between two traps is a unique literal clause, so that no clash takes a trap's clause.
@@ -207,15 +209,7 @@ fn random_formulas() {
         let input = one_of_three_joined(random, formula);
         Trip::new(&input, WAYS[seed as usize % WAYS.len()]).round(trips);
     }));
-    let cases = [
-        ("plans", 60),
-        ("proofs", 60),
-        ("joined: plans", 20),
-        ("joined: proofs", 10),
-        ("free: plans", 20),
-        ("free: proofs", 10),
-    ];
-    expect_more(&trips, cases);
+    expect_more(&trips, ROUNDS);
 }
 
 /// Every log of ours passes line by line, whatever the formula, and with its clauses as they are written.

@@ -1,12 +1,12 @@
 -- "Counter form".
-use mathlib.Core.Bool.{not, _&&_}
+use mathlib.Core.Bool.{_&&_}
 use mathlib.Core.List.{List, [], _∷_, _++_, map}
 use Prim.Native.Nat.{ℕ, _+_, _-_}
 use lib.IntN.{ℤ, pos, negℤ}
 use lib.ListN.{length, getD, replicate}
 use Rattle.definition.specs.Lists.{those, count, for-each, for-from}
 use Rattle.definition.specs.Literals.{Clause, Formula, same-set}
-use Rattle.definition.specs.Standing.{Line, addition, deletion, stands}
+use Rattle.definition.specs.Standing.{Line, addition, deletion}
 use Rattle.definition.specs.Events.{Choice, Event, choice-taken}
 use Rattle.definition.specs.Clearing.{unique, choice-size}
 
@@ -26,10 +26,6 @@ last-new c = c .below + (length (c .literals) - 1)
 unfoldable pub pairs : Clause → List Clause
 pairs [] = []
 pairs (a ∷ l) = map (λ b. negℤ a ∷ negℤ b ∷ []) l ++ pairs l
-
--- 1. each missing pair
-unfoldable pub missing-pairs : Formula → Clause → List Clause
-missing-pairs f l = those (λ p. not (stands p f)) (pairs l)
 
 module _ (c : Choice) where
   -- k
@@ -55,32 +51,29 @@ module _ (c : Choice) where
       ∷ (new i ∷ negℤ (lit i) ∷ [])
       ∷ [])
 
-  -- 3. -s(i-1) -li for i = 2..k; then s(k-1) lk
+  -- 3. -li -s(i-1) for i = 2..k; then s(k-1) lk
   unfoldable pub stage-3 : List Clause
   stage-3 =
-      for-from 2 (size - 1) (λ i. (negℤ (new (i - 1)) ∷ negℤ (lit i) ∷ []) ∷ [])
+      for-from 2 (size - 1) (λ i. (negℤ (lit i) ∷ negℤ (new (i - 1)) ∷ []) ∷ [])
       ++ ((new (size - 1) ∷ lit size ∷ []) ∷ [])
 
   -- the choice's counter clauses
   unfoldable pub counter : List Clause
   counter = stage-2 ++ stage-3
 
--- every standing copy of each pair, by i then j
+-- the copies of pairs that stand in f, by i then j
 unfoldable pub copies : Formula → Clause → List Clause
 copies f l = for-each (pairs l) (λ p. replicate (count (same-set p) f) p)
 
 -- the clause c, taken as the choice k where f stands
 unfoldable pub take-choice : Formula → Clause → Choice → Event
-take-choice f c k =
-    let missing = missing-pairs f (k .literals) in
-    choice-taken c k missing (copies (f ++ missing ++ counter k) (k .literals))
+take-choice f c k = choice-taken c k (copies f (k .literals))
 
--- the four stages; 4. delete l1..lk, then the copies of pairs
-unfoldable pub choice-lines : Choice → List Clause → List Clause → List Line
-choice-lines c missing copies =
-    map addition missing ++ map addition (stage-2 c) ++ map addition (stage-3 c) ++ map deletion (c .literals ∷ copies)
+-- stages 2 to 4 (M-130 leaves stage 1 out); 4. delete l1..lk, then the copies of pairs that were there
+unfoldable pub choice-lines : Choice → List Clause → List Line
+choice-lines c copies = map addition (stage-2 c) ++ map addition (stage-3 c) ++ map deletion (c .literals ∷ copies)
 
 -- all of this file, for a proof that computes: `unfolding computing` opens every name of the next line
 unfoldable pub computing : Unit {0}
-unfolding choices below-new last-new pairs missing-pairs size lit new stage-2 stage-3 counter copies take-choice choice-lines
+unfolding choices below-new last-new pairs size lit new stage-2 stage-3 counter copies take-choice choice-lines
 computing = tt

@@ -23,8 +23,8 @@ pub data Event : Type 0 where
   clash-cleared : Clash → Event
   -- a ULC is deleted for its pure literal
   pure-deleted : ℤ → Clause → Event
-  -- a standing clause is taken as a choice: the pairs that are missing, and the copies of pairs that stand then
-  choice-taken : Clause → Choice → List Clause → List Clause → Event
+  -- a standing clause is taken as a choice: the copies of its pairs that stand then
+  choice-taken : Clause → Choice → List Clause → Event
   -- "Order form": a clause with negated choice literals is replaced
   clause-replaced : Clause → Clause → Event
   -- "Order form": the clauses with a choice's literals are deleted

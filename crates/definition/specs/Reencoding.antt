@@ -17,7 +17,7 @@ use Rattle.definition.specs.Alignment.{Arrangement, arranged}
 unfoldable pub lines-of : Event → List Line
 lines-of (clash-cleared c) = clash-lines c
 lines-of (pure-deleted l c) = pure-lines l c
-lines-of (choice-taken c k missing copies) = choice-lines k missing copies
+lines-of (choice-taken c k copies) = choice-lines k copies
 lines-of (clause-replaced old result) = replacement-lines old result
 lines-of (literals-deleted c) = literal-deletions c
 
@@ -80,7 +80,7 @@ module _ (s : Settings) (i : Input) where
 -- "Standing and carried back": the clause goes into the choice, in the course of the events
 pub data Goes-into (k : Choice) : List Event → Clause → Type 0 where
   -- if it is taken as that choice,
-  taken : {c : Clause} {missing copies : List Clause} {es : List Event} → Goes-into k (choice-taken c k missing copies ∷ es) c
+  taken : {c : Clause} {copies : List Clause} {es : List Event} → Goes-into k (choice-taken c k copies ∷ es) c
   -- if it is A or B of a clash whose resolvent is added and goes into that choice,
   as-one : {c : Clash} {es : List Event} → opposed (resolvent c) ≡ false → Goes-into k es (resolvent c) → Goes-into k (clash-cleared c ∷ es) (c .one)
   as-other : {c : Clash} {es : List Event} → opposed (resolvent c) ≡ false → Goes-into k es (resolvent c) → Goes-into k (clash-cleared c ∷ es) (c .other)

@@ -11,6 +11,7 @@ use Rattle.definition.specs.Lists.{all, for-each, for-from}
 use Rattle.definition.specs.Checked
 use Rattle.definition.specs.Checked.{Checked, fault, value}
 use Rattle.definition.specs.Literals
+use Rattle.definition.specs.Literals.{Clause}
 use Rattle.definition.specs.Text
 use Rattle.definition.specs.Text.{bytes, same-bytes}
 use Rattle.definition.specs.Reading
@@ -54,6 +55,8 @@ pub data Session : Type 0 where
   aligns : String → String → Session
   -- the clause 1..n alone: 1 if it is left when the formula is cleared, and a choice, 0 if it is deleted
   alone : ℕ → ℕ → Session
+  -- such a clause, reencoded: H, M and the number of log lines
+  alone-counts : Settings → ℕ → ℕ → ℕ → ℕ → Session
   -- the clauses kept of a text that may have so many literals
   reads : ℕ → String → String → Session
   -- the number that such a text is refused with
@@ -80,11 +83,17 @@ unfoldable pub is-fault : {A : Type 0} → Checked A → ℕ → Bool
 is-fault (fault m) n = eqb m n
 is-fault (value a) n = false
 
+unfoldable pub tallied : ℕ → ℕ → ℕ → Reencoded → Bool
+tallied h m l r = eqb (r .tally .highest) h && eqb (r .tally .clauses) m && eqb (r .tally .lines) l
+
+-- the clause 1..n
+unfoldable pub one-to : ℕ → Clause
+one-to n = for-from 1 n (λ v. pos v ∷ [])
+
 unfoldable pub passes : Session → Bool
 passes (texts s t log out) =
     good (run s t) (λ r. same-bytes (r .log) (bytes log) && same-bytes (r .formula) (bytes out))
-passes (counts s t h m l) =
-    good (run s t) (λ r. eqb (r .tally .highest) h && eqb (r .tally .clauses) m && eqb (r .tally .lines) l)
+passes (counts s t h m l) = good (run s t) (tallied h m l)
 passes (formula s t out) = good (run s t) (λ r. same-bytes (r .formula) (bytes out))
 passes (walks s t answer kept line) =
     good (run s t) (λ r.
@@ -97,8 +106,10 @@ passes (aligns t out) =
     let cs = choices (i .formula) in
     same-bytes (for-each (map (arranged alignment (i .formula) cs) cs) clause-text) (bytes out))
 passes (alone n m) =
-    let left = cleared (for-from 1 n (λ v. pos v ∷ []) ∷ []) in
+    let left = cleared (one-to n ∷ []) in
     eqb (length left) m && eqb (length (choices left)) m
+passes (alone-counts s n h m l) =
+    good (reencode s 100_000 100_000 100_000 (formula-text n (one-to n ∷ []))) (tallied h m l)
 passes (reads n t out) = good (read-within n t) (λ i. same-bytes (for-each (i .formula) clause-text) (bytes out))
 passes (not-read n t m) = is-fault (read-within n t) m
 passes (refused t n) = is-fault (run counter t) n
@@ -128,11 +139,11 @@ sessions =
     ∷ texts counter e-text "2 3 0\nd 1 2 0\nd -1 3 0\nd 2 3 0\n" "p cnf 3 0\n"
     ∷ walks counter e-text "s SATISFIABLE\nv 0\n" 4 "v -1 2 -3 0\n"
     -- F, G, H
-    ∷ counts counter f-text 10 21 36
-    ∷ counts order f-text 10 8 59
+    ∷ counts counter f-text 10 21 18
+    ∷ counts order f-text 10 8 41
     ∷ formula order f-text g-formula
-    ∷ walks order f-text "s SATISFIABLE\nv 1 2 3 4 5 -6 -7 -8 -9 10 0\n" 59 "v -1 -2 -3 4 -5 -6 0\n"
-    ∷ walks order f-text "s SATISFIABLE\nv 10 0\n" 59 "v -1 -2 -3 4 -5 -6 0\n"
+    ∷ walks order f-text "s SATISFIABLE\nv 1 2 3 4 5 -6 -7 -8 -9 10 0\n" 41 "v -1 -2 -3 4 -5 -6 0\n"
+    ∷ walks order f-text "s SATISFIABLE\nv 10 0\n" 41 "v -1 -2 -3 4 -5 -6 0\n"
     ∷ reads-back counter f-text
     ∷ reads-back order f-text
     -- the clashing variable stands last: it is written first in its deletion, and the way back makes it true
@@ -140,8 +151,9 @@ sessions =
     ∷ walks counter "p cnf 3 4\n2 1 0\n3 -1 0\n-2 -3 0\n-2 -3 0\n" "s SATISFIABLE\nv 3 0\n" 3 "v 1 -2 3 0\n"
     -- clashes at 1 and 2: a variable that a later line turns
     ∷ walks counter "p cnf 4 5\n1 2 0\n-1 3 0\n-2 4 0\n-3 -4 0\n-3 -4 0\n" "s SATISFIABLE\nv 2 3 0\n" 6 "v 1 -2 3 -4 0\n"
-    -- copies of pairs in both orders: all are deleted
-    ∷ counts counter "p cnf 5 9\n1 2 3 4 5 0\n-1 -2 0\n-1 -3 0\n-2 -1 0\n-3 -1 0\n-4 0\n-4 0\n-5 0\n-5 0\n" 9 20 37
+    -- copies of pairs, some in both orders: each that stands is deleted, by i then j; nothing is written for a pair that is missing
+    ∷ texts counter "p cnf 5 9\n1 2 3 4 5 0\n-1 -2 0\n-1 -3 0\n-2 -1 0\n-3 -1 0\n-4 0\n-4 0\n-5 0\n-5 0\n" "-6 1 0\n6 -1 0\n-7 6 2 0\n7 -6 0\n7 -2 0\n-8 7 3 0\n8 -7 0\n8 -3 0\n-9 8 4 0\n9 -8 0\n9 -4 0\n-2 -6 0\n-3 -7 0\n-4 -8 0\n-5 -9 0\n9 5 0\nd 1 2 3 4 5 0\nd -1 -2 0\nd -1 -2 0\nd -1 -3 0\nd -1 -3 0\n" "p cnf 9 20\n-4 0\n-4 0\n-5 0\n-5 0\n-6 1 0\n6 -1 0\n-7 6 2 0\n7 -6 0\n7 -2 0\n-8 7 3 0\n8 -7 0\n8 -3 0\n-9 8 4 0\n9 -8 0\n9 -4 0\n-2 -6 0\n-3 -7 0\n-4 -8 0\n-5 -9 0\n9 5 0\n"
+    ∷ texts counter "p cnf 5 4\n1 2 3 4 5 0\n-3 -2 0\n-2 -1 0\n-1 -3 0\n" "-6 1 0\n6 -1 0\n-7 6 2 0\n7 -6 0\n7 -2 0\n-8 7 3 0\n8 -7 0\n8 -3 0\n-9 8 4 0\n9 -8 0\n9 -4 0\n-2 -6 0\n-3 -7 0\n-4 -8 0\n-5 -9 0\n9 5 0\nd 1 2 3 4 5 0\nd -1 -2 0\nd -1 -3 0\nd -2 -3 0\n" "p cnf 9 16\n-6 1 0\n6 -1 0\n-7 6 2 0\n7 -6 0\n7 -2 0\n-8 7 3 0\n8 -7 0\n8 -3 0\n-9 8 4 0\n9 -8 0\n9 -4 0\n-2 -6 0\n-3 -7 0\n-4 -8 0\n-5 -9 0\n9 5 0\n"
     -- four literals are no choice
     ∷ counts counter "p cnf 5 4\n1 2 3 4 0\n-1 -2 -5 0\n-3 -4 -5 0\n5 0\n" 5 4 0
     -- alignment: 1..5 and 6..10, linked 1-8 and 2-6
@@ -149,17 +161,19 @@ sessions =
     -- 1-8-2: not alignable
     ∷ aligns "p cnf 11 4\n1 2 3 4 5 0\n6 7 8 9 10 0\n-1 -8 0\n-8 -2 0\n" "1 2 3 4 5 0\n6 7 8 9 10 0\n"
     -- nothing forbids any of six literals: they are a choice all the same; of two that are true, or of none, comes one
-    ∷ counts counter free-text 11 20 51
-    ∷ counts order free-text 11 4 67
-    ∷ walks order free-text "s SATISFIABLE\nv 1 2 -3 -4 -5 -6 -7 -8 9 10 11 0\n" 67 "v -1 -2 3 -4 -5 -6 0\n"
-    ∷ walks order free-text "s SATISFIABLE\nv 0\n" 67 "v -1 -2 -3 -4 -5 6 0\n"
+    ∷ counts counter free-text 11 20 21
+    ∷ counts order free-text 11 4 37
+    ∷ walks order free-text "s SATISFIABLE\nv 1 2 -3 -4 -5 -6 -7 -8 9 10 11 0\n" 37 "v -1 -2 3 -4 -5 -6 0\n"
+    ∷ walks order free-text "s SATISFIABLE\nv 0\n" 37 "v -1 -2 -3 -4 -5 6 0\n"
     -- so it is with 5 to 64 literals, also those of a resolvent; with 4 or 65 the clause is deleted
-    ∷ counts counter "p cnf 6 2\n1 2 3 0\n-1 4 5 6 0\n" 10 16 40
+    ∷ counts counter "p cnf 6 2\n1 2 3 0\n-1 4 5 6 0\n" 10 16 20
     ∷ texts counter "p cnf 4 1\n1 2 3 4 0\n" "d 1 2 3 4 0\n" "p cnf 4 0\n"
     ∷ alone 4 0
     ∷ alone 5 1
     ∷ alone 64 1
     ∷ alone 65 0
+    ∷ alone-counts counter 64 127 252 253
+    ∷ alone-counts order 64 127 62 443
     -- a repeated literal stays at its first place only; a clause with a literal and its negation is left out, but counts towards C
     ∷ reads 1 "p cnf 1 1\n1 1 0\n" "1 0\n"
     ∷ reads 0 "p cnf 1 1\n1 -1 0\n" ""
@@ -201,5 +215,5 @@ sessions =
     ∷ []
 
 pub sessions-hold : T (all passes sessions)
-unfolding sessions passes run read-within good is-fault Lists.computing Checked.computing Literals.computing Text.computing Reading.computing Standing.computing Assignments.computing Clearing.computing Counter.computing Order.computing Alignment.computing Reencoding.computing Log.computing LogReading.computing Answer.computing Calls.computing
+unfolding sessions passes tallied one-to run read-within good is-fault Lists.computing Checked.computing Literals.computing Text.computing Reading.computing Standing.computing Assignments.computing Clearing.computing Counter.computing Order.computing Alignment.computing Reencoding.computing Log.computing LogReading.computing Answer.computing Calls.computing
 sessions-hold = tt

@@ -1,7 +1,7 @@
 -- What stands before the counter clauses is what the walk leaves, and the table counts the copies of each pair. Assumes nothing.
 use mathlib.Core.Path.{_≡_, refl, sym, ap, _∙_}
 use mathlib.Core.Bool.{Bool, true, false, not}
-use mathlib.Core.List.{List, [], _∷_, _++_, append-nil, List·Memᴰ}
+use mathlib.Core.List.{List, [], _∷_, List·Memᴰ}
 use Prim.Native.Nat.{ℕ, _+_, _*_, _≤_, _<_}
 use native.Mathlib.Omega.{arith}
 use lib.Dec.{eqb, leb, T}
@@ -12,17 +12,16 @@ use Rattle.definition.specs.Lists.{any, those, count}
 use Rattle.definition.specs.Literals.{Clause, Formula, same-set}
 use Rattle.definition.specs.Standing.{take-out}
 use Rattle.definition.specs.Events.{Choice}
-use Rattle.definition.specs.Counter.{pairs, missing-pairs}
+use Rattle.definition.specs.Counter.{pairs}
 use Rattle.theory_base.proofs.Tests.{by-test, of-true, to-true, differ}
 use Rattle.theory_base.proofs.Loops.{count-same}
-use Rattle.theory_base.proofs.Members.{any-mem, mem-any, proper-unopposed, same-same-set, same-clause, those-++, those-same, those-none, those-those}
-use Rattle.theory_base.specs.Clauses.{Proper, Proper-all, Fits, Same}
-use Rattle.theory_base.proofs.Removal.{removed-take-out, removed-++, mem-take-out}
+use Rattle.theory_base.proofs.Members.{any-mem, mem-any, proper-unopposed, same-same-set, those-same, those-those}
+use Rattle.theory_base.specs.Clauses.{Proper, Proper-all, Same}
+use Rattle.theory_base.proofs.Removal.{takes, mem-take-out}
 use Rattle.theory_counter.specs.Ready.{Ready}
-use Rattle.theory_counter.proofs.Pairs.{pair-form, pair-literal, missing-mem}
+use Rattle.theory_counter.proofs.Pairs.{pair-form, pair-literal}
 use Rattle.theory_counter.proofs.Copies.{count-removed}
-use Rattle.theory_counter.specs.Front.{drop-copies, drop-all, paired, front}
-use Rattle.theory_counter.proofs.Front.{clause-taken}
+use Rattle.theory_counter.specs.Front.{drop-copies, drop-all, front}
 use Rattle.tables.specs.Places.{Places}
 use Rattle.pairs.specs.Pairs.{slots, slot-of, Pairs-taken}
 use Rattle.pairs.proofs.Slots.{pair-of, Slotted, slotted, slot-tells}
@@ -61,21 +60,14 @@ module _ {t : List ℕ} {l : Clause} (q : Places t l) (few : length l ≤ 64) (p
           slot-there : Slotted l d (slot-of t d) → leb slots (slot-of t d) ≡ not (copy-of (pairs l) d)
           slot-there s = differ (mem-any (λ x. same-set x d) (pairs l) (pair-of l (s .i) (s .j)) (pair-there l (s .i) (s .j) (s .less) (s .within)) (same-same-set (pair-of l (s .i) (s .j)) d (s .same))) e
 
-module _ (F : Formula) (c : Clause) (k : Choice) (f : Fits (k .below) F) (r : Ready F c k) (pr : Proper-all F) (few : length (k .literals) ≤ 64) {t : List ℕ} (q : Places t (k .literals)) where
+module _ (F : Formula) (c : Clause) (k : Choice) (r : Ready F c k) (pr : Proper-all F) (few : length (k .literals) ≤ 64) {t : List ℕ} (q : Places t (k .literals)) where
   taken-proper : Proper-all (take-out (k .literals) F)
   taken-proper d m = pr d (mem-take-out (k .literals) F d m)
-
-  missing-copy : (d : Clause) → List·Memᴰ d (missing-pairs F (k .literals)) → not (copy-of (pairs (k .literals)) d) ≡ false
-  missing-copy d m = ap not (to-true {b = copy-of (pairs (k .literals)) d} (mem-any (λ x. same-set x d) (pairs (k .literals)) d (missing-mem F (k .literals) d m) (same-same-set d d (same-clause d))))
 
   pub front-is : front F k ≡ those (λ d. leb slots (slot-of t d)) (take-out (k .literals) F)
   unfolding front
   front-is =
-      drop-all-is (pairs (k .literals)) (take-out (k .literals) (paired F k))
-      ∙ ap (those (λ d. not (copy-of (pairs (k .literals)) d))) (removed-take-out (removed-++ (missing-pairs F (k .literals)) (clause-taken F c k f r)))
-      ∙ those-++ (λ d. not (copy-of (pairs (k .literals)) d)) (take-out (k .literals) F) (missing-pairs F (k .literals))
-      ∙ ap (λ (z : Formula). those (λ d. not (copy-of (pairs (k .literals)) d)) (take-out (k .literals) F) ++ z) (those-none (λ d. not (copy-of (pairs (k .literals)) d)) (missing-pairs F (k .literals)) missing-copy)
-      ∙ append-nil (those (λ d. not (copy-of (pairs (k .literals)) d)) (take-out (k .literals) F))
+      drop-all-is (pairs (k .literals)) (take-out (k .literals) F)
       ∙ sym (those-same (λ d. leb slots (slot-of t d)) (λ d. not (copy-of (pairs (k .literals)) d)) (take-out (k .literals) F) (λ d m. no-slot q few (r .proper) d (taken-proper d m)))
 
   not-choice : (p : Clause) → List·Memᴰ p (pairs (k .literals)) → Same p (k .literals) → ⊥
@@ -88,4 +80,4 @@ module _ (F : Formula) (c : Clause) (k : Choice) (f : Fits (k .below) F) (r : Re
   counts-are w i j a b =
       w .counted (i * 64 + j) (omega arith)
       ∙ count-same (λ d. eqb (slot-of t d) (i * 64 + j)) (same-set (pair-of (k .literals) i j)) (take-out (k .literals) F) (λ d m. sym (slot-tells q few (r .proper) i j a b d (taken-proper d m)))
-      ∙ sym (count-removed (pair-of (k .literals) i j) (not-choice (pair-of (k .literals) i j) (pair-there (k .literals) i j a b)) (clause-taken F c k f r))
+      ∙ sym (count-removed (pair-of (k .literals) i j) (not-choice (pair-of (k .literals) i j) (pair-there (k .literals) i j a b)) (takes (k .literals) c F (r .standing) (r .same)))

@@ -5,5 +5,4 @@ pub mod Lines
 pub mod Rows
 pub mod Fronts
 pub mod Copies
-pub mod Missing
 pub mod Laws

@@ -1,26 +1,24 @@
--- Loops that record lines, turn by turn; and how often the line of a pair is written. Assumes nothing.
-use mathlib.Core.Path.{_≡_, refl, ap₂}
-use mathlib.Core.Bool.{Bool, true, false}
+-- Loops that record lines, turn by turn; and the deletions of a pair as the code makes them. Assumes nothing.
+use mathlib.Core.Path.{_≡_, refl, ap₂, _∙_}
 use mathlib.Core.List.{List, [], _∷_, _++_}
-use Prim.Native.Nat.{ℕ, zero, suc, _+_, _-_, _*_, _≤_, _<_}
+use Prim.Native.Nat.{ℕ, suc, _+_, _-_, _*_, _≤_, _<_}
 use native.Mathlib.Omega.{arith}
 use lib.IntN.{ℤ}
 use lib.ListN.{getD, replicate, replicate-append-replicate}
 use mir.Syntax.{w32}
 use mir.Val.{SFits, ofZ, toZ}
-use borrow.Author.Tests.{eq-eqb, ne-eqb}
+use mir.ValLaws.{toZ-ofZ}
 use Rattle.definition.specs.Lists.{for-from}
 use Rattle.definition.specs.Literals.{Clause}
 use Rattle.definition.specs.Text.{Bytes}
-use Rattle.definition.specs.Standing.{Line}
+use Rattle.definition.specs.Standing.{Line, deletion}
 use Rattle.theory_base.proofs.Loops.{for-from-around, for-from-next}
 use Rattle.literals.specs.Literal.{negation}
-use Rattle.literals.proofs.Laws.{at-arg2}
-use Rattle.drat.specs.Lines.{line-of}
+use Rattle.literals.proofs.Laws.{answer}
 use Rattle.progress.specs.declared.Progress.{Progress}
 use Rattle.progress.specs.Progress.{Written, Log-room}
 use Rattle.progress.proofs.Laws.{written-none, written-then, room-first, room-rest}
-use Rattle.pairs.specs.Pairs.{literal-at, times-of, cell-lines}
+use Rattle.pairs.specs.Pairs.{literal-at, cell-lines}
 
 pub written-as : {ks ls : List Line} {x y : Bytes} {p q : Progress} → Written ks x p y q → ks ≡ ls → Written ls x p y q
 written-as w e = rw e at w
@@ -51,21 +49,10 @@ room-again i n l h r w =
 pub written-again : {x y z : Bytes} {p q r : Progress} (i : ℕ) (l : Line) → Written (replicate i l) x p y q → Written (l ∷ []) y q z r → Written (replicate (i + 1) l) x p z r
 written-again i l v w = rw (replicate-append-replicate i 1 l) at (written-then v w)
 
--- ---- the lines of a pair
+-- ---- the deletions of a pair as the code makes them
 
-abbrev pub pair-line : Bool → ℤ → ℤ → Line
-pair-line d a b = line-of d (negation a ∷ negation b ∷ [])
-
-pub times-deleted : (d : Bool) (n r : ℕ) → d ≡ true → (n ≡ 0 → r ≡ 1) → (0 < n → r ≡ n) → r ≡ times-of d n
-times-deleted d zero r e f g = rw e (omega (arith, f refl))
-times-deleted d (suc n) r e f g = rw e (omega (arith, g (omega arith)))
-
-pub times-added : (d : Bool) (n : ℕ) → d ≡ false → n ≡ 0 → 1 ≡ times-of d n
-times-added d n e f = rw (e, eq-eqb n 0 f) refl
-
-pub times-none : (d : Bool) (n : ℕ) → d ≡ false → (n ≡ 0 → ⊥) → 0 ≡ times-of d n
-times-none d n e f = rw (e, ne-eqb n 0 f) refl
-
-pub cell-is : (d : Bool) (t : List ℕ) (l : Clause) (i j : ℕ) {m n : ℕ} → m ≡ getD t (i * 64 + j) 0 → n ≡ times-of d m → SFits w32 (literal-at l i) → SFits w32 (literal-at l j) →
-    replicate n (pair-line d (toZ w32 (ofZ w32 (literal-at l i))) (toZ w32 (ofZ w32 (literal-at l j)))) ≡ cell-lines d t l i j
-cell-is d t l i j c e f g = ap₂ (λ (k : ℕ) (x : Line). replicate k x) (rw c at e) (at-arg2 (pair-line d) (literal-at l i) (literal-at l j) f g)
+pub cell-is : (counts : List ℕ) (l : Clause) (i j : ℕ) {n : ℕ} {x y : ℤ} → n ≡ getD counts (i * 64 + j) 0 → SFits w32 (literal-at l i) → SFits w32 (literal-at l j) → SFits w32 x → SFits w32 y →
+    x ≡ negation (toZ w32 (ofZ w32 (literal-at l i))) → y ≡ negation (toZ w32 (ofZ w32 (literal-at l j))) → replicate n (deletion (toZ w32 (ofZ w32 x) ∷ toZ w32 (ofZ w32 y) ∷ [])) ≡ cell-lines counts l i j
+cell-is counts l i j {x = x} {y = y} e f g fx gy d h =
+    ap₂ (λ (k : ℕ) (p : Clause). replicate k (deletion p)) e
+    (ap₂ (λ (u v : ℤ). u ∷ v ∷ []) (toZ-ofZ w32 x fx ∙ answer negation (literal-at l i) f d) (toZ-ofZ w32 y gy ∙ answer negation (literal-at l j) g h))

@@ -1,19 +1,18 @@
--- The pairs of a choice: their slots in a table of counts, the pairs taken out of a store and counted, and their lines by the counts.
+-- The pairs of a choice: their slots in a table of counts, the pairs taken out of a store and counted, and their deletions by the counts.
 use mathlib.Core.Path.{_≡_}
-use mathlib.Core.Bool.{Bool, true, false, _&&_, cond}
+use mathlib.Core.Bool.{_&&_, cond}
 use mathlib.Core.List.{List, [], _∷_}
-use Prim.Native.Nat.{ℕ, suc, _+_, _-_, _*_, _<_, max}
+use Prim.Native.Nat.{ℕ, suc, _+_, _-_, _*_, _<_}
 use lib.Dec.{eqb, ltb, leb}
 use lib.IntN.{ℤ, pos}
 use lib.ListN.{length, getD, replicate}
 use Rattle.definition.specs.Lists.{count, those, for-from}
 use Rattle.definition.specs.Literals.{Clause, Formula}
-use Rattle.definition.specs.Standing.{Line}
+use Rattle.definition.specs.Standing.{Line, deletion}
 use Rattle.literals.specs.Literal.{negation}
 use Rattle.tables.specs.Entries.{counted-at}
 use Rattle.tables.specs.Places.{place-in}
 use Rattle.store.specs.Store.{Formed, stored, deleted-at, clause-at, marked}
-use Rattle.drat.specs.Lines.{line-of}
 
 -- the literal at a place, from 0 on
 abbrev pub literal-at : Clause → ℕ → ℤ
@@ -51,21 +50,16 @@ pub record Pairs-taken (t : List ℕ) (F : Formula) (s : List ℤ) (counts : Lis
   pub stands : stored s ≡ those (λ d. leb slots (slot-of t d)) F
   pub counted : (n : ℕ) → n < slots → getD counts n 0 ≡ count (λ d. eqb (slot-of t d) n) F
 
--- ---- the lines of pairs, by the table of counts
-
--- how often a pair's line is written: the addition where it is missing, the deletion of each copy with the added one
-abbrev pub times-of : Bool → ℕ → ℕ
-times-of true n = max 1 n
-times-of false n = cond (eqb n 0) 1 0
+-- ---- the deletions of pairs, each as often as it is counted
 
 abbrev pub pair-clause : Clause → ℕ → ℕ → Clause
 pair-clause l i j = negation (literal-at l i) ∷ negation (literal-at l j) ∷ []
 
-abbrev pub cell-lines : Bool → List ℕ → Clause → ℕ → ℕ → List Line
-cell-lines d t l i j = replicate (times-of d (getD t (i * 64 + j) 0)) (line-of d (pair-clause l i j))
+abbrev pub cell-lines : List ℕ → Clause → ℕ → ℕ → List Line
+cell-lines counts l i j = replicate (getD counts (i * 64 + j) 0) (deletion (pair-clause l i j))
 
-abbrev pub row-lines : Bool → List ℕ → Clause → ℕ → List Line
-row-lines d t l i = for-from (suc i) (length l - suc i) (cell-lines d t l i)
+abbrev pub row-lines : List ℕ → Clause → ℕ → List Line
+row-lines counts l i = for-from (suc i) (length l - suc i) (cell-lines counts l i)
 
-abbrev pub pair-lines : Bool → List ℕ → Clause → List Line
-pair-lines d t l = for-from 0 (length l) (row-lines d t l)
+abbrev pub pair-lines : List ℕ → Clause → List Line
+pair-lines counts l = for-from 0 (length l) (row-lines counts l)

@@ -1,13 +1,11 @@
-// The pairs of a choice in a store: deleted and counted in one walk, and their lines by the counts.
+// The pairs of a choice in a store: deleted and counted in one walk, and their deletions recorded by the counts.
 ghost use mathlib.Core.Path.{_≡_};
-ghost use mathlib.Core.List.{[], _∷_};
 ghost use Prim.Native.Nat.{_<_, _≤_, _^_};
 ghost use lib.ListN.{length, drop, replicate};
-ghost use Rattle.literals.specs.Literal.{negation};
+ghost use Rattle.definition.specs.Standing.{deletion};
 ghost use Rattle.store.specs.Store.{Formed, stored};
-ghost use Rattle.drat.specs.Lines.{line-of};
 ghost use Rattle.progress.specs.Progress.{Written, Log-room};
-ghost use Rattle.pairs.specs.Pairs.{slots, ordered-slot as slot-for, slot-of, Pair-step, Pairs-taken, times-of, cell-lines, row-lines, pair-lines};
+ghost use Rattle.pairs.specs.Pairs.{slots, ordered-slot as slot-for, slot-of, Pair-step, Pairs-taken, cell-lines, row-lines, pair-lines};
 use progress::Progress;
 
 // How many slots a table of counts has, one for each two places of a choice.
@@ -81,110 +79,68 @@ pub fn take_pairs(store: &mut [i32], places: &[u32], counts: &mut [u32])
 
 // ---- lines
 
-// Records a line of the pair of two literals.
-fn record_pair(log: &mut [u8], p: Progress, is_deletion: bool, a: i32, b: i32) -> Progress
-    requires { ⌜ Log-room (line-of «is_deletion» (negation a ∷ negation b ∷ []) ∷ []) p ⌝ }
-    ensures written { λ r. ⌜ Written (line-of «is_deletion» (negation a ∷ negation b ∷ []) ∷ []) (now (log .entry)) p (now (log .exit)) r ⌝ }
-    ensures kept { λ r. ⌜ r .end ≡ p .end ⌝ }
-{
-    let pair = [literals::negated(a), literals::negated(b)];
-    progress::record_line(log, p, is_deletion, &pair)
-}
-
-// Records the line of a pair some times.
-fn record_times(
-    log: &mut [u8],
-    p: Progress,
-    is_deletion: bool,
-    a: i32,
-    b: i32,
-    times: u32,
-) -> Progress
-    requires { ⌜ Log-room (replicate times (line-of «is_deletion» (negation a ∷ negation b ∷ []))) p ⌝ }
-    ensures written { λ r. ⌜ Written (replicate times (line-of «is_deletion» (negation a ∷ negation b ∷ []))) (now (log .entry)) p (now (log .exit)) r ⌝ }
+// Records the deletion of a pair some times.
+fn record_times(log: &mut [u8], p: Progress, pair: &[i32], times: u32) -> Progress
+    requires { ⌜ length (now pair) ≡ 2 ⌝ }
+    requires { ⌜ Log-room (replicate times (deletion (now pair))) p ⌝ }
+    ensures written { λ r. ⌜ Written (replicate times (deletion (now (pair .entry)))) (now (log .entry)) p (now (log .exit)) r ⌝ }
     ensures kept { λ r. ⌜ r .end ≡ p .end ⌝ }
 {
     let mut q = p;
-    let mut i = 0;
-    while i < times {
-        q = record_pair(log, q, is_deletion, a, b);
-        i += 1;
+    let mut done = 0;
+    while done < times {
+        q = progress::record_line(log, q, true, pair);
+        done += 1;
     }
     q
 }
 
-// How often the line of a pair is written that is counted n times.
-fn line_times(is_deletion: bool, n: u32) -> u32
-    ensures { λ r. ⌜ r ≡ times-of «is_deletion» n ⌝ }
-{
-    if is_deletion {
-        if n == 0 {
-            return 1;
-        }
-        return n;
-    }
-    if n == 0 { 1 } else { 0 }
-}
-
-// Records the lines of the pair of the literals at two places.
+// Records the deletions of the pair of the literals at two places.
 fn record_cell(
     log: &mut [u8],
     p: Progress,
-    is_deletion: bool,
     counts: &[u32],
     choice: &[i32],
     i: usize,
     j: usize,
 ) -> Progress
     requires { ⌜ (i < j) × (j < length (now choice)) × (length (now choice) ≤ 64) ⌝ }
-    requires { ⌜ Log-room (cell-lines «is_deletion» (now counts) (now choice) i j) p ⌝ }
-    ensures written { λ r. ⌜ Written (cell-lines «is_deletion» (now (counts .entry)) (now (choice .entry)) i j) (now (log .entry)) p (now (log .exit)) r ⌝ }
+    requires { ⌜ Log-room (cell-lines (now counts) (now choice) i j) p ⌝ }
+    ensures written { λ r. ⌜ Written (cell-lines (now (counts .entry)) (now (choice .entry)) i j) (now (log .entry)) p (now (log .exit)) r ⌝ }
     ensures kept { λ r. ⌜ r .end ≡ p .end ⌝ }
 {
-    let times = line_times(is_deletion, tables::entry_at(counts, i * 64 + j));
-    record_times(log, p, is_deletion, choice[i], choice[j], times)
+    let times = tables::entry_at(counts, i * 64 + j);
+    let pair = [literals::negated(choice[i]), literals::negated(choice[j])];
+    record_times(log, p, &pair, times)
 }
 
-// Records the lines of the pairs of the literal at a place with those behind it.
-fn record_row(
-    log: &mut [u8],
-    p: Progress,
-    is_deletion: bool,
-    counts: &[u32],
-    choice: &[i32],
-    i: usize,
-) -> Progress
+// Records the deletions of the pairs of the literal at a place with those behind it.
+fn record_row(log: &mut [u8], p: Progress, counts: &[u32], choice: &[i32], i: usize) -> Progress
     requires { ⌜ (i < length (now choice)) × (length (now choice) ≤ 64) ⌝ }
-    requires { ⌜ Log-room (row-lines «is_deletion» (now counts) (now choice) i) p ⌝ }
-    ensures written { λ r. ⌜ Written (row-lines «is_deletion» (now (counts .entry)) (now (choice .entry)) i) (now (log .entry)) p (now (log .exit)) r ⌝ }
+    requires { ⌜ Log-room (row-lines (now counts) (now choice) i) p ⌝ }
+    ensures written { λ r. ⌜ Written (row-lines (now (counts .entry)) (now (choice .entry)) i) (now (log .entry)) p (now (log .exit)) r ⌝ }
     ensures kept { λ r. ⌜ r .end ≡ p .end ⌝ }
 {
     let mut q = p;
     let mut j = i + 1;
     while j < choice.len() {
-        q = record_cell(log, q, is_deletion, counts, choice, i, j);
+        q = record_cell(log, q, counts, choice, i, j);
         j += 1;
     }
     q
 }
 
-// Records the lines of all pairs of a choice.
-pub fn record_pairs(
-    log: &mut [u8],
-    p: Progress,
-    is_deletion: bool,
-    counts: &[u32],
-    choice: &[i32],
-) -> Progress
+// Records the deletions of all pairs of a choice, each as often as it is counted.
+pub fn record_pairs(log: &mut [u8], p: Progress, counts: &[u32], choice: &[i32]) -> Progress
     requires { ⌜ length (now choice) ≤ 64 ⌝ }
-    requires { ⌜ Log-room (pair-lines «is_deletion» (now counts) (now choice)) p ⌝ }
-    ensures written { λ r. ⌜ Written (pair-lines «is_deletion» (now (counts .entry)) (now (choice .entry))) (now (log .entry)) p (now (log .exit)) r ⌝ }
+    requires { ⌜ Log-room (pair-lines (now counts) (now choice)) p ⌝ }
+    ensures written { λ r. ⌜ Written (pair-lines (now (counts .entry)) (now (choice .entry))) (now (log .entry)) p (now (log .exit)) r ⌝ }
     ensures kept { λ r. ⌜ r .end ≡ p .end ⌝ }
 {
     let mut q = p;
     let mut i = 0;
     while i < choice.len() {
-        q = record_row(log, q, is_deletion, counts, choice, i);
+        q = record_row(log, q, counts, choice, i);
         i += 1;
     }
     q

@@ -77,9 +77,9 @@ module _ {l : Clause} {below : ℕ} (s : Small l below) (i : ℕ) (a : 2 ≤ i) 
       _≡_ {A = Formula} ((toZ w32 (ofZ w32 x) ∷ toZ w32 (ofZ w32 y) ∷ []) ∷ []) ((new (choice-of l below) i ∷ negℤ (lit (choice-of l below) i) ∷ []) ∷ [])
   third-made f g d e = two-passed f g (d ∙ new-is s i (below + i) refl (omega (arith, s .few))) (e ∙ lit-negated s i (omega arith) b)
 
-  pub link-3-made : {x y : ℤ} → SFits w32 x → SFits w32 y → x ≡ signed-of true (below + i - 1) → y ≡ negation (literal-at l (i - 1)) →
+  pub link-3-made : {x y : ℤ} → SFits w32 x → SFits w32 y → x ≡ negation (literal-at l (i - 1)) → y ≡ signed-of true (below + i - 1) →
       _≡_ {A = Formula} ((toZ w32 (ofZ w32 x) ∷ toZ w32 (ofZ w32 y) ∷ []) ∷ []) (link-3 (choice-of l below) i)
-  link-3-made f g d e = two-passed f g (d ∙ new-negated s (i - 1) (below + i - 1) (omega arith) (omega (arith, s .few))) (e ∙ lit-negated s i (omega arith) b)
+  link-3-made f g d e = two-passed f g (d ∙ lit-negated s i (omega arith) b) (e ∙ new-negated s (i - 1) (below + i - 1) (omega arith) (omega (arith, s .few)))
 
 -- ---- the stages in parts
 

@@ -1,21 +1,20 @@
 -- A choice taken: its steps write the definition's lines, and leave what the definition says. Assumes nothing.
 use mathlib.Core.Path.{_≡_, sym, ap, ap₂, _∙_}
-use mathlib.Core.Bool.{true, false}
-use mathlib.Core.List.{List, [], _∷_, _++_, map, map-append, append-assoc}
+use mathlib.Core.List.{List, [], _∷_, _++_, map}
 use Prim.Native.Nat.{ℕ, _+_, _*_, _<_, _^_}
 use native.Mathlib.Omega.{arith}
 use lib.IntN.{ℤ}
 use lib.ListN.{length, take, drop, replicate, length-append}
-use lib.Seq.{sets, length-sets, length-take-le, take-at, drop-at}
+use lib.Seq.{length-sets, length-take-le, take-at, drop-at}
 use Rattle.definition.specs.Literals.{Clause, Formula}
 use Rattle.definition.specs.Text.{Bytes}
 use Rattle.definition.specs.Standing.{Line, addition, deletion, take-out, after}
 use Rattle.definition.specs.Events.{Choice, choice-of}
-use Rattle.definition.specs.Counter.{missing-pairs, counter, take-choice}
+use Rattle.definition.specs.Counter.{counter, take-choice}
 use Rattle.definition.specs.Reencoding.{lines-of}
 use Rattle.theory_base.proofs.Slices.{sets-before, taken-sets}
 use Rattle.theory_counter.proofs.Front.{taken-lines-are}
-use Rattle.theory_counter.specs.Front.{pair-copies, front}
+use Rattle.theory_counter.specs.Front.{front}
 use Rattle.theory_counter.proofs.Counter.{after-choice}
 use Rattle.tables.specs.Sizes.{input-reach, input-size}
 use Rattle.tables.specs.Places.{with-numbers, Places}
@@ -26,7 +25,7 @@ use Rattle.progress.specs.declared.Progress.{Progress}
 use Rattle.progress.specs.Progress.{Written, Log-room}
 use Rattle.progress.proofs.Laws.{lines-one, written-then, room-first, room-rest, part-length, part-size, runs-event}
 use Rattle.pairs.specs.Pairs.{Pairs-taken, pair-lines}
-use Rattle.pairs.proofs.Laws.{front-stands, missing-lines, copies-lines}
+use Rattle.pairs.proofs.Laws.{front-stands, copies-lines}
 use Rattle.pass_counter.specs.Choice.{Choice-ready, Taken}
 use Rattle.progress.specs.Growth.{entries, Grow-room, Grown}
 use Rattle.progress.proofs.Growing.{entries-length}
@@ -47,90 +46,77 @@ module _ {work : List ℤ} {p : Progress} {l : Clause} {below : ℕ} (g : Choice
     K = choice-of l below
 
     front-there : stored s ≡ front F K
-    front-there = front-stands (g .good .fits) (g .ready) (g .good .proper) (g .small .few) (g .small .old) q w
+    front-there = front-stands (g .ready) (g .good .proper) (g .small .few) q w
 
-    -- the lines in the order in which they are written: missing pairs, counter clauses, the choice, the copies of pairs
+    -- the lines in the order in which they are written: counter clauses, the choice, the copies of pairs
     abbrev steps : List Line
-    steps = pair-lines false counts l ++ (map addition (counter K) ++ ((deletion l ∷ []) ++ pair-lines true counts l))
+    steps = map addition (counter K) ++ ((deletion l ∷ []) ++ pair-lines counts l)
 
     all-lines : lines-of (take-choice F l K) ≡ steps
-    all-lines =
-        let a = missing-lines (g .good .fits) (g .ready) (g .good .proper) (g .small .few) (g .small .old) q w in
-        let d = copies-lines (g .good .fits) (g .ready) (g .good .proper) (g .small .few) (g .small .old) q w in
-        taken-lines-are F l K ∙ rw (a, d, map-append addition (missing-pairs F l) (counter K)) (append-assoc (map addition (missing-pairs F l)) (map addition (counter K)) (deletion l ∷ map deletion (pair-copies F K)))
+    all-lines = taken-lines-are F l K ∙ ap (λ (xs : List Line). map addition (counter K) ++ (deletion l ∷ xs)) (sym (copies-lines (g .ready) (g .good .proper) (g .small .few) q w (g .small .old)))
 
     room : Log-room steps p
     room = rw (lines-one (take-choice F l K) ∙ all-lines) at (g .good .room)
 
-    pub first-room : Log-room (pair-lines false counts l) p
-    first-room = room-first (pair-lines false counts l) _ room
+    pub counter-room : {size : ℕ} → size ≡ length work → Grow-room (counter (choice-of l below)) size p
+    counter-room e = record { space = omega (arith, g .space, e); log = room-first (map addition (counter K)) _ room }
 
-    module _ {x y : Bytes} {a : Progress} (u : Written (pair-lines false counts l) x p y a) (h : a .end ≡ p .end) where
-      room-counter : Log-room (map addition (counter K) ++ ((deletion l ∷ []) ++ pair-lines true counts l)) a
-      room-counter = room-rest (pair-lines false counts l) _ room u
+    module _ {v₁ v₂ : List ℤ} {x y : Bytes} {a : Progress} (k : Grown (counter (choice-of l below)) v₁ x p v₂ y a) where
+      room-choice : Log-room ((deletion l ∷ []) ++ pair-lines counts l) a
+      room-choice = room-rest (map addition (counter K)) _ room (k .written)
 
-      pub counter-room : {size : ℕ} → size ≡ length work → Grow-room (counter (choice-of l below)) size a
-      counter-room e = record { space = omega (arith, g .space, h, e); log = room-first (map addition (counter K)) _ room-counter }
+      pub line-room : (a .at + 12 * length l + 4 < 2 ^ 64) × (a .lines + 1 < 2 ^ 64)
+      line-room = (omega (arith, room-choice .text, g .small .few), omega (arith, room-choice .count))
 
-      module _ {v₁ v₂ : List ℤ} {z : Bytes} {b : Progress} (k : Grown (counter (choice-of l below)) v₁ y a v₂ z b) where
-        room-choice : Log-room ((deletion l ∷ []) ++ pair-lines true counts l) b
-        room-choice = room-rest (map addition (counter K)) _ room-counter (k .written)
+      module _ {z : Bytes} {b : Progress} (m : Written (deletion l ∷ []) y a z b) where
+        pub last-room : Log-room (pair-lines counts l) b
+        last-room = room-rest (deletion l ∷ []) (pair-lines counts l) room-choice m
 
-        pub line-room : (b .at + 12 * length l + 4 < 2 ^ 64) × (b .lines + 1 < 2 ^ 64)
-        line-room = (omega (arith, room-choice .text, g .small .few), omega (arith, room-choice .count))
+        module _ {n : Bytes} {r : Progress} (j : Written (pair-lines counts l) z b n r) (i : b .end ≡ a .end) (f : r .end ≡ b .end) (first : v₁ ≡ s ++ drop (p .end) work) (same : length s ≡ length (take (p .end) work)) where
+          store-size : length s ≡ p .end
+          store-size = part-length work s (p .end) (g .good .inside) same
 
-        module _ {o : Bytes} {c : Progress} (m : Written (deletion l ∷ []) z b o c) (i : c .end ≡ b .end) where
-          pub last-room : Log-room (pair-lines true counts l) c
-          last-room = room-rest (deletion l ∷ []) (pair-lines true counts l) room-choice m
+          old-size : length v₁ ≡ length work
+          old-size = ap length first ∙ part-size work s (p .end) (g .good .inside) same
 
-          module _ {n : Bytes} {r : Progress} (j : Written (pair-lines true counts l) o c n r) (f : r .end ≡ c .end) (first : v₁ ≡ s ++ drop (p .end) work) (same : length s ≡ length (take (p .end) work)) where
-            store-size : length s ≡ p .end
-            store-size = part-length work s (p .end) (g .good .inside) same
+          end-is : r .end ≡ p .end + length (entries (counter K))
+          end-is = omega (arith, f, i, k .next, entries-length (counter K))
 
-            old-size : length v₁ ≡ length work
-            old-size = ap length first ∙ part-size work s (p .end) (g .good .inside) same
+          new-size : length v₂ ≡ length work
+          new-size = ap length (k .put) ∙ length-sets v₁ (p .end) (entries (counter K)) ∙ old-size
 
-            end-is : r .end ≡ p .end + length (entries (counter K))
-            end-is = omega (arith, f, i, h, k .next, entries-length (counter K))
+          front-part : take (p .end) v₁ ≡ s
+          front-part = ap (take (p .end)) first ∙ take-at s (drop (p .end) work) (p .end) store-size
 
-            put-there : v₂ ≡ sets v₁ (p .end) (entries (counter K))
-            put-there = k .put ∙ ap (λ (e : ℕ). sets v₁ e (entries (counter K))) h
+          whole : take (r .end) v₂ ≡ s ++ entries (counter K)
+          whole =
+              ap₂ (λ (e : ℕ) (v : List ℤ). take e v) end-is (k .put)
+              ∙ taken-sets (entries (counter K)) v₁ (p .end) (omega (arith, old-size, g .space, entries-length (counter K)))
+              ∙ ap (λ (v : List ℤ). v ++ entries (counter K)) front-part
 
-            new-size : length v₂ ≡ length work
-            new-size = ap length put-there ∙ length-sets v₁ (p .end) (entries (counter K)) ∙ old-size
+          before : take (p .end) v₂ ≡ s
+          before = ap (take (p .end)) (k .put) ∙ sets-before (entries (counter K)) v₁ (p .end) (p .end) (omega arith) ∙ front-part
 
-            front-part : take (p .end) v₁ ≡ s
-            front-part = ap (take (p .end)) first ∙ take-at s (drop (p .end) work) (p .end) store-size
+          behind : drop (p .end) (take (r .end) v₂) ≡ entries (counter K)
+          behind = ap (drop (p .end)) whole ∙ drop-at s (entries (counter K)) (p .end) store-size
 
-            whole : take (r .end) v₂ ≡ s ++ entries (counter K)
-            whole =
-                ap₂ (λ (e : ℕ) (v : List ℤ). take e v) end-is put-there
-                ∙ taken-sets (entries (counter K)) v₁ (p .end) (omega (arith, old-size, g .space, entries-length (counter K)))
-                ∙ ap (λ (v : List ℤ). v ++ entries (counter K)) front-part
+          written : Written (lines-of (take-choice F l K)) x p n r
+          written = rw all-lines (written-then (k .written) (written-then m j))
 
-            before : take (p .end) v₂ ≡ s
-            before = ap (take (p .end)) put-there ∙ sets-before (entries (counter K)) v₁ (p .end) (p .end) (omega arith) ∙ front-part
+          formed-then : Formed (s ++ entries (counter K))
+          formed-then = formed-++ s (entries (counter K)) (w .formed) (k .formed)
 
-            behind : drop (p .end) (take (r .end) v₂) ≡ entries (counter K)
-            behind = ap (drop (p .end)) whole ∙ drop-at s (entries (counter K)) (p .end) store-size
+          stands-then : stored (take (r .end) v₂) ≡ front F K ++ counter K
+          stands-then = ap stored whole ∙ stored-++ s (entries (counter K)) (w .formed) ∙ ap₂ (λ (c d : Formula). c ++ d) front-there (k .stands)
 
-            written : Written (lines-of (take-choice F l K)) x p n r
-            written = rw all-lines (written-then u (written-then (k .written) (written-then m j)))
+          after-is : front F K ++ counter K ≡ after F (lines-of (take-choice F l K))
+          after-is = sym (ap (after F) (taken-lines-are F l K ∙ sym (taken-lines-are F (g .clause) K)) ∙ after-choice F (g .clause) K (g .good .fits) (g .ready))
 
-            formed-then : Formed (s ++ entries (counter K))
-            formed-then = formed-++ s (entries (counter K)) (w .formed) (k .formed)
-
-            stands-then : stored (take (r .end) v₂) ≡ front F K ++ counter K
-            stands-then = ap stored whole ∙ stored-++ s (entries (counter K)) (w .formed) ∙ ap₂ (λ (c d : Formula). c ++ d) front-there (k .stands)
-
-            after-is : front F K ++ counter K ≡ after F (lines-of (take-choice F l K))
-            after-is = sym (ap (after F) (taken-lines-are F l K ∙ sym (taken-lines-are F (g .clause) K)) ∙ after-choice F (g .clause) K (g .good .fits) (g .ready))
-
-            pub choice-taken : Taken work l below x p v₂ n r
-            choice-taken = record {
-              ran = runs-event (take-choice F l K) new-size (record { inside = omega (arith, end-is, new-size, g .space, entries-length (counter K)); formed = rw whole formed-then; stands = stands-then }) after-is written;
-              place = rw whole (place-within formed-then (omega (arith, store-size, length-append s (entries (counter K)))) (rw (take-at s (entries (counter K)) (p .end) store-size) (w .formed)));
-              front-stands = ap stored before ∙ front-there;
-              counter-stands = ap stored behind ∙ k .stands;
-              filled = omega (arith, end-is, entries-length (counter K));
-            }
+          pub choice-taken : Taken work l below x p v₂ n r
+          choice-taken = record {
+            ran = runs-event (take-choice F l K) new-size (record { inside = omega (arith, end-is, new-size, g .space, entries-length (counter K)); formed = rw whole formed-then; stands = stands-then }) after-is written;
+            place = rw whole (place-within formed-then (omega (arith, store-size, length-append s (entries (counter K)))) (rw (take-at s (entries (counter K)) (p .end) store-size) (w .formed)));
+            front-stands = ap stored before ∙ front-there;
+            counter-stands = ap stored behind ∙ k .stands;
+            filled = omega (arith, end-is, entries-length (counter K));
+          }

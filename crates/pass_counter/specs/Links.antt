@@ -16,4 +16,4 @@ link-2 k i =
 
 -- stage 3
 abbrev pub link-3 : Choice → ℕ → Formula
-link-3 k i = (negℤ (new k (i - 1)) ∷ negℤ (lit k i) ∷ []) ∷ []
+link-3 k i = (negℤ (lit k i) ∷ negℤ (new k (i - 1)) ∷ []) ∷ []

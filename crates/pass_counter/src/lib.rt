@@ -87,14 +87,9 @@ fn put_link_3(
     requires { ⌜ Grow-room (link-3 (choice-of (now choice) below) i) (length (now work)) p ⌝ }
     ensures { λ r. ⌜ Grown (link-3 (choice-of (now (choice .entry)) below) i) (now (work .entry)) (now (log .entry)) p (now (work .exit)) (now (log .exit)) r ⌝ }
 {
-    let s = below + i as u32 - 1;
-    put_two(
-        work,
-        log,
-        p,
-        literals::signed(true, s),
-        literals::negated(choice[i - 1]),
-    )
+    let not_l = literals::negated(choice[i - 1]);
+    let not_s = literals::signed(true, below + i as u32 - 1);
+    put_two(work, log, p, not_l, not_s)
 }
 
 // Adds the clauses of stage 2 of the literals between the first and the last.
@@ -210,7 +205,7 @@ fn clear_store(store: &mut [i32], choice: &[i32], places: &[u32], counts: &mut [
     pairs::take_pairs(store, places, counts);
 }
 
-// Takes a choice: writes its pairs and counter clauses, deletes it and the copies of its pairs.
+// Takes a choice: writes its counter clauses, deletes it and the copies of its pairs.
 pub fn take_choice(
     work: &mut [i32],
     log: &mut [u8],
@@ -226,8 +221,7 @@ pub fn take_choice(
     let mut counts = [0u32; pairs::SLOTS];
     tables::set_places(&mut places, literals);
     clear_store(&mut work[..end], literals, &places, &mut counts);
-    let a = pairs::record_pairs(log, p, false, &counts, literals);
-    let b = put_counter(work, log, a, literals, below);
-    let c = progress::record_line(log, b, true, literals);
-    pairs::record_pairs(log, c, true, &counts, literals)
+    let a = put_counter(work, log, p, literals, below);
+    let b = progress::record_line(log, a, true, literals);
+    pairs::record_pairs(log, b, &counts, literals)
 }

@@ -65,7 +65,7 @@ fn print_outcomes() {
 fn print_size(size: u8) {
     let mut text = [0u8; 2048];
     let mut work = [0i32; 16384];
-    let mut log = [0u8; 65536];
+    let mut log = [0u8; 8192];
     let mut formula = [0u8; 8192];
     let n = texts::put_unique(&mut text, size);
     io::write_all(STDOUT_FILENO, b"size");
@@ -90,8 +90,8 @@ fn print_alignment(arrangement: Arrangement) {
     let s = counter(arrangement);
     match call_reencode::reencode(text, s, &mut work, &mut log, &mut formula) {
         Reencoding::Done(_) => {
-            let a = texts::past_lines(&log, 63);
-            let b = texts::past_lines(&log, 64);
+            let a = texts::past_lines(&log, 33);
+            let b = texts::past_lines(&log, 34);
             texts::print_part(&log, a, b);
         }
         Reencoding::Refused(k) => prog_common::print_refusal(k),

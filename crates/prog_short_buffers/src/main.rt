@@ -67,7 +67,7 @@ fn print_reencoding(text: &[u8], work: &mut [i32], log: &mut [u8], formula: &mut
 fn print_walk_back(formula: &[u8], log: &[u8], work: &mut [i32], out: &mut [u8]) {
     let answer = b"s SATISFIABLE\nv 1 2 3 4 5 -6 -7 -8 -9 10 0\n";
     fill(out);
-    match call_walk_back::walk_back(formula, log, 59, answer, work, out) {
+    match call_walk_back::walk_back(formula, log, 41, answer, work, out) {
         WalkedBack::Line(_) => print_outcome(b"walk_back", 0),
         WalkedBack::Refused(n) => print_outcome(b"walk_back", n),
     }
@@ -75,21 +75,21 @@ fn print_walk_back(formula: &[u8], log: &[u8], work: &mut [i32], out: &mut [u8])
     io::write_all(STDOUT_FILENO, b"\n");
 }
 
-// Session F: 8,582 entries, 533 bytes and 77 bytes; session H: 956 entries and 21 bytes.
+// Session F: 8,582 entries, 371 bytes and 77 bytes; session H: 740 entries and 21 bytes.
 fn main() {
     let text = b"p cnf 6 7\n1 2 3 4 5 0\n-1 -2 0\n-1 6 0\n-2 6 0\n-3 6 0\n-4 -6 0\n-5 -6 0\n";
     let mut work = [0i32; 8582];
-    let mut log = [0u8; 533];
+    let mut log = [0u8; 371];
     let mut formula = [0u8; 77];
     let mut short_work = [0i32; 8581];
-    let mut short_log = [0u8; 532];
+    let mut short_log = [0u8; 370];
     let mut short_formula = [0u8; 76];
     print_reencoding(text, &mut short_work, &mut log, &mut formula);
     print_reencoding(text, &mut work, &mut short_log, &mut formula);
     print_reencoding(text, &mut work, &mut log, &mut short_formula);
     print_reencoding(text, &mut work, &mut log, &mut formula);
-    let mut table = [0i32; 956];
-    let mut short_table = [0i32; 955];
+    let mut table = [0i32; 740];
+    let mut short_table = [0i32; 739];
     let mut line = [0u8; 21];
     let mut short_line = [0u8; 20];
     print_walk_back(text, &log, &mut short_table, &mut line);

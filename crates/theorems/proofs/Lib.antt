@@ -1,5 +1,6 @@
 pub mod Demand3
 pub mod Choices
+pub mod ShortLog
 pub mod Texts
 pub mod WayBack
 pub mod Premise

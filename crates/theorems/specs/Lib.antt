@@ -1,6 +1,7 @@
 -- What is promised of the definition.
 pub mod Demand3
 pub mod Choices
+pub mod ShortLog
 pub mod Texts
 pub mod WayBack
 pub mod Refusals

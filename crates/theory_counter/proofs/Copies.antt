@@ -1,17 +1,18 @@
 -- Every copy of each of several clauses, deleted one by one.
 use mathlib.Core.Path.{_≡_, refl, sym, _∙_}
 use mathlib.Core.Logic.{⊎-elim}
-use mathlib.Core.Bool.{Bool, true, false, cond, not}
+use mathlib.Core.Bool.{Bool, true, false, cond, not, _||_}
 use mathlib.Core.List.{[], _∷_, List·Memᴰ, List·Memᴰ·head as here, List·Memᴰ·tail as there, List·Memᴰ·append-cases}
 use Prim.Native.Nat.{ℕ, zero, suc, _+_}
 use native.Mathlib.Nat.{zero-add}
 use native.Mathlib.Numerals.{one-add}
 use native.Mathlib.Omega.{arith}
-use lib.ListN.{replicate}
-use Rattle.definition.specs.Lists.{bit, count, those, for-each}
+use lib.Dec.{T}
+use lib.ListN.{length, replicate, length-append, length-replicate}
+use Rattle.definition.specs.Lists.{bit, count, any, those, for-each}
 use Rattle.definition.specs.Literals.{Clause, Formula, same-set}
 use Rattle.theory_base.proofs.Tests.{of-true, to-false}
-use Rattle.theory_base.proofs.Members.{same-set-same, same-turned, same-joined}
+use Rattle.theory_base.proofs.Members.{any-mem, same-set-same, same-turned, same-joined}
 use Rattle.theory_base.specs.Clauses.{Same}
 use Rattle.theory_base.proofs.Loops.{replicate-mem}
 use Rattle.theory_base.proofs.Removal.{Removed, found, later}
@@ -77,3 +78,32 @@ pub copy-mem : (n : Clause → ℕ) (ps : Formula) (d : Clause) → List·Memᴰ
 unfolding for-each
 copy-mem n (p ∷ ps) d i =
     ⊎-elim (λ j. here (replicate-mem (n p) p d j)) (λ j. there (copy-mem n ps d j)) (List·Memᴰ·append-cases (replicate (n p) p) i)
+
+-- ---- as many as there are clauses that are copies of one of them
+count-either : (p q : Clause → Bool) (F : Formula) → ((d : Clause) → T (p d) → T (q d) → ⊥) → count (λ d. p d || q d) F ≡ count p F + count q F
+unfolding count
+count-either p q [] n = refl
+count-either p q (d ∷ F) n = omega (arith, count-either p q F n, both (p d) (q d) (n d))
+  where
+    both : (a b : Bool) → (T a → T b → ⊥) → bit (a || b) ≡ bit a + bit b
+    both true true n = absurd (n tt tt)
+    both true false n = refl
+    both false true n = refl
+    both false false n = refl
+
+count-never : (F : Formula) → count (λ d. false) F ≡ 0
+unfolding count
+count-never [] = refl
+count-never (d ∷ F) = omega (arith, count-never F)
+
+pub copies-length : (ps F : Formula) → Spread ps → length (for-each ps (λ p. replicate (count (same-set p) F) p)) ≡ count (λ d. any (λ p. same-set p d) ps) F
+unfolding for-each any
+copies-length [] F s = sym (count-never F)
+copies-length (p ∷ ps) F s =
+    omega (
+      arith,
+      length-append (replicate (count (same-set p) F) p) (for-each ps (λ q. replicate (count (same-set q) F) q)),
+      length-replicate (count (same-set p) F) p,
+      copies-length ps F (s .1),
+      count-either (same-set p) (λ d. any (λ q. same-set q d) ps) F (λ d t u. let r = any-mem (λ q. same-set q d) ps u in s .0 (r .0) (r .1) (same-joined (same-set-same p d t) (same-turned (same-set-same (r .0) d (r .2))))),
+    )

@@ -2,7 +2,7 @@
 use mathlib.Core.Path.{_≡_, refl, sym, _∙_}
 use mathlib.Core.Logic.{_⊎_, inl, inr, ⊎-elim}
 use mathlib.Core.Bool.{false}
-use mathlib.Core.List.{List, [], _∷_, _++_, map, List·Memᴰ, append-assoc, append-nil, map-append, List·Memᴰ·append-cases}
+use mathlib.Core.List.{List, [], _∷_, _++_, map, List·Memᴰ, append-assoc, append-nil, List·Memᴰ·append-cases}
 use Prim.Native.Nat.{ℕ, _≤_, _<_}
 use native.Mathlib.Omega.{arith}
 use lib.Dec.{leb}
@@ -12,27 +12,27 @@ use Rattle.definition.specs.Literals.{Clause, Formula, holds}
 use Rattle.definition.specs.Standing.{Line, addition, deletion, after}
 use Rattle.definition.specs.Assignments.{Assignment, trues}
 use Rattle.definition.specs.Events.{Choice, Event, choice-taken}
-use Rattle.definition.specs.Counter.{pairs, missing-pairs, counter, last-new, take-choice}
+use Rattle.definition.specs.Counter.{pairs, counter, copies, last-new, take-choice}
 use Rattle.definition.specs.Reencoding.{lines-of, Goes-into, taken, later}
 use Rattle.theory_base.proofs.Tests.{by-test, of-true, differ}
 use Rattle.theory_base.proofs.Members.{holds-mem, mem-holds, natAbs-neg}
-use Rattle.theory_base.specs.Clauses.{Fits}
-use Rattle.theory_base.proofs.Trues.{Sat, sat-at, sat-all, sat-left, sat-right}
-use Rattle.theory_base.proofs.Removal.{sat-of}
+use Rattle.theory_base.specs.Clauses.{Fits, Absent}
+use Rattle.theory_base.proofs.Trues.{Sat, sat-at, sat-all, sat-right}
+use Rattle.theory_base.proofs.Removal.{Removed}
 use Rattle.theory_base.proofs.Replay.{leads-after}
 use Rattle.theory_soundness.proofs.Sound.{Into, Ones, Sound, nothing, sound-leads, weaken}
 use Rattle.theory_soundness.proofs.Without.{trues-order, Stands, Known}
 use Rattle.theory_soundness.proofs.Removals.{removes-++, mem-removes, del-all}
 use Rattle.theory_counter.proofs.CounterClauses.{Written, written, counter-is}
 use Rattle.theory_counter.specs.Ready.{Well-formed, Ready, Other}
-use Rattle.theory_counter.proofs.Pairs.{pair-form, pair-literal, pairs-hold, pairs-most, missing-mem, missing-all}
-use Rattle.theory_counter.proofs.Stages.{counter-one, pairs-added, counter-added}
+use Rattle.theory_counter.proofs.Pairs.{pairs-hold}
+use Rattle.theory_counter.proofs.Stages.{counter-one, counter-added}
 use Rattle.theory_counter.proofs.CounterLiterals.{counter-absent}
-use Rattle.theory_counter.proofs.Front.{taken-lines-are, copies-mem, well-formed, clause-taken, absent-else, front-removes, paired-fits}
-use Rattle.theory_counter.specs.Front.{paired, pair-copies, front}
+use Rattle.theory_counter.proofs.Front.{taken-lines-are, copies-mem, well-formed, clause-taken, absent-else, front-removes}
+use Rattle.theory_counter.specs.Front.{front}
 
 -- the clauses that go into a choice from the taking of a choice on
-goes-taken : {j k : Choice} {missing copies : List Clause} {es : List Event} {c d : Clause} → Goes-into j (choice-taken d k missing copies ∷ es) c → (c ≡ d) ⊎ Into es c
+goes-taken : {j k : Choice} {copies : List Clause} {es : List Event} {c d : Clause} → Goes-into j (choice-taken d k copies ∷ es) c → (c ≡ d) ⊎ Into es c
 goes-taken taken = inl refl
 goes-taken {j} (later g) = inr (record { choice = j; goes = g })
 
@@ -45,22 +45,15 @@ module _ {k : Choice} (u : Well-formed k) where
   counter-exactly-one σ s =
       rw (w .are) (counter-one σ (k .below) (w .one) (w .two) (w .others) (rw (w .are) at (u .proper)) (rw (counter-is w) at s))
 
-  counter-stages-added : {G H : Formula} {K L : List Event} {xs : List Line} → Fits (k .below) G → ((σ : Assignment) → Sat σ G → trues σ (k .literals) ≡ 1) →
-      Sound (G ++ counter k) K xs H L → Sound G K (map addition (counter k) ++ xs) H L
-  counter-stages-added {G} {H} {K} {L} {xs} f one s =
+  counter-stages-added : {F G H : Formula} {K L : List Event} {xs : List Line} → Fits (k .below) F → Removed (k .literals) F G → ((x : ℤ) → List·Memᴰ x (k .literals) → Absent x G) →
+      Sound (F ++ counter k) K xs H L → Sound F K (map addition (counter k) ++ xs) H L
+  counter-stages-added {F} {G} {H} {K} {L} {xs} f d alone s =
       rw (counter-is w)
-      (counter-added (k .below) (w .one) (w .two) (w .others) (rw (w .are) at (u .proper)) f (rw (w .are) at (u .fit))
-      (λ σ t. rw (w .are) at (one σ t)) (rw (counter-is w) at s))
+      (counter-added (k .below) (w .one) (w .two) (w .others) (rw (w .are) at (u .proper)) f (rw (w .are) at (u .fit)) (rw (w .are) at d) (rw (w .are) at alone)
+      (rw (counter-is w) at s))
 
--- ---- the four stages
+-- ---- all stages
 module _ (F : Formula) (e : Clause) (k : Choice) (f : Fits (k .below) F) (r : Ready F e k) where
-  -- the literals and the missing pairs: exactly one is true
-  paired-one : (σ : Assignment) → Sat σ (paired F k) → trues σ (k .literals) ≡ 1
-  paired-one σ t =
-      let u = sat-left σ F (missing-pairs F (k .literals)) t in
-      let v = sat-right σ F (missing-pairs F (k .literals)) t in
-      omega (arith, pairs-most σ (k .literals) (r .proper) (missing-all σ F (k .literals) u v), sat-of σ (clause-taken F e k f r) u)
-
   front-one : (σ : Assignment) → Sat σ (front F k ++ counter k) → trues σ (k .literals) ≡ 1
   front-one σ t = counter-exactly-one (well-formed F e k f r) σ (sat-right σ (front F k) (counter k) t)
 
@@ -71,20 +64,19 @@ module _ (F : Formula) (e : Clause) (k : Choice) (f : Fits (k .below) F) (r : Re
       (λ q. rw q (sym (trues-order σ (k .literals) e (r .proper) (r .proper-clause) (r .same)) ∙ front-one σ t))
       (o c) (goes-taken (i .goes))
 
-  lines-form : (xs : List Line) → lines-of (take-choice F e k) ++ xs ≡ map addition (missing-pairs F (k .literals)) ++ (map addition (counter k) ++ (map deletion (k .literals ∷ pair-copies F k) ++ xs))
-  lines-form xs = rw (taken-lines-are F e k) (simp (map-append, append-assoc))
+  lines-form : (xs : List Line) → lines-of (take-choice F e k) ++ xs ≡ map addition (counter k) ++ (map deletion (k .literals ∷ copies F (k .literals)) ++ xs)
+  lines-form xs = rw (taken-lines-are F e k) (simp append-assoc)
 
   pub counter-sound : {H : Formula} {K L : List Event} {xs : List Line} → Sound (front F k ++ counter k) K xs H L → Sound F (take-choice F e k ∷ K) (lines-of (take-choice F e k) ++ xs) H L
   counter-sound {H} {K} {L} {xs} s =
       rw (lines-form xs)
-      (rw (append-nil F) at (pairs-added (clause-taken F e k f r) (r .proper) (absent-else F e k f r) [] (missing-pairs F (k .literals)) (λ d i. elim i [ ]) (λ d i. pair-form (k .literals) (r .proper) d (missing-mem F (k .literals) d i))
-      (counter-stages-added (well-formed F e k f r) (paired-fits F e k f r) paired-one
-      (del-all (removes-++ (counter k) (front-removes F e k f r)) deleted-hold (weaken ones-taken s)))))
+      (counter-stages-added (well-formed F e k f r) f (clause-taken F e k f r) (absent-else F e k f r)
+      (del-all (removes-++ (counter k) (front-removes F e k f r)) deleted-hold (weaken ones-taken s)))
     where
-      deleted-hold : (σ : Assignment) → Sat σ (front F k ++ counter k) → Sat σ (k .literals ∷ pair-copies F k)
+      deleted-hold : (σ : Assignment) → Sat σ (front F k ++ counter k) → Sat σ (k .literals ∷ copies F (k .literals))
       deleted-hold σ t =
           let one = front-one σ t in
-          (omega arith, sat-all σ (pair-copies F k) (λ d i. sat-at σ (pairs (k .literals)) (pairs-hold σ (k .literals) (r .proper) (omega arith)) (copies-mem F k d i)))
+          (omega arith, sat-all σ (copies F (k .literals)) (λ d i. sat-at σ (pairs (k .literals)) (pairs-hold σ (k .literals) (r .proper) (omega arith)) (copies-mem F k d i)))
 
   pub after-choice : after F (lines-of (take-choice F e k)) ≡ front F k ++ counter k
   after-choice =
@@ -113,9 +105,7 @@ module _ (F : Formula) (e : Clause) (k : Choice) (f : Fits (k .below) F) (r : Re
   negated-stands x i = rw (natAbs-neg x) at (own-stands (negℤ x) i)
 
   front-stands : (d : Clause) → List·Memᴰ d (front F k) → (x : ℤ) → List·Memᴰ x d → Stands (natAbs x) F
-  front-stands d i x j =
-      ⊎-elim (λ q. (d, q, x, j, refl)) (λ q. negated-stands x (pair-literal (pair-form (k .literals) (r .proper) d (missing-mem F (k .literals) d q)) x j))
-      (List·Memᴰ·append-cases F (mem-removes (front-removes F e k f r) i))
+  front-stands d i x j = (d, mem-removes (front-removes F e k f r) i, x, j, refl)
 
   counter-stands : (d : Clause) → List·Memᴰ d (counter k) → (x : ℤ) → List·Memᴰ x d → Stands (natAbs x) F ⊎ (k .below < natAbs x)
   counter-stands d i x j =

@@ -23,8 +23,8 @@ stage-2-from h (l ∷ m ∷ c) =
 
 abbrev pub stage-3-from : ℕ → Clause → Formula
 stage-3-from h [] = []
-stage-3-from h (l ∷ []) = (negsuc h ∷ negℤ l ∷ []) ∷ (pos (suc h) ∷ l ∷ []) ∷ []
-stage-3-from h (l ∷ m ∷ c) = (negsuc h ∷ negℤ l ∷ []) ∷ stage-3-from (suc h) (m ∷ c)
+stage-3-from h (l ∷ []) = (negℤ l ∷ negsuc h ∷ []) ∷ (pos (suc h) ∷ l ∷ []) ∷ []
+stage-3-from h (l ∷ m ∷ c) = (negℤ l ∷ negsuc h ∷ []) ∷ stage-3-from (suc h) (m ∷ c)
 
 -- the choice is l and then c; its new variables are the numbers after h
 abbrev pub counter-from : ℕ → ℤ → Clause → Formula
@@ -59,7 +59,7 @@ module _ (k : Choice) where
   links-2 i h m (n ∷ c) f = rw (from-new f, from-previous f, from-literal f, links-2 (suc i) (suc h) n c (from-next f))
 
   links-3 : (i h : ℕ) (m : ℤ) (c : Clause) → From i h (m ∷ c) →
-      for-from i (length (m ∷ c)) (λ i. (negℤ (new k (i - 1)) ∷ negℤ (lit k i) ∷ []) ∷ []) ++ ((new k (i + length c - 1) ∷ lit k (i + length c) ∷ []) ∷ []) ≡ stage-3-from h (m ∷ c)
+      for-from i (length (m ∷ c)) (λ i. (negℤ (lit k i) ∷ negℤ (new k (i - 1)) ∷ []) ∷ []) ++ ((new k (i + length c - 1) ∷ lit k (i + length c) ∷ []) ∷ []) ≡ stage-3-from h (m ∷ c)
   unfolding for-from
   links-3 i h m [] f = rw (add-zero i, from-previous f, from-literal f)
   links-3 i h m (n ∷ c) f = rw (from-previous f, from-literal f, add-suc i (length c), ← suc-add i (length c), links-3 (suc i) (suc h) n c (from-next f))

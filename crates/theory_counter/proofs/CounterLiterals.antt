@@ -1,53 +1,50 @@
 -- The literals of the counter clauses, and the number of these clauses.
 use mathlib.Core.Path.{_≡_, refl, ap}
 use mathlib.Core.Logic.{_≢_}
-use mathlib.Core.List.{[], _∷_, _++_, List·Memᴰ, List·Memᴰ·head as here, List·Memᴰ·tail as there}
+use mathlib.Core.List.{[], _∷_, List·Memᴰ, List·Memᴰ·head as here, List·Memᴰ·tail as there}
 use Prim.Native.Nat.{ℕ, suc, _+_, _-_, _*_, _≤_, _<_}
 use native.Mathlib.Omega.{arith}
 use lib.IntN.{ℤ, pos, negsuc, negℤ, natAbs}
 use lib.ListN.{length, length-append}
-use Rattle.definition.specs.Literals.{Clause, Formula}
+use Rattle.definition.specs.Literals.{Clause}
 use Rattle.definition.specs.Events.{Choice}
 use Rattle.definition.specs.Counter.{counter, last-new}
 use Rattle.theory_base.proofs.Members.{far, turn}
 use Rattle.theory_base.specs.Clauses.{Same, Fit, Fits, Absent, Fit-all}
-use Rattle.theory_soundness.proofs.Written.{Each, Every, every, each-++, of-each, In-none, in-none}
+use Rattle.theory_soundness.proofs.Written.{Each, each, Every, every, each-++, of-each, In-none, in-none}
 use Rattle.theory_counter.proofs.CounterClauses.{stage-2-from, stage-3-from, counter-from, written, counter-is}
 use Rattle.theory_counter.specs.Ready.{Well-formed, Other}
 use Rattle.theory_base.proofs.Fitting.{fit-neg, fit-pos, fit-negsuc, fit-up}
 
--- ---- the first literal of each is a new one, so none is a clause of old literals
-abbrev First-above : ℕ → Formula → Type 0
-First-above g [] = Unit {0}
-First-above g ([] ∷ F) = ⊥
-First-above g ((x ∷ c) ∷ F) = (g < natAbs x) × First-above g F
+-- ---- each holds a new literal, so none is a clause of old ones
+abbrev Above : ℕ → Clause → Type 0
+Above g d = (x : ℤ) × List·Memᴰ x d × (g < natAbs x)
 
-first-above-++ : (g : ℕ) (F G : Formula) → First-above g F → First-above g G → First-above g (F ++ G)
-first-above-++ g [] G s t = t
-first-above-++ g ((x ∷ c) ∷ F) G s t = (s .0, first-above-++ g F G (s .1) t)
-
-first-above-not : (g : ℕ) (F : Formula) → First-above g F → (p : Clause) → Fit-all g p → (d : Clause) → List·Memᴰ d F → Same p d → ⊥
-first-above-not g ([] ∷ F) a p f d i s = a
-first-above-not g ((x ∷ c) ∷ F) a p f d (here e) s = omega (arith, a .0, f x (s .1 x (rw e (here refl))) .1)
-first-above-not g ((x ∷ c) ∷ F) a p f d (there i) s = first-above-not g F (a .1) p f d i s
-
-stages-first : (g h : ℕ) (c : Clause) → g ≤ h → First-above g (stage-2-from h c) × First-above g (stage-3-from h c)
-stages-first g h [] b = (tt, tt)
-stages-first g h (l ∷ []) b = (tt, (omega arith, (omega arith, tt)))
-stages-first g h (l ∷ m ∷ c) b =
-    let r = stages-first g (suc h) (m ∷ c) (omega arith) in ((omega arith, (omega arith, (omega arith, r .0))), (omega arith, r .1))
+stages-above : (g h : ℕ) (c : Clause) → g ≤ h → Each (Above g) (stage-2-from h c) × Each (Above g) (stage-3-from h c)
+stages-above g h [] b = (tt, tt)
+stages-above g h (l ∷ []) b = (tt, ((negsuc h, there (here refl), omega arith), ((pos (suc h), here refl, omega arith), tt)))
+stages-above g h (l ∷ m ∷ c) b =
+    let r = stages-above g (suc h) (m ∷ c) (omega arith) in
+    let s = pos (suc (suc h)) in (
+      ((negsuc (suc h), here refl, omega arith), ((s, here refl, omega arith), ((s, here refl, omega arith), r .0))),
+      ((negsuc h, there (here refl), omega arith), r .1),
+    )
 
 counter-from-new : (h : ℕ) (l : ℤ) (c p : Clause) → Fit-all h p → (d : Clause) → List·Memᴰ d (counter-from h l c) → Same p d → ⊥
-counter-from-new h l c p =
-    let r = stages-first h h c (omega arith) in
-    first-above-not h (counter-from h l c) (omega arith, (omega arith, first-above-++ h (stage-2-from h c) (stage-3-from h c) (r .0) (r .1))) p
+counter-from-new h l c p f d i s =
+    let r = stages-above h h c (omega arith) in
+    let a = each (Above h) (counter-from h l c) (
+      (negsuc h, here refl, omega arith),
+      ((pos (suc h), here refl, omega arith), each-++ (Above h) (stage-2-from h c) (stage-3-from h c) (r .0) (r .1)),
+    ) d i in
+    omega (arith, a .2, f (a .0) (s .1 (a .0) (a .1)) .1)
 
 -- ---- they hold no literal of another variable
-stages-absent : (x : ℤ) (h : ℕ) (c : Clause) → natAbs x ≤ h → (List·Memᴰ x c → ⊥) → (List·Memᴰ (negℤ x) c → ⊥) → In-none x (stage-2-from h c) × In-none x (stage-3-from h c)
+pub stages-absent : (x : ℤ) (h : ℕ) (c : Clause) → natAbs x ≤ h → (List·Memᴰ x c → ⊥) → (List·Memᴰ (negℤ x) c → ⊥) → In-none x (stage-2-from h c) × In-none x (stage-3-from h c)
 stages-absent x h [] b n p = (tt, tt)
 stages-absent x h (m ∷ []) b n p = (
   tt,
-  ((far x (negsuc h) (omega arith), (λ e. p (here (turn x m e)), tt)), ((far x (pos (suc h)) (omega arith), (λ e. n (here e), tt)), tt)),
+  ((λ e. p (here (turn x m e)), (far x (negsuc h) (omega arith), tt)), ((far x (pos (suc h)) (omega arith), (λ e. n (here e), tt)), tt)),
 )
 stages-absent x h (m ∷ k ∷ c) b n p =
     let r = stages-absent x (suc h) (k ∷ c) (omega arith) (λ i. n (there i)) (λ i. p (there i)) in (
@@ -58,7 +55,7 @@ stages-absent x h (m ∷ k ∷ c) b n p =
           ((far x (pos (suc (suc h))) (omega arith), (λ e. p (here (turn x m e)), tt)), r .0),
         ),
       ),
-      ((far x (negsuc h) (omega arith), (λ e. p (here (turn x m e)), tt)), r .1),
+      ((λ e. p (here (turn x m e)), (far x (negsuc h) (omega arith), tt)), r .1),
     )
 
 counter-from-absent : (x : ℤ) (h : ℕ) (l : ℤ) (c : Clause) → natAbs x ≤ h → (List·Memᴰ x (l ∷ c) → ⊥) → (List·Memᴰ (negℤ x) (l ∷ c) → ⊥) → Absent x (counter-from h l c)
@@ -77,14 +74,14 @@ stages-fit : (g h : ℕ) (m : ℤ) (c : Clause) → h + length (m ∷ c) ≤ g �
 stages-fit g h m [] b f =
     let p = fit-pos g h (omega arith) in
     let n = fit-negsuc g h (omega arith) in
-    (tt, ((n, (fit-neg g m (f .0), tt)), ((p, (f .0, tt)), tt)))
+    (tt, ((fit-neg g m (f .0), (n, tt)), ((p, (f .0, tt)), tt)))
 stages-fit g h m (k ∷ c) b f =
     let p = fit-pos g h (omega arith) in
     let n = fit-negsuc g h (omega arith) in
     let q = fit-pos g (suc h) (omega arith) in
     let o = fit-negsuc g (suc h) (omega arith) in
     let r = stages-fit g (suc h) k c (omega arith) (f .1) in
-    (((o, (p, (f .0, tt))), ((q, (n, tt)), ((q, (fit-neg g m (f .0), tt)), r .0))), ((n, (fit-neg g m (f .0), tt)), r .1))
+    (((o, (p, (f .0, tt))), ((q, (n, tt)), ((q, (fit-neg g m (f .0), tt)), r .0))), ((fit-neg g m (f .0), (n, tt)), r .1))
 
 counter-from-fits : (h : ℕ) (l m : ℤ) (c : Clause) → Fit-all h (l ∷ m ∷ c) → Fits (h + length (m ∷ c)) (counter-from h l (m ∷ c))
 counter-from-fits h l m c f =

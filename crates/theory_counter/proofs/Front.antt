@@ -1,37 +1,51 @@
 -- What stands before the counter clauses after stage 4 of a choice.
-use mathlib.Core.Path.{_≡_, refl, ap}
-use mathlib.Core.Logic.{⊎-elim}
-use mathlib.Core.List.{_∷_, _++_, map, map-append, append-assoc, List·Memᴰ, List·Memᴰ·head as here, List·Memᴰ·tail as there, List·Memᴰ·append-cases, Memᴰ·append-left}
-use Prim.Native.Nat.{_+_}
+use mathlib.Core.Path.{_≡_, ap}
+use mathlib.Core.List.{_∷_, _++_, map, map-append, append-assoc, List·Memᴰ, List·Memᴰ·head as here, List·Memᴰ·tail as there}
+use Prim.Native.Nat.{_+_, _-_, _*_, _≤_}
 use native.Mathlib.Omega.{arith}
 use lib.IntN.{ℤ, negℤ}
-use Rattle.definition.specs.Lists.{bit, count}
+use lib.ListN.{length, length-append, length-map}
+use Rattle.definition.specs.Lists.{bit, any, count}
 use Rattle.definition.specs.Literals.{Clause, Formula, same-set, holds}
 use Rattle.definition.specs.Standing.{addition, deletion, take-out}
 use Rattle.definition.specs.Events.{Choice}
 use Rattle.definition.specs.Clearing.{times}
-use Rattle.definition.specs.Counter.{pairs, missing-pairs, counter, take-choice, choice-lines, copies, stage-2, stage-3, size, lit, new}
+use Rattle.definition.specs.Counter.{pairs, counter, take-choice, choice-lines, copies}
 use Rattle.definition.specs.Reencoding.{lines-of}
 use Rattle.theory_base.proofs.Members.{proper-unopposed, holds-false}
-use Rattle.theory_base.specs.Clauses.{Same, Fits, Absent, Fit-all}
+use Rattle.theory_base.specs.Clauses.{Same, Proper, Fits, Absent, Fit-all}
 use Rattle.theory_base.proofs.Removal.{Removed, takes}
-use Rattle.theory_soundness.proofs.Times.{holds-yes, times-++, times-cons, times-none, none-times, times-removed}
+use Rattle.theory_soundness.proofs.Times.{holds-yes, times-cons, times-none, none-times, times-removed}
 use Rattle.theory_soundness.proofs.Removals.{Removes, next, times-removes, mem-removes, stay-in}
 use Rattle.theory_counter.specs.Ready.{Well-formed, Ready, Other}
-use Rattle.theory_base.proofs.Fitting.{fit-unneg}
-use Rattle.theory_counter.proofs.Pairs.{Pair, pair-form, pair-literal, pairs-absent, missing-mem, pairs-spread}
-use Rattle.theory_base.proofs.Loops.{count-++}
-use Rattle.theory_counter.proofs.Copies.{count-none, count-removed, all-removed, copy-mem}
-use Rattle.theory_counter.proofs.CounterLiterals.{counter-new}
-use Rattle.theory_counter.specs.Front.{paired, pair-copies, front}
+use Rattle.theory_counter.proofs.Pairs.{Pair, pair-form, pair-literal, pairs-absent, pairs-spread}
+use Rattle.theory_counter.proofs.Copies.{count-removed, all-removed, copy-mem, copies-length}
+use Rattle.theory_counter.proofs.CounterLiterals.{counter-length}
+use Rattle.theory_counter.specs.Front.{front}
 
-pub taken-lines-are : (F : Formula) (c : Clause) (k : Choice) → lines-of (take-choice F c k) ≡ map addition (missing-pairs F (k .literals) ++ counter k) ++ map deletion (k .literals ∷ pair-copies F k)
+pub taken-lines-are : (F : Formula) (c : Clause) (k : Choice) → lines-of (take-choice F c k) ≡ map addition (counter k) ++ map deletion (k .literals ∷ copies F (k .literals))
 unfolding lines-of take-choice choice-lines counter
 taken-lines-are F c k = simp (map-append, append-assoc)
 
-pub copies-mem : (F : Formula) (k : Choice) (d : Clause) → List·Memᴰ d (pair-copies F k) → List·Memᴰ d (pairs (k .literals))
+-- 4(k-1) + 1 lines, and one for each copy of a pair that stands
+pub taken-length : (F : Formula) (c : Clause) (k : Choice) → Proper (k .literals) → 2 ≤ length (k .literals) →
+    length (lines-of (take-choice F c k)) ≡ 4 * (length (k .literals) - 1) + 1 + count (λ d. any (λ p. same-set p d) (pairs (k .literals))) F
 unfolding copies
-copies-mem F k d i = copy-mem (λ p. count (same-set p) (paired F k ++ counter k)) (pairs (k .literals)) d i
+taken-length F c k p b =
+    let ds = k .literals ∷ copies F (k .literals) in
+    omega (
+      arith,
+      ap length (taken-lines-are F c k),
+      length-append (map addition (counter k)) (map deletion ds),
+      length-map (counter k) addition,
+      length-map ds deletion,
+      counter-length k b,
+      copies-length (pairs (k .literals)) F (pairs-spread (k .literals) p),
+    )
+
+pub copies-mem : (F : Formula) (k : Choice) (d : Clause) → List·Memᴰ d (copies F (k .literals)) → List·Memᴰ d (pairs (k .literals))
+unfolding copies
+copies-mem F k d i = copy-mem (λ p. count (same-set p) F) (pairs (k .literals)) d i
 
 module _ (F : Formula) (c : Clause) (k : Choice) (f : Fits (k .below) F) (r : Ready F c k) where
   -- the choice's literals are old ones, and each stands in no other clause
@@ -52,32 +66,18 @@ module _ (F : Formula) (c : Clause) (k : Choice) (f : Fits (k .below) F) (r : Re
   pair-of : (d : Clause) → List·Memᴰ d (pairs (k .literals)) → Pair (k .literals) d
   pair-of d i = pair-form (k .literals) (r .proper) d i
 
-  pub pair-fit : (d : Clause) → List·Memᴰ d (pairs (k .literals)) → Fit-all (k .below) d
-  pair-fit d i x j = fit-unneg (k .below) x (own-fit (negℤ x) (pair-literal (pair-of d i) x j))
-
   not-choice : (d : Clause) → Pair (k .literals) d → Same d (k .literals) → ⊥
   not-choice d q s = proper-unopposed (k .literals) (r .proper) (q .one) (q .one-in) (pair-literal q (q .one) (s .1 (q .one) (q .one-in)))
 
-  pub front-removes : Removes (paired F k) (k .literals ∷ pair-copies F k) (front F k)
+  pub front-removes : Removes F (k .literals ∷ copies F (k .literals)) (front F k)
   unfolding front copies
   front-removes =
-      next taken
-      (all-removed (λ p. count (same-set p) (paired F k ++ counter k)) (pairs (k .literals)) (take-out (k .literals) (paired F k)) (pairs-spread (k .literals) (r .proper)) (λ p i.
-      omega (
-        arith,
-        count-++ (same-set p) (paired F k) (counter k),
-        count-none p (counter k) (counter-new k (r .long) p (pair-fit p i)),
-        count-removed p (not-choice p (pair-of p i)) taken,
-      )))
-    where
-      taken : Removed (k .literals) (paired F k) (take-out (k .literals) (paired F k))
-      taken = takes (k .literals) c (paired F k) (Memᴰ·append-left (missing-pairs F (k .literals)) (r .standing)) (r .same)
+      next clause-taken
+      (all-removed (λ p. count (same-set p) F) (pairs (k .literals)) (take-out (k .literals) F) (pairs-spread (k .literals) (r .proper))
+      (λ p i. count-removed p (not-choice p (pair-of p i)) clause-taken))
 
   -- ---- how often a literal stands
-  missing-absent : (x : ℤ) → (List·Memᴰ (negℤ x) (k .literals) → ⊥) → Absent x (missing-pairs F (k .literals))
-  missing-absent x n d i = pairs-absent x (k .literals) (r .proper) n d (missing-mem F (k .literals) d i)
-
-  copies-absent : (x : ℤ) → (List·Memᴰ (negℤ x) (k .literals) → ⊥) → Absent x (pair-copies F k)
+  copies-absent : (x : ℤ) → (List·Memᴰ (negℤ x) (k .literals) → ⊥) → Absent x (copies F (k .literals))
   copies-absent x n d i = pairs-absent x (k .literals) (r .proper) n d (copies-mem F k d i)
 
   front-times : (x : ℤ) → (List·Memᴰ (negℤ x) (k .literals) → ⊥) → times x F ≡ bit (holds x (k .literals)) + times x (front F k)
@@ -85,10 +85,8 @@ module _ (F : Formula) (c : Clause) (k : Choice) (f : Fits (k .below) F) (r : Re
       omega (
         arith,
         times-removes x front-removes,
-        times-cons x (k .literals) (pair-copies F k),
-        times-++ x F (missing-pairs F (k .literals)),
-        times-none x (missing-pairs F (k .literals)) (missing-absent x n),
-        times-none x (pair-copies F k) (copies-absent x n),
+        times-cons x (k .literals) (copies F (k .literals)),
+        times-none x (copies F (k .literals)) (copies-absent x n),
       )
 
   pub front-own : (x : ℤ) → List·Memᴰ x (k .literals) → times x (front F k) ≡ 0
@@ -99,15 +97,12 @@ module _ (F : Formula) (c : Clause) (k : Choice) (f : Fits (k .below) F) (r : Re
 
   -- a clause with a literal of another variable stays
   pub front-kept : (x : ℤ) → Other k x → (d : Clause) → List·Memᴰ d F → List·Memᴰ x d → List·Memᴰ d (front F k)
-  front-kept x o d i j = stay-in x front-removes (Memᴰ·append-left (missing-pairs F (k .literals)) i) j away
+  front-kept x o d i j = stay-in x front-removes i j away
     where
-      away : Absent x (k .literals ∷ pair-copies F k)
+      away : Absent x (k .literals ∷ copies F (k .literals))
       away e (here q) y = o .not-in (rw q at y)
       away e (there q) y = copies-absent x (o .not-negated) e q y
 
   -- ---- variables
-  pub paired-fits : Fits (k .below) (paired F k)
-  paired-fits d i x j = ⊎-elim (λ q. f d q x j) (λ q. pair-fit d (missing-mem F (k .literals) d q) x j) (List·Memᴰ·append-cases F i)
-
   pub front-fits : Fits (k .below) (front F k)
-  front-fits d i = paired-fits d (mem-removes front-removes i)
+  front-fits d i = f d (mem-removes front-removes i)

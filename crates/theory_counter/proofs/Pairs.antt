@@ -1,21 +1,17 @@
--- The pairs of a clause: their literals, that they are different sets, and that all hold exactly where at most one literal is true.
-use mathlib.Core.Path.{_≡_, refl, sym, _∙_, ap}
+-- The pairs of a clause: their literals, that they are different sets, and that all hold where at most one literal is true.
+use mathlib.Core.Path.{_≡_, refl, sym, _∙_}
 use mathlib.Core.Logic.{_≢_, ⊎-elim}
-use mathlib.Core.Bool.{Bool, true, false, not}
 use mathlib.Core.List.{[], _∷_, map, List·Memᴰ, List·Memᴰ·head as here, List·Memᴰ·tail as there, Memᴰ·cast, List·Memᴰ·append-cases}
 use Prim.Native.Nat.{_+_, _≤_}
 use native.Mathlib.Omega.{arith}
 use lib.IntN.{ℤ, pos, negℤ, negℤ-negℤ}
 use Rattle.definition.specs.Lists.{bit, count}
 use Rattle.definition.specs.Literals.{Clause, Formula}
-use Rattle.definition.specs.Standing.{stands}
 use Rattle.definition.specs.Assignments.{Assignment, true-in, trues}
-use Rattle.definition.specs.Counter.{pairs, missing-pairs}
-use Rattle.theory_base.proofs.Tests.{of-true, of-false, by-test}
-use Rattle.theory_base.proofs.Members.{those-mem, mem-those, turn}
+use Rattle.definition.specs.Counter.{pairs}
+use Rattle.theory_base.proofs.Members.{turn}
 use Rattle.theory_base.specs.Clauses.{Same, Proper, Absent}
-use Rattle.theory_base.proofs.Trues.{negated, Sat, sat-at, sat-all, sat-++, sat-left, sat-right}
-use Rattle.theory_base.proofs.Removal.{stands-removed, sat-of}
+use Rattle.theory_base.proofs.Trues.{negated, Sat, sat-++}
 use Rattle.theory_soundness.proofs.Removals.{Spread, spread-++}
 
 -- ---- the pairs with one literal
@@ -58,7 +54,7 @@ pair-literal {c} r x i = go (rw (r .is) at i)
 pub pairs-absent : (x : ℤ) (c : Clause) → Proper c → (List·Memᴰ (negℤ x) c → ⊥) → Absent x (pairs c)
 pairs-absent x c p n d i j = n (pair-literal (pair-form c p d i) x j)
 
--- ---- at most one true literal: every pair holds, and the other way round
+-- ---- at most one true literal: every pair holds
 pairs-with-hold : (σ : Assignment) (l : ℤ) (c : Clause) → l ≢ pos 0 → Proper c → bit (true-in σ l) + trues σ c ≤ 1 → Sat σ (pairs-with l c)
 unfolding trues count
 pairs-with-hold σ l [] z p h = tt
@@ -68,33 +64,6 @@ pub pairs-hold : (σ : Assignment) (c : Clause) → Proper c → trues σ c ≤ 
 unfolding pairs trues count
 pairs-hold σ [] p h = tt
 pairs-hold σ (l ∷ c) p h = sat-++ σ (pairs-with l c) (pairs c) (pairs-with-hold σ l c (p .0) (p .3) h) (pairs-hold σ c (p .3) (omega arith))
-
-pairs-with-most : (σ : Assignment) (l : ℤ) (c : Clause) → l ≢ pos 0 → Proper c → Sat σ (pairs-with l c) → 1 ≤ bit (true-in σ l) → trues σ c ≡ 0
-unfolding trues count
-pairs-with-most σ l [] z p s h = refl
-pairs-with-most σ l (m ∷ c) z p s h = omega (arith, s .0, negated σ l z, negated σ m (p .0), pairs-with-most σ l c z (p .3) (s .1) h)
-
-pub pairs-most : (σ : Assignment) (c : Clause) → Proper c → Sat σ (pairs c) → trues σ c ≤ 1
-unfolding pairs trues count
-pairs-most σ [] p s = omega arith
-pairs-most σ (l ∷ c) p s = go (true-in σ l) refl (pairs-most σ c (p .3) (sat-right σ (pairs-with l c) (pairs c) s))
-  where
-    go : (b : Bool) → true-in σ l ≡ b → trues σ c ≤ 1 → trues σ (l ∷ c) ≤ 1
-    go true e ih = omega (arith, ap bit e, pairs-with-most σ l c (p .0) (p .3) (sat-left σ (pairs-with l c) (pairs c) s) (omega (arith, ap bit e)))
-    go false e ih = omega (arith, ap bit e)
-
--- ---- the missing pairs
-pub missing-mem : (F : Formula) (c d : Clause) → List·Memᴰ d (missing-pairs F c) → List·Memᴰ d (pairs c)
-unfolding missing-pairs
-missing-mem F c d i = those-mem (λ p. not (stands p F)) (pairs c) d i .0
-
--- with them every pair holds
-pub missing-all : (σ : Assignment) (F : Formula) (c : Clause) → Sat σ F → Sat σ (missing-pairs F c) → Sat σ (pairs c)
-unfolding missing-pairs
-missing-all σ F c s t =
-    sat-all σ (pairs c) (λ p i.
-    by-test (stands p F) (λ e. sat-of σ (stands-removed p F (of-true e)) s)
-    (λ e. sat-at σ (missing-pairs F c) t (mem-those (λ p. not (stands p F)) (pairs c) p i (of-false e))))
 
 -- ---- two pairs of a proper clause are different sets
 pairs-with-spread : (a : ℤ) (c : Clause) → (List·Memᴰ a c → ⊥) → Proper c → Spread (pairs-with a c)

@@ -1,11 +1,11 @@
 -- What stands before the counter clauses after stage 4 of a choice.
 use mathlib.Core.Bool.{not}
-use mathlib.Core.List.{[], _∷_, _++_}
+use mathlib.Core.List.{[], _∷_}
 use Rattle.definition.specs.Lists.{those}
 use Rattle.definition.specs.Literals.{Clause, Formula, same-set}
 use Rattle.definition.specs.Standing.{take-out}
 use Rattle.definition.specs.Events.{Choice}
-use Rattle.definition.specs.Counter.{pairs, missing-pairs, counter, copies}
+use Rattle.definition.specs.Counter.{pairs}
 
 -- without the copies of a clause
 abbrev pub drop-copies : Clause → Formula → Formula
@@ -16,12 +16,5 @@ abbrev pub drop-all : Formula → Formula → Formula
 drop-all F [] = F
 drop-all F (p ∷ ps) = drop-all (drop-copies p F) ps
 
--- the formula after stage 1, and the copies of pairs that stage 4 deletes
-abbrev pub paired : Formula → Choice → Formula
-paired F k = F ++ missing-pairs F (k .literals)
-
-abbrev pub pair-copies : Formula → Choice → Formula
-pair-copies F k = copies (paired F k ++ counter k) (k .literals)
-
 unfoldable pub front : Formula → Choice → Formula
-front F k = drop-all (take-out (k .literals) (paired F k)) (pairs (k .literals))
+front F k = drop-all (take-out (k .literals) F) (pairs (k .literals))

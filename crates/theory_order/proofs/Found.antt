@@ -12,7 +12,7 @@ use Rattle.definition.specs.Literals.{Clause, Formula}
 use Rattle.definition.specs.Clearing.{times}
 use Rattle.definition.specs.Events.{Choice}
 use Rattle.definition.specs.Counter.{last-new, counter}
-use Rattle.theory_base.proofs.Members.{pair-turned, own, far, natAbs-neg, holds-false}
+use Rattle.theory_base.proofs.Members.{same-clause, pair-turned, own, far, natAbs-neg, holds-false}
 use Rattle.theory_base.specs.Clauses.{Same, Proper}
 use Rattle.theory_base.proofs.Fitting.{Up-to}
 use Rattle.theory_soundness.proofs.Times.{times-++, holds-same}
@@ -87,7 +87,7 @@ deletions-spread h l m c a b =
 links-found : (h : ℕ) (m : ℤ) (c : Clause) → Found-all (link-deletions h (m ∷ c)) (stage-2-from h (m ∷ c) ++ stage-3-from h (m ∷ c))
 links-found h m [] = (
   (pos (suc h) ∷ m ∷ [], there (here refl), pair-turned m (pos (suc h))),
-  ((negsuc h ∷ negℤ m ∷ [], here refl, pair-turned (negℤ m) (negsuc h)), tt),
+  ((negℤ m ∷ negsuc h ∷ [], here refl, same-clause (negℤ m ∷ negsuc h ∷ [])), tt),
 )
 links-found h m (k ∷ c) =
     let A = stage-2-from (suc h) (k ∷ c) in (
@@ -95,7 +95,7 @@ links-found h m (k ∷ c) =
       (
         (pos (suc (suc h)) ∷ negℤ m ∷ [], there (there (here refl)), pair-turned (negℤ m) (pos (suc (suc h)))),
         (
-          (negsuc h ∷ negℤ m ∷ [], there (there (there (Memᴰ·append-right A (here refl)))), pair-turned (negℤ m) (negsuc h)),
+          (negℤ m ∷ negsuc h ∷ [], there (there (there (Memᴰ·append-right A (here refl)))), same-clause (negℤ m ∷ negsuc h ∷ [])),
           found-mono (link-deletions (suc h) (k ∷ c)) (A ++ stage-3-from (suc h) (k ∷ c)) (stage-2-from h (m ∷ k ∷ c) ++ stage-3-from h (m ∷ k ∷ c))
               (λ e i. there (there (there (⊎-elim (λ j. Memᴰ·append-left (stage-3-from h (m ∷ k ∷ c)) j) (λ j. Memᴰ·append-right A (there j)) (List·Memᴰ·append-cases A i)))))
               (links-found (suc h) k c),
@@ -117,17 +117,12 @@ links-times : (x : ℤ) (h : ℕ) (m : ℤ) (c : Clause) → natAbs x ≤ h →
     times x (stage-2-from h (m ∷ c)) + times x (stage-3-from h (m ∷ c)) ≡ times x (link-deletions h (m ∷ c))
 unfolding times count
 links-times x h m [] b =
-    omega (
-      arith,
-      holds-same x (m ∷ pos (suc h) ∷ []) (pos (suc h) ∷ m ∷ []) (pair-turned m (pos (suc h))),
-      holds-same x (negℤ m ∷ negsuc h ∷ []) (negsuc h ∷ negℤ m ∷ []) (pair-turned (negℤ m) (negsuc h)),
-    )
+    omega (arith, holds-same x (m ∷ pos (suc h) ∷ []) (pos (suc h) ∷ m ∷ []) (pair-turned m (pos (suc h))))
 links-times x h m (k ∷ c) b =
     omega (
       arith,
       holds-same x (m ∷ negsuc (suc h) ∷ pos (suc h) ∷ []) (negsuc (suc h) ∷ pos (suc h) ∷ m ∷ []) (rotated m (negsuc (suc h)) (pos (suc h))),
       holds-same x (negℤ m ∷ pos (suc (suc h)) ∷ []) (pos (suc (suc h)) ∷ negℤ m ∷ []) (pair-turned (negℤ m) (pos (suc (suc h)))),
-      holds-same x (negℤ m ∷ negsuc h ∷ []) (negsuc h ∷ negℤ m ∷ []) (pair-turned (negℤ m) (negsuc h)),
       ap bit (holds-false x (pos (suc (suc h)) ∷ negsuc h ∷ []) (not-in x (pos (suc (suc h)) ∷ negsuc h ∷ []) (far x (pos (suc (suc h))) (omega arith), (far x (negsuc h) (omega arith), tt)))),
       links-times x (suc h) k c (omega arith),
     )
@@ -145,11 +140,11 @@ deletions-times x h l m c b =
 
 -- ---- every new variable stands in a counter clause
 stage-3-new : (n h : ℕ) (m : ℤ) (c : Clause) → h < n → n ≤ h + length (m ∷ c) → Stands n (stage-3-from h (m ∷ c))
-stage-3-new n h m [] lo hi = (negsuc h ∷ negℤ m ∷ [], here refl, negsuc h, here refl, omega arith)
+stage-3-new n h m [] lo hi = (negℤ m ∷ negsuc h ∷ [], here refl, negsuc h, there (here refl), omega arith)
 stage-3-new n h m (k ∷ c) lo hi = go (ℕ-discrete (suc h) n) (λ b. stage-3-new n (suc h) k c b (omega arith))
   where
     go : Dec (suc h ≡ n) → (suc h < n → Stands n (stage-3-from (suc h) (k ∷ c))) → Stands n (stage-3-from h (m ∷ k ∷ c))
-    go (yes e) ih = (negsuc h ∷ negℤ m ∷ [], here refl, negsuc h, here refl, e)
+    go (yes e) ih = (negℤ m ∷ negsuc h ∷ [], here refl, negsuc h, there (here refl), e)
     go (no e) ih = let r = ih (omega arith) in (r .0, there (r .1), r .2, r .3, r .4)
 
 -- ---- in the definition's words

@@ -11,7 +11,7 @@ use Rattle.definition.specs.Literals.{Clause, Formula, with-first, opposed}
 use Rattle.definition.specs.Standing.{addition, deletion, literals, stands}
 use Rattle.definition.specs.Events.{Choice, Event}
 use Rattle.definition.specs.Clearing.{resolvent, clash-lines, pure-lines}
-use Rattle.definition.specs.Counter.{pairs, missing-pairs, size, counter, take-choice}
+use Rattle.definition.specs.Counter.{size, counter, take-choice}
 use Rattle.definition.specs.Order.{replacement-lines, replaced, deletions-of, literal-deletions}
 use Rattle.definition.specs.Reencoding.{lines-of}
 use Rattle.theory_base.proofs.Sums.{sum-++, sum-≤, sum-those, sum-map, sum-most, sum-least, count-length}
@@ -21,7 +21,7 @@ use Rattle.theory_room.proofs.Weights.{weight, added, added-deletions}
 use Rattle.theory_room.proofs.Replaced.{Weighs}
 use Rattle.theory_room.proofs.Lines.{Of-choice, taken, replacing, deleting}
 use Rattle.theory_room.proofs.Cleared.{Clearing, clash, pure-clause}
-use Rattle.theory_room.proofs.Rises.{taken-changes, counter-weight}
+use Rattle.theory_room.proofs.Rises.{risen, risen-taken, taken-changes, counter-weight}
 
 -- the numbers of a clause, its 0 counted
 abbrev pub numbers : Clause → ℕ
@@ -42,43 +42,20 @@ unfolding lines-of clash-lines pure-lines
 clearing-adds h e (clash c) p = one-addition h (not (opposed (resolvent c))) (resolvent c) (with-first (c .v) (c .one) ∷ with-first (negℤ (c .v)) (c .other) ∷ []) p
 clearing-adds h e (pure-clause l c) p = omega (arith, added-deletions numbers (with-first l c ∷ []))
 
--- ---- the pairs of 64 literals at most
-triangle : ℕ → ℕ
-triangle zero = 0
-triangle (suc n) = n + triangle n
-
-triangle-≤ : (m n : ℕ) → m ≤ n → triangle m ≤ triangle n
-unfolding triangle
-triangle-≤ zero n h = omega arith
-triangle-≤ (suc m) zero h = absurd (omega arith)
-triangle-≤ (suc m) (suc n) h = omega (arith, triangle-≤ m n (omega arith))
-
-pairs-numbers : (l : Clause) → sum-of numbers (pairs l) ≡ 3 * triangle (length l)
-unfolding pairs sum-of triangle weight
-pairs-numbers [] = refl
-pairs-numbers (a ∷ l) =
-    let pair : ℤ → Clause = λ b. negℤ a ∷ negℤ b ∷ [] in
-    omega (arith, pairs-numbers l, sum-++ numbers (map pair l) (pairs l), sum-map numbers pair l, sum-most 3 (λ _. 3) (λ _. omega arith) l, sum-least 3 (λ _. 3) (λ _. omega arith) l)
-
-missing-numbers : (c : Choice) (f : Formula) → size c ≤ 64 → sum-of numbers (missing-pairs f (c .literals)) ≤ 6_048
-unfolding missing-pairs size triangle
-missing-numbers c f s =
-    let t : triangle 64 ≡ 2_016 = refl in
-    omega (arith, pairs-numbers (c .literals), triangle-≤ (length (c .literals)) 64 s, sum-those numbers (λ p. not (stands p f)) (pairs (c .literals)))
-
 -- ---- the events of a choice
 -- a weight of at least 1 for each literal
 pub numbers-least : (w : ℤ → ℕ) → ((x : ℤ) → 1 ≤ w x) → (c : Clause) → numbers c ≤ weight 1 w c
 unfolding weight
 numbers-least w l c = omega (arith, sum-≤ (λ _. 1) w c (λ x _. l x))
 
-pub taken-adds : (w : ℤ → ℕ) → ((x : ℤ) → 1 ≤ w x) → (b : Clause) (c : Choice) → Weighs 1 w c → 2 ≤ size c → size c ≤ 64 → (f : Formula) → added numbers (lines-of (take-choice f b c)) ≤ 6_048 + (size c - 1) * 16
-taken-adds w l b c q s t f =
-    omega (arith, taken-changes numbers b c f .0, missing-numbers c f t, sum-≤ numbers (weight 1 w) (counter c) (λ d _. numbers-least w l d), counter-weight 1 1 w c q s)
+pub taken-adds : (w : ℤ → ℕ) → ((x : ℤ) → 1 ≤ w x) → (b : Clause) (c : Choice) → Weighs 1 w c → 2 ≤ size c → (f : Formula) → added numbers (lines-of (take-choice f b c)) ≤ (size c - 1) * 16
+taken-adds w l b c q s f =
+    omega (arith, taken-changes numbers b c f .0, sum-≤ numbers (weight 1 w) (counter c) (λ d _. numbers-least w l d), counter-weight 1 1 w c q s)
 
-pub choice-adds : (h : ℕ) (w : ℤ → ℕ) → ((x : ℤ) → 1 ≤ w x) → (b : Clause) (c : Choice) → Weighs 1 w c → 2 ≤ size c → size c ≤ 64 → (f : Formula) (e : Event) → Of-choice b c f e → All-lines (Proper-to h) (lines-of e) →
-    added numbers (lines-of e) ≤ suc h + 7_056
+-- the counter clauses, or one clause
+pub choice-adds : (h : ℕ) (w : ℤ → ℕ) → ((x : ℤ) → 1 ≤ w x) → (b : Clause) (c : Choice) → Weighs 1 w c → 2 ≤ size c → (f : Formula) (e : Event) → Of-choice b c f e → All-lines (Proper-to h) (lines-of e) →
+    added numbers (lines-of e) ≤ suc h + risen 16 e
 unfolding lines-of replacement-lines literal-deletions
-choice-adds h w l b c q s t f e taken p = omega (arith, taken-adds w l b c q s t f)
-choice-adds h w l b c q s t f e (replacing d m) p = omega (arith, one-addition h (not (opposed (replaced c d))) (replaced c d) (d ∷ []) p)
-choice-adds h w l b c q s t f e deleting p = omega (arith, added-deletions numbers (for-from 1 (size c) (deletions-of c)))
+choice-adds h w l b c q s f e taken p = omega (arith, taken-adds w l b c q s f, risen-taken 16 b c f)
+choice-adds h w l b c q s f e (replacing d m) p = omega (arith, one-addition h (not (opposed (replaced c d))) (replaced c d) (d ∷ []) p)
+choice-adds h w l b c q s f e deleting p = omega (arith, added-deletions numbers (for-from 1 (size c) (deletions-of c)))

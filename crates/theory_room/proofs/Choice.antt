@@ -51,7 +51,7 @@ module _ (g h : ℕ) where
       let q = negated-between 1 h m o in
       let p = two m (pos (suc n)) (o .0) (omega arith) (omega arith) in
       let r = two (negℤ m) (negsuc n) (q .0) (omega arith) (omega arith) in
-      (tt, (r .1, (p .1, tt)), (p .0, (r .0, tt)))
+      (tt, (r .0, (p .1, tt)), (p .0, (r .0, tt)))
   links-to n m (k ∷ c) a b f =
       let o = f .0 in
       let q = negated-between 1 h m o in
@@ -61,7 +61,7 @@ module _ (g h : ℕ) where
       let u = three-to g (negsuc (suc n)) (pos (suc n)) m (omega arith, omega arith) (omega arith, omega arith) (o .0, omega arith) (λ e. omega arith) (λ e. omega arith) (λ e. omega arith) in
       let v = three-to g m (negsuc (suc n)) (pos (suc n)) (o .0, omega arith) (omega arith, omega arith) (omega arith, omega arith) (λ e. omega arith) (λ e. omega arith) (λ e. omega arith) in
       let i = links-to (suc n) k c (omega arith) (omega arith) (f .1) in
-      ((u, (t .1, (p .1, i .0))), (r .1, i .1), (v, (p .0, (r .0, i .2))))
+      ((u, (t .1, (p .1, i .0))), (r .0, i .1), (v, (p .0, (r .0, i .2))))
 
 module _ (c : Choice) (u : Well-formed c) where
   w : Written c

@@ -34,7 +34,7 @@ use Rattle.theory_room.specs.Choices.{new-variables, as-choice, clearing
 use Rattle.theory_room.proofs.Cleared.{clearing-event, cleared-after}
 use Rattle.theory_room.proofs.Runs.{Run, choosing, events-are, standing-to, chosen-mem, arranges, parts-lead, run-raises, weight-after, few-new-variables, literal-weight, literal-most, literal-least, weighs, weight-most, weight-least}
 use Rattle.theory_room.proofs.Additions.{numbers, numbers-least, taken-adds}
-use Rattle.theory_room.proofs.Rises.{risen, clearing-risen, added-only-if, taken-changes, missing-copies, counter-weight, choice-raises, choices-risen}
+use Rattle.theory_room.proofs.Rises.{risen, clearing-risen, added-only-if, taken-changes, counter-weight, choice-raises, choices-risen}
 use Rattle.theory_counter.proofs.NewVariables.{below-new-least}
 
 -- ---- the weight of the clauses that hold a negated literal of l
@@ -126,7 +126,6 @@ module _ (b : Clause) (c : Choice) (u : Well-formed c) (f : Formula) (a : All-cl
         balance g i t (λ d m. a d m .0) (λ x m. taken-lines b c u f a x m .0),
         taken-changes g b c f .0,
         taken-changes g b c f .1,
-        missing-copies g c f,
         ap (sum-of g) (after-taken b c u f a),
         sum-++ g (before-counter c f) (counter c),
       )
@@ -265,10 +264,6 @@ module _ (s : Settings) (i : Input) (h : Run s i) (disjoint : Parted (chosen s i
           (λ x l y t q. parted-before cs c ds (rw e at disjoint) b k y (arranges-first b k .3 .0 y t) x (arranges s i h c mem-next .3 .0 x l) (sym q))
           heavier (replaced-weight 1 w z (weighs 1 (i .highest) n (order-of s i) (chosen s i) (arranges s i h) b (mem-first b k) j) 1) b f d o
 
-  next-size : size (next-choice s i cs c) ≤ 64
-  unfolding size
-  next-size = omega (arith, ordered-length (i .highest) (order-of s i) (chosen s i) (arranges s i h) c mem-next, chosen-mem s i c mem-next .2)
-
   next-new : new-variables cs + (size (next-choice s i cs c) - 1) ≤ new-variables (chosen s i)
   unfolding size new-variables sum-of
   next-new =
@@ -299,7 +294,7 @@ module _ (s : Settings) (i : Input) (h : Run s i) (disjoint : Parted (chosen s i
         first-raised heavier 16 (weight-of-set 1 w) (λ d m. run-raises s i h 1 1 d (first-event d m)),
         cleared-weight,
         events-add c k u F next-to t numbers heavier (weight-of-set 1 w) (λ d. omega (arith, numbers-least w least (replaced k d), replaced-weight 1 w k q 1 d)) (s .form),
-        taken-adds w least c k q two next-size F,
+        taken-adds w least c k q two F,
         first-raised (touched l heavier) 0 (touched-of-set l heavier (weight-of-set 1 w)) first-foreign,
         sum-≤ (touched l heavier) heavier (cleared (i .formula)) (λ d _. touched-≤ l heavier d),
         next-new,

@@ -11,7 +11,7 @@ use Rattle.definition.specs.Lists.{sum-of, only-if, for-each, for-from}
 use Rattle.definition.specs.Literals.{Clause, Formula, opposes, opposed}
 use Rattle.definition.specs.Standing.{addition, deletion, literals, after}
 use Rattle.definition.specs.Events.{Choice, Event, clause-replaced, literals-deleted}
-use Rattle.definition.specs.Counter.{below-new, last-new, missing-pairs, size, counter, take-choice}
+use Rattle.definition.specs.Counter.{below-new, last-new, size, counter, copies, take-choice}
 use Rattle.definition.specs.Order.{replacement-lines, replaced, replace, order-events, deletions-of, literal-deletions}
 use Rattle.definition.specs.Reencoding.{lines-of, lines, Form, counter-form, order-form, choice-events, choices-events}
 use Rattle.theory_base.proofs.Tests.{not-true, to-false}
@@ -22,10 +22,8 @@ use Rattle.theory_base.proofs.Clauses.{same-length}
 use Rattle.theory_base.proofs.Fitting.{Proper-to, proper-fit, proper-to-more}
 use Rattle.theory_base.proofs.Replay.{after-++, lines-++, after-additions, after-deletions, All-clauses, All-lines, all-after, all-lines-++, all-additions, all-deletions, all-events}
 use Rattle.theory_counter.specs.Ready.{Well-formed}
-use Rattle.theory_counter.proofs.Pairs.{missing-mem}
 use Rattle.theory_counter.proofs.CounterLiterals.{counter-new}
 use Rattle.theory_counter.proofs.Front.{taken-lines-are, copies-mem}
-use Rattle.theory_counter.specs.Front.{paired, pair-copies}
 use Rattle.theory_order.proofs.Order.{order-events-are}
 use Rattle.theory_room.proofs.Choice.{pairs-to, counter-clause, deletions-clause}
 use Rattle.theory_room.proofs.Replaced.{replaced-to}
@@ -34,7 +32,7 @@ use Rattle.theory_counter.proofs.NewVariables.{below-new-least, below-new-most,
 
 -- what stands before the counter clauses when a choice is taken where f stands
 unfoldable pub before-counter : Choice → Formula → Formula
-before-counter c f = after (paired f c) (map deletion (c .literals ∷ pair-copies f c))
+before-counter c f = after f (map deletion (c .literals ∷ copies f (c .literals)))
 
 -- the events of a choice
 pub data Of-choice (b : Clause) (c : Choice) (f : Formula) : Event → Type 0 where
@@ -50,38 +48,31 @@ module _ (b : Clause) (c : Choice) (u : Well-formed c) (f : Formula) (a : All-cl
   unfolding last-new
   low d q = proper-to-more (c .below) (last-new c) (omega arith) d q
 
-  missing-to : All-clauses (Proper-to (c .below)) (missing-pairs f (c .literals))
-  missing-to d m = pairs-to (c .below) (c .literals) own-to d (missing-mem f (c .literals) d m)
-
-  deleted-to : All-clauses (Proper-to (c .below)) (c .literals ∷ pair-copies f c)
+  deleted-to : All-clauses (Proper-to (c .below)) (c .literals ∷ copies f (c .literals))
   deleted-to d (here e) = rw e own-to
   deleted-to d (there m) = pairs-to (c .below) (c .literals) own-to d (copies-mem f c d m)
 
   before-counter-to : All-clauses (Proper-to (c .below)) (before-counter c f)
   unfolding before-counter
   before-counter-to =
-      all-after (Proper-to (c .below)) (paired f c) (map deletion (c .literals ∷ pair-copies f c))
-      (λ d m. ⊎-elim (a d) (missing-to d) (List·Memᴰ·append-cases f m)) (all-deletions (Proper-to (c .below)) (c .literals ∷ pair-copies f c) deleted-to)
+      let ds = c .literals ∷ copies f (c .literals) in
+      all-after (Proper-to (c .below)) f (map deletion ds) a (all-deletions (Proper-to (c .below)) ds deleted-to)
 
   pub after-taken : after f (lines-of (take-choice f b c)) ≡ before-counter c f ++ counter c
   unfolding before-counter
   after-taken =
-      let ds = c .literals ∷ pair-copies f c in
-      let new = missing-pairs f (c .literals) ++ counter c in
+      let ds = c .literals ∷ copies f (c .literals) in
       ap (after f) (taken-lines-are f b c)
-      ∙ after-++ f (map addition new) (map deletion ds)
-      ∙ ap (λ (Y : Formula). after Y (map deletion ds)) (after-additions f new ∙ sym (append-assoc f (missing-pairs f (c .literals)) (counter c)))
-      ∙ after-deletions (paired f c) (counter c) ds (λ d m x k. to-false (λ t. counter-new c (u .long) d (proper-fit (deleted-to d m)) x k (same-set-same d x t)))
+      ∙ after-++ f (map addition (counter c)) (map deletion ds)
+      ∙ ap (λ (Y : Formula). after Y (map deletion ds)) (after-additions f (counter c))
+      ∙ after-deletions f (counter c) ds (λ d m x k. to-false (λ t. counter-new c (u .long) d (proper-fit (deleted-to d m)) x k (same-set-same d x t)))
 
   pub taken-lines : All-lines (Proper-to (last-new c)) (lines-of (take-choice f b c))
   taken-lines =
       let P = Proper-to (last-new c) in
-      let ds = c .literals ∷ pair-copies f c in
-      let new = missing-pairs f (c .literals) ++ counter c in
+      let ds = c .literals ∷ copies f (c .literals) in
       rw (taken-lines-are f b c)
-      (all-lines-++ P (map addition new) (map deletion ds)
-      (all-additions P new (λ d m. ⊎-elim (λ k. low d (missing-to d k)) (counter-clause c u d) (List·Memᴰ·append-cases (missing-pairs f (c .literals)) m)))
-      (all-deletions P ds (λ d m. low d (deleted-to d m))))
+      (all-lines-++ P (map addition (counter c)) (map deletion ds) (all-additions P (counter c) (counter-clause c u)) (all-deletions P ds (λ d m. low d (deleted-to d m))))
 
   replacement-lines-to : (d : Clause) → Proper-to (c .below) d → All-lines (Proper-to (last-new c)) (replacement-lines d (replaced c d))
   unfolding replacement-lines literals

@@ -11,13 +11,12 @@ use Rattle.definition.specs.Literals.{Clause, Formula, same-set, without, with-
 use Rattle.definition.specs.Standing.{addition, deletion, stands, after}
 use Rattle.definition.specs.Events.{Choice, Event, clash-cleared, pure-deleted, choice-taken, clause-replaced, literals-deleted}
 use Rattle.definition.specs.Clearing.{resolvent, clash-lines, pure-lines}
-use Rattle.definition.specs.Counter.{last-new, pairs, missing-pairs, size, lit, new, stage-2, stage-3, counter, copies, take-choice}
+use Rattle.definition.specs.Counter.{last-new, size, lit, new, stage-2, stage-3, counter, copies, take-choice}
 use Rattle.definition.specs.Order.{replacement-lines, replaced, replace, order-events, deletions-of, literal-deletions}
 use Rattle.definition.specs.Reencoding.{lines-of, lines, Form, counter-form, order-form, choice-events, choices-events}
 use Rattle.theory_base.proofs.Loops.{only-if-mem, for-each-mem, count-mem}
 use Rattle.theory_base.proofs.Sums.{sum-++, sum-none, sum-for-from, sum-copies}
 use Rattle.theory_counter.proofs.Front.{taken-lines-are}
-use Rattle.theory_counter.specs.Front.{paired, pair-copies}
 use Rattle.theory_base.proofs.Members.{mem-those, same-same-set, same-clause}
 use Rattle.theory_room.proofs.Weights.{weight, gained, lost, added, deleted, added-additions, added-deletions, deleted-additions, deleted-deletions}
 use Rattle.theory_room.proofs.Choice.{lit-mem}
@@ -30,11 +29,11 @@ use Rattle.theory_room.proofs.Cleared.{Clearing, clash, pure-clause}
 unfoldable pub risen : ℕ → Event → ℕ
 risen r (clash-cleared c) = 0
 risen r (pure-deleted l c) = 0
-risen r (choice-taken b c missing copies) = (size c - 1) * r
+risen r (choice-taken b c copies) = (size c - 1) * r
 risen r (clause-replaced old result) = 0
 risen r (literals-deleted c) = 0
 
-risen-taken : (r : ℕ) (b : Clause) (c : Choice) (f : Formula) → risen r (take-choice f b c) ≡ (size c - 1) * r
+pub risen-taken : (r : ℕ) (b : Clause) (c : Choice) (f : Formula) → risen r (take-choice f b c) ≡ (size c - 1) * r
 unfolding risen take-choice
 risen-taken r b c f = refl
 
@@ -61,25 +60,16 @@ clearing-raises u w r e (clash c) =
 clearing-raises u w r e (pure-clause l c) = omega arith
 
 -- ---- a choice
--- the missing pairs stand among the copies that are deleted
-pub missing-copies : (g : Clause → ℕ) (c : Choice) (f : Formula) → sum-of g (missing-pairs f (c .literals)) ≤ sum-of g (pair-copies f c)
-unfolding missing-pairs copies
-missing-copies g c f =
-    let F = paired f c ++ counter c in
-    sum-copies g (λ p. not (stands p f)) (λ p. count (same-set p) F) (pairs (c .literals))
-    (λ p m t. count-mem (same-set p) F p (Memᴰ·append-left (counter c) (Memᴰ·append-right f (mem-those (λ p. not (stands p f)) (pairs (c .literals)) p m t))) (same-same-set p p (same-clause p)))
-
 -- what taking a choice adds and deletes
 pub taken-changes : (g : Clause → ℕ) (b : Clause) (c : Choice) (f : Formula) → let xs = lines-of (take-choice f b c) in
-    (added g xs ≡ sum-of g (missing-pairs f (c .literals)) + sum-of g (counter c)) × (deleted g xs ≡ g (c .literals) + sum-of g (pair-copies f c))
+    (added g xs ≡ sum-of g (counter c)) × (deleted g xs ≡ g (c .literals) + sum-of g (copies f (c .literals)))
 unfolding sum-of
 taken-changes g b c f =
-    let ds = c .literals ∷ pair-copies f c in
-    let new = missing-pairs f (c .literals) ++ counter c in
-    let xs = map addition new in
+    let ds = c .literals ∷ copies f (c .literals) in
+    let xs = map addition (counter c) in
     let e = taken-lines-are f b c in (
-      omega (arith, ap (added g) e, sum-++ (gained g) xs (map deletion ds), added-additions g new, added-deletions g ds, sum-++ g (missing-pairs f (c .literals)) (counter c)),
-      omega (arith, ap (deleted g) e, sum-++ (lost g) xs (map deletion ds), deleted-additions g new, deleted-deletions g ds),
+      omega (arith, ap (added g) e, sum-++ (gained g) xs (map deletion ds), added-additions g (counter c), added-deletions g ds),
+      omega (arith, ap (deleted g) e, sum-++ (lost g) xs (map deletion ds), deleted-additions g (counter c), deleted-deletions g ds),
     )
 
 -- the most that a counter clause of two literals weighs
@@ -126,9 +116,9 @@ module _ (u a : ℕ) (w : ℤ → ℕ) (c : Choice) (h : Weighs a w c) where
   stage-3-weight : 2 ≤ size c → sum-of (weight u w) (stage-3 c) ≤ (size c - 1) * unit u a + unit u a
   unfolding stage-3 weight sum-of
   stage-3-weight s =
-      let xs = for-from 2 (size c - 1) (λ i. (negℤ (new c (i - 1)) ∷ negℤ (lit c i) ∷ []) ∷ []) in
+      let xs = for-from 2 (size c - 1) (λ i. (negℤ (lit c i) ∷ negℤ (new c (i - 1)) ∷ []) ∷ []) in
       let q =
-      sum-for-from (weight u w) (unit u a) 2 (size c - 1) (λ i. (negℤ (new c (i - 1)) ∷ negℤ (lit c i) ∷ []) ∷ [])
+      sum-for-from (weight u w) (unit u a) 2 (size c - 1) (λ i. (negℤ (lit c i) ∷ negℤ (new c (i - 1)) ∷ []) ∷ [])
       (λ i b k. omega (arith, negated-new-weight a w c h (i - 1) (omega arith), negated-lit-weight i (omega arith) (omega arith)))
       in
       omega (
@@ -149,7 +139,7 @@ module _ (u a : ℕ) (w : ℤ → ℕ) (c : Choice) (h : Weighs a w c) where
 pub choice-raises : (g : Clause → ℕ) (r : ℕ) (b : Clause) (c : Choice) → sum-of g (counter c) ≤ (size c - 1) * r → ((d : Clause) → g (replaced c d) ≤ g d) →
     (f : Formula) (e : Event) → Of-choice b c f e → added g (lines-of e) ≤ deleted g (lines-of e) + risen r e
 unfolding lines-of replacement-lines literal-deletions risen sum-of
-choice-raises g r b c h k f e taken = omega (arith, taken-changes g b c f .0, taken-changes g b c f .1, missing-copies g c f, risen-taken r b c f)
+choice-raises g r b c h k f e taken = omega (arith, taken-changes g b c f .0, taken-changes g b c f .1, risen-taken r b c f)
 choice-raises g r b c h k f e (replacing d m) =
     let fine = not (opposed (replaced c d)) in
     let xs = only-if fine (addition (replaced c d) ∷ []) in

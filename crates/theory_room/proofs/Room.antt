@@ -28,25 +28,23 @@ use Rattle.theory_room.proofs.Runs.{Run, top, arranges, chosen-mem, log
 
 module _ (s : Settings) (i : Input) (h : Run s i) where
   -- what one event adds
-  event-adds : (e : Event) → List·Memᴰ e (events s i) → added numbers (lines-of e) ≤ suc (top s i) + 7_056
-  unfolding log lines size
+  event-adds : (e : Event) → List·Memᴰ e (events s i) → added numbers (lines-of e) ≤ suc (top s i) + risen 16 e
+  unfolding log lines
   event-adds e m = by-part (event-of s i h e m)
     where
       to : All-lines (Proper-to (top s i)) (lines-of e)
       to x k = log-to s i h x (mem-for-each (events s i) lines-of e x m k)
 
-      by-part : Clearing e ⊎ From-choices (i .highest) (order-of s i) (chosen s i) e → added numbers (lines-of e) ≤ suc (top s i) + 7_056
+      by-part : Clearing e ⊎ From-choices (i .highest) (order-of s i) (chosen s i) e → added numbers (lines-of e) ≤ suc (top s i) + risen 16 e
       by-part (inl c) = omega (arith, clearing-adds (top s i) e c to)
       by-part (inr (from-choice n c f b k o)) =
-          let l = ordered-length (i .highest) (order-of s i) (chosen s i) (arranges s i h) c k in
-          let t = chosen-mem s i c k .2 in
           choice-adds (top s i) (literal-weight 1 (chosen s i)) (literal-least 1 (chosen s i)) c (as-choice n (order-of s i) c)
           (weighs 1 (i .highest) n (order-of s i) (chosen s i) (arranges s i h) c k b)
-          (ordered-size (i .highest) (order-of s i) (chosen s i) (arranges s i h) c k n) (omega arith) f e o to
+          (ordered-size (i .highest) (order-of s i) (chosen s i) (arranges s i h) c k n) f e o to
 
   -- what stands before an event, and all that the event adds
   pub event-room : (xs ys : List Event) (e : Event) → events s i ≡ xs ++ (e ∷ ys) → numbers-of (after (i .formula) (lines xs)) + added numbers (lines-of e) ≤ workspace-need i
-  unfolding numbers-of workspace-need
+  unfolding numbers-of workspace-need sum-of
   event-room xs ys e q =
       let f = i .formula in
       let F = after f (lines xs) in

@@ -22,7 +22,6 @@ use Rattle.theory_base.proofs.Replay.{All-clauses, after-++, lines-++}
 use Rattle.theory_soundness.proofs.Removals.{mem-removes}
 use Rattle.theory_clearing.proofs.Cleared.{cleared-facts}
 use Rattle.theory_counter.specs.Ready.{Ready}
-use Rattle.theory_counter.proofs.Pairs.{missing-mem}
 use Rattle.theory_counter.proofs.Front.{own-fit, front-removes}
 use Rattle.theory_counter.specs.Front.{front}
 use Rattle.theory_counter.proofs.Counter.{after-choice}
@@ -96,9 +95,7 @@ module _ (F : Formula) (c : Clause) (k : Choice) (f : Fits (k .below) F) (r : Re
       )
 
   front-proper-of : Proper-all F → Proper-all (front F k)
-  front-proper-of p d m =
-      ⊎-elim (p d) (λ i. pairs-to (k .below) (k .literals) (r .proper, λ x j. own-fit F c k f r x j .1) d (missing-mem F (k .literals) d i) .0)
-      (List·Memᴰ·append-cases F (mem-removes (front-removes F c k f r) m))
+  front-proper-of p d m = p d (mem-removes (front-removes F c k f r) m)
 
 -- the variables are within the tables' reach
 few-variables : {i : Input} → Accepted input-limits i → i .highest ≤ 8_000

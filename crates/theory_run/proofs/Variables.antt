@@ -11,7 +11,7 @@ use Rattle.definition.specs.Literals.{Clause, Formula, literals-of}
 use Rattle.definition.specs.Standing.{Line, addition, deletion, literals, highest-in, after}
 use Rattle.definition.specs.Reading.{Input}
 use Rattle.definition.specs.Events.{Choice}
-use Rattle.definition.specs.Counter.{last-new, missing-pairs, counter, take-choice}
+use Rattle.definition.specs.Counter.{last-new, counter, copies, take-choice}
 use Rattle.definition.specs.Order.{order-events}
 use Rattle.definition.specs.Alignment.{choice-literals}
 use Rattle.definition.specs.Reencoding.{lines-of, lines, Form, counter-form, order-form, Settings, choice-events, choices-events, cleared, chosen, log, highest-used}
@@ -22,7 +22,6 @@ use Rattle.theory_base.proofs.Fitting.{Proper-to, literal-between, cons-to, pro
 use Rattle.theory_base.proofs.Replay.{lines-++}
 use Rattle.theory_counter.specs.Ready.{Well-formed}
 use Rattle.theory_counter.proofs.Front.{taken-lines-are}
-use Rattle.theory_counter.specs.Front.{pair-copies}
 use Rattle.theory_order.proofs.Found.{counter-stands}
 use Rattle.theory_room.specs.Choices.{clearing, new-variables, as-choice, order-of, used-after}
 use Rattle.theory_room.proofs.Lines.{Arranges, ordered-formed, others, used-least}
@@ -76,12 +75,11 @@ unfolding last-new
 taken-highest c k u f =
     let l = u .long in
     let r = counter-stands k u (last-new k) (omega arith) (omega arith) in
-    let missing = missing-pairs f (k .literals) in
     omega (
       arith,
       ap highest-in (taken-lines-are f c k),
-      highest-in-++ (map addition (missing ++ counter k)) (map deletion (k .literals ∷ pair-copies f k)),
-      added-highest (r .0) (r .2) (missing ++ counter k) (Memᴰ·append-right missing (r .1)) (r .3),
+      highest-in-++ (map addition (counter k)) (map deletion (k .literals ∷ copies f (k .literals))),
+      added-highest (r .0) (r .2) (counter k) (r .1) (r .3),
       r .4,
     )
 

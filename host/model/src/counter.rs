@@ -18,7 +18,7 @@ pub fn choice_places(standing: &Standing) -> Vec<usize> {
 }
 
 /// The pairs -li -lj, by i then j.
-fn pairs(choice: &[i32]) -> Vec<Vec<i32>> {
+pub fn pairs(choice: &[i32]) -> Vec<Vec<i32>> {
     let mut pairs = Vec::new();
     for (i, &first) in choice.iter().enumerate() {
         for &second in &choice[i + 1..] {
@@ -41,33 +41,42 @@ fn counter_clauses(choice: &[i32], steps: &[i32]) -> Vec<Vec<i32>> {
         clauses.push(vec![s(i), -l(i)]);
     }
     for i in 2..=k {
-        clauses.push(vec![-s(i - 1), -l(i)]);
+        clauses.push(vec![-l(i), -s(i - 1)]);
     }
     clauses.push(vec![s(k - 1), l(k)]);
     clauses
 }
 
+/// Deletes every standing copy of each pair.
+fn delete_pairs(encoding: &mut Encoding, choice: &[i32]) {
+    let pairs = pairs(choice);
+    let mut standing = 0;
+    for pair in &pairs {
+        let mut copies = 0;
+        while encoding.standing.find(pair).is_some() {
+            encoding.delete(pair.clone());
+            copies += 1;
+        }
+        standing += usize::from(copies > 0);
+        encoding.tally.repeated_pairs += usize::from(copies > 1);
+    }
+    let tally = &mut encoding.tally;
+    if standing == 0 {
+        tally.unpaired += 1;
+    } else if standing < pairs.len() {
+        tally.partly_paired += 1;
+    } else {
+        tally.fully_paired += 1;
+    }
+}
+
 /// Takes one choice. The answer is the places of its counter clauses.
 pub fn take_choice(encoding: &mut Encoding, choice: &[i32], steps: &[i32]) -> Vec<usize> {
-    for pair in pairs(choice) {
-        if encoding.standing.find(&pair).is_none() {
-            encoding.add(pair, &[]);
-        }
-    }
-    let own: Vec<usize> = counter_clauses(choice, steps)
+    let own = counter_clauses(choice, steps)
         .into_iter()
         .map(|clause| encoding.add(clause, &[]))
         .collect();
     encoding.delete(choice.to_vec());
-    for pair in pairs(choice) {
-        let mut copies = 0;
-        while encoding.standing.find(&pair).is_some() {
-            encoding.delete(pair.clone());
-            copies += 1;
-        }
-        if copies > 1 {
-            encoding.tally.repeated_pairs += 1;
-        }
-    }
+    delete_pairs(encoding, choice);
     own
 }

@@ -24,6 +24,12 @@ pub struct Tally {
     pub free_choices: usize,
     /// A free choice that a clash added.
     pub joined_free_choices: usize,
+    /// A choice of which no pair stands.
+    pub unpaired: usize,
+    /// A choice of which some pairs stand, but not all.
+    pub partly_paired: usize,
+    /// A choice of which all pairs stand.
+    pub fully_paired: usize,
     /// A pair of which stage 4 deleted several copies.
     pub repeated_pairs: usize,
     /// A clause with several negated literals of one choice.
@@ -34,6 +40,18 @@ pub struct Tally {
     /// Aligned, with links that chain.
     pub chained_links: usize,
     pub unalignable: usize,
+}
+
+impl Tally {
+    /// A clash writes three lines, or two if no resolvent is added.
+    pub fn clash_lines(&self) -> usize {
+        3 * self.clashes - self.double_clashes
+    }
+
+    /// The lines before the first choice is taken.
+    pub fn clearing_lines(&self) -> usize {
+        self.clash_lines() + self.pure
+    }
 }
 
 pub struct Encoding {

@@ -1,6 +1,7 @@
 //! Seeded random formulas, made so that the remarkable cases occur often, and
 //! random damage for texts.
 
+use crate::counter::pairs;
 use crate::encoding::Encoding;
 use crate::reading::Formula;
 use crate::standing::holds_opposites;
@@ -248,6 +249,26 @@ pub fn freed(random: &mut Random, mut formula: Formula) -> Formula {
     let free = some_literals_of_choices(random, &formula);
     let forbids = |clause: &Vec<i32>| free.iter().any(|literal| clause.contains(&-literal));
     formula.clauses.retain(|clause| !forbids(clause));
+    formula
+}
+
+/// The formula with more pairs of its choices: of each choice some or all, a few in both orders.
+pub fn paired(random: &mut Random, mut formula: Formula) -> Formula {
+    for (_, choice) in Encoding::run(&formula, Form::Counter, Arrangement::AsListed).choices {
+        let mut pairs = pairs(&choice);
+        random.shuffle(&mut pairs);
+        if random.chance(50) {
+            pairs.truncate(random.below(pairs.len()));
+        }
+        for mut pair in pairs {
+            formula.clauses.push(pair.clone());
+            if random.chance(15) {
+                pair.reverse();
+                formula.clauses.push(pair);
+            }
+        }
+    }
+    random.shuffle(&mut formula.clauses);
     formula
 }
 

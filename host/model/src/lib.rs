@@ -1,4 +1,5 @@
-//! A plain model of document 01 (choice clauses, counters and the way back) and of M-100 and M-112 in document 02.
+//! A plain model of document 01 (choice clauses, counters and the way back) and of M-100, M-112 and M-130 in
+//! document 02.
 //!
 //! Three calls: [`reencode`], [`read_back`] and [`walk_back`]. Each gives its
 //! result or the number of its refusal.

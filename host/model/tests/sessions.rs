@@ -1,9 +1,9 @@
-//! The sessions listed in document 01, two of them as M-100 has them, the example vectors of its readings, and
-//! the choices with a pure literal of M-112.
+//! The sessions listed in document 01, two of them as M-100 has them, the example vectors of its readings,
+//! the choices with a pure literal of M-112, and the short logs of M-130.
 
 use model::generator::{all_but_one, clashing_at_1, forbidding};
 use model::reading::{read_formula, INPUT_LIMITS};
-use model::sessions::{F, JOINED_E, SIX};
+use model::sessions::{COPIES, F, JOINED_E, SIX};
 use model::texts::{count_true, formula_text};
 use model::{read_back, reencode, walk_back, Arrangement, Form, Reencoded};
 use std::slice::from_ref;
@@ -84,23 +84,36 @@ fn sessions_a_to_e() {
     }
 }
 
+const F_LOG: &str = "-7 1 0\n7 -1 0\n-8 7 2 0\n8 -7 0\n8 -2 0\n-9 8 3 0\n9 -8 0\n9 -3 0\n\
+                     -10 9 4 0\n10 -9 0\n10 -4 0\n-2 -7 0\n-3 -8 0\n-4 -9 0\n-5 -10 0\n10 5 0\n\
+                     d 1 2 3 4 5 0\nd -1 -2 0\n";
+
+/// What the log of G has after that of F.
+const G_LOG: &str = "-7 6 0\nd -1 6 0\n7 -8 6 0\nd -2 6 0\n8 -9 6 0\nd -3 6 0\n\
+                     9 -10 -6 0\nd -4 -6 0\n10 -6 0\nd -5 -6 0\n\
+                     d 1 -7 0\nd -1 7 0\nd 2 -8 7 0\nd -2 8 0\nd -2 -7 0\n\
+                     d 3 -9 8 0\nd -3 9 0\nd -3 -8 0\nd 4 -10 9 0\nd -4 10 0\nd -4 -9 0\n\
+                     d 5 10 0\nd -5 -10 0\n";
+
 #[test]
 fn session_f_counter_form() {
     let f = encode(F, Form::Counter);
-    assert_eq!((f.choices, f.highest, f.clauses, f.lines), (1, 10, 21, 36));
+    assert_eq!((f.choices, f.highest, f.clauses, f.lines), (1, 10, 21, 18));
+    assert_eq!(String::from_utf8_lossy(&f.log), F_LOG);
 }
 
 #[test]
 fn sessions_g_and_h_order_form() {
     let g = encode(F, Form::Order);
-    assert_eq!((g.choices, g.highest, g.clauses, g.lines), (1, 10, 8, 59));
+    assert_eq!((g.choices, g.highest, g.clauses, g.lines), (1, 10, 8, 41));
+    assert_eq!(String::from_utf8_lossy(&g.log), [F_LOG, G_LOG].concat());
     assert_eq!(String::from_utf8_lossy(&g.formula), G_OUT);
     let (variables, clauses) = read_back(&g.formula, 1 << 40).unwrap();
     assert_eq!((variables, clauses.len()), (10, 8));
     assert_eq!(clauses[3], vec![-7, 6]);
 
     let answer = "s SATISFIABLE\nv 1 2 3 4 5 -6 -7 -8 -9 10 0\n";
-    let line = walk(F, &g.log, 59, answer).unwrap();
+    let line = walk(F, &g.log, 41, answer).unwrap();
     assert_eq!(line, "v -1 -2 -3 4 -5 -6 0\n");
 }
 
@@ -186,26 +199,25 @@ fn tallies_of(text: &str) -> [Tally; 2] {
 }
 
 /// The tallies of V variables, lines before the choice, a choice of k literals and clauses of one of its negated
-/// literals, none of which is a pair. Counter form adds the pairs in stage 1 and deletes them in stage 4, k(k-1)
-/// lines, adds 4(k-1) clauses and deletes the choice. Order form replaces each of the other clauses in two lines.
-/// Then it deletes the clauses with li, k of them, with -li si and with -li -s(i-1), k-1 of each; the k-2 clauses
+/// literals, none of which is a pair. Counter form adds 4(k-1) clauses and deletes the choice. Order form replaces
+/// each of the other clauses in two lines. Then it deletes the clauses with li, k of them, with -li si and with -li -s(i-1), k-1 of each; the k-2 clauses
 /// si -s(i-1) stay.
 fn tallies_of_choice(variables: usize, before: usize, k: usize, others: usize) -> [Tally; 2] {
     let highest = variables + k - 1;
-    let lines = before + k * (k - 1) + 4 * (k - 1) + 1;
+    let lines = before + 4 * (k - 1) + 1;
     [
         (1, highest, others + 4 * (k - 1), lines),
         (1, highest, others + k - 2, lines + 2 * others + 3 * k - 2),
     ]
 }
 
-/// Counter form writes 15 pairs, 20 counter clauses, the deletion of the choice and those of 15 pairs. Order form
-/// replaces nothing and deletes 6 + 5 + 5 clauses.
+/// Counter form writes 20 counter clauses and the deletion of the choice. Order form replaces nothing and deletes
+/// 6 + 5 + 5 clauses.
 #[test]
 fn six_literals_that_nothing_forbids() {
     let [counter, order] = tallies_of(SIX);
-    assert_eq!(counter, (1, 11, 20, 15 + 20 + 1 + 15));
-    assert_eq!(order, (1, 11, 4, 51 + 16));
+    assert_eq!(counter, (1, 11, 20, 20 + 1));
+    assert_eq!(order, (1, 11, 4, 21 + 16));
     assert_eq!([counter, order], tallies_of_choice(6, 0, 6, 0));
     let formula = encode(SIX, Form::Order).formula;
     assert_eq!(
@@ -415,12 +427,14 @@ fn unalignable_choices_keep_their_orders() {
 
 #[test]
 fn copies_of_pairs_are_all_deleted() {
-    let text = "p cnf 5 9\n1 2 3 4 5 0\n-1 -2 0\n-1 -3 0\n-2 -1 0\n-3 -1 0\n\
-                -4 0\n-4 0\n-5 0\n-5 0\n";
-    let result = encode(text, Form::Counter);
-    assert_eq!((result.lines, result.log.len()), (37, 319));
-    let log = String::from_utf8(result.log).unwrap();
-    assert!(log.contains("d 1 2 3 4 5 0\nd -1 -2 0\nd -1 -2 0\nd -1 -3 0\nd -1 -3 0\nd -1 -4 0\n"));
+    let result = encode(COPIES, Form::Counter);
+    assert_eq!((result.lines, result.log.len()), (21, 175));
+    assert_eq!(
+        String::from_utf8_lossy(&result.log),
+        "-6 1 0\n6 -1 0\n-7 6 2 0\n7 -6 0\n7 -2 0\n-8 7 3 0\n8 -7 0\n8 -3 0\n-9 8 4 0\n9 -8 0\n9 -4 0\n\
+         -2 -6 0\n-3 -7 0\n-4 -8 0\n-5 -9 0\n9 5 0\n\
+         d 1 2 3 4 5 0\nd -1 -2 0\nd -1 -2 0\nd -1 -3 0\nd -1 -3 0\n"
+    );
 }
 
 #[test]
@@ -461,7 +475,7 @@ fn short_workspace_and_buffer_of_walk_back() {
         .count() as u64;
     let needed = 4 * (17 + 7 + log_numbers) + 4 * 10 + 64;
     let line = "v -1 -2 -3 4 -5 -6 0\n";
-    let call = |workspace, room| walk_back(F.as_bytes(), &g.log, 59, answer, workspace, room);
+    let call = |workspace, room| walk_back(F.as_bytes(), &g.log, 41, answer, workspace, room);
     assert_eq!(call(needed, line.len()), Ok(line.as_bytes().to_vec()));
     assert_eq!(call(needed - 1, line.len() - 1), Err(11));
     assert_eq!(call(needed, line.len() - 1), Err(14));

@@ -1,8 +1,7 @@
-use mathlib.Core.Path.{sym}
+use mathlib.Core.Path.{refl, sym}
 use denote.Ref.{now}
-use borrow.Author.Needs.{sfits-of}
+use borrow.Author.Needs.{sfits-of, needs}
 use Rattle.pairs.proofs.Lines.{written-as, room-as, cell-is}
-use borrow.Author.Needs.{needs}
 use Rattle.pairs.proofs.record_cell.Statement.{statement}
 use Rattle.pairs.proofs.record_cell.Tie as tie
 
@@ -15,31 +14,42 @@ add-entry-at c = search needs
 entry-at-requires : tie.Need-entry-at-requires
 entry-at-requires c κs = search needs
 
-line-times-requires : tie.Need-line-times-requires
-line-times-requires c κs = search needs
+mul-negated : tie.Need-mul-negated
+mul-negated c = search needs
 
-mul-record-times : tie.Need-mul-record-times
-mul-record-times c = search needs
+shared-slice-copy-out-negated : tie.Need-shared-slice-copy-out-negated
+shared-slice-copy-out-negated c = search needs
 
-shared-slice-copy-out-record-times : tie.Need-shared-slice-copy-out-record-times
-shared-slice-copy-out-record-times c = search needs
+negated-requires : tie.Need-negated-requires
+negated-requires c κs = search needs
 
-mul-record-times-2 : tie.Need-mul-record-times-2
-mul-record-times-2 c = search needs
+mul-negated-2 : tie.Need-mul-negated-2
+mul-negated-2 c = search needs
 
-shared-slice-copy-out-record-times-2 : tie.Need-shared-slice-copy-out-record-times-2
-shared-slice-copy-out-record-times-2 c = search needs
+shared-slice-copy-out-negated-2 : tie.Need-shared-slice-copy-out-negated-2
+shared-slice-copy-out-negated-2 c = search needs
+
+negated-requires-2 : tie.Need-negated-requires-2
+negated-requires-2 c κs = search needs
+
+slice-aggregate-record-times : tie.Need-slice-aggregate-record-times
+slice-aggregate-record-times c = search needs
 
 record-times-requires : tie.Need-record-times-requires
 record-times-requires c κs =
-    let back = c .before .before .before in let line-times = back .line-times in
+    let back = c .before .before in let negated2 = back .negated2 in
+    let back = back .before in let negated-arg2 = back .negated-arg2 in
+    let back = back .before in let negated = back .negated in
+    let back = back .before in let negated-arg = back .negated-arg in
     let back = back .before in let entry-at = back .entry-at in
-    let start = back .before .before .before in
-    room-as (start .pre .1)
-    (sym
-    (cell-is (start .args .is-deletion) (now (start .args .counts)) (now (start .args .choice)) (start .args .i)
-    (start .args .j) (entry-at .ensures) (line-times .ensures) (sfits-of (c .before .record-times-arg2 .given))
-    (sfits-of (c .record-times-arg3 .given))))
+    let start = back .before .before .before in (
+      refl,
+      room-as (start .pre .1)
+          (sym
+          (cell-is (now (start .args .counts)) (now (start .args .choice)) (start .args .i) (start .args .j)
+          (entry-at .ensures) (sfits-of (negated-arg .given)) (sfits-of (negated-arg2 .given)) (sfits-of (negated .ok))
+          (sfits-of (negated2 .ok)) (negated .ensures) (negated2 .ensures))),
+    )
 
 same-length : tie.Need-same-length
 same-length c = search needs
@@ -47,15 +57,16 @@ same-length c = search needs
 returns : tie.Need-returns
 returns c =
     let back = c .before .before in let record-times = back .record-times in
-    let back = back .before in let record-times-arg3 = back .record-times-arg3 in
-    let back = back .before in let record-times-arg2 = back .record-times-arg2 in
-    let back = back .before .before in let line-times = back .line-times in
+    let back = back .before .before .before in let negated2 = back .negated2 in
+    let back = back .before in let negated-arg2 = back .negated-arg2 in
+    let back = back .before in let negated = back .negated in
+    let back = back .before in let negated-arg = back .negated-arg in
     let back = back .before in let entry-at = back .entry-at in
     let start = back .before .before .before in (
       written-as (record-times .ensures .0)
-          (cell-is (start .args .is-deletion) (now (start .args .counts)) (now (start .args .choice)) (start .args .i)
-          (start .args .j) (entry-at .ensures) (line-times .ensures) (sfits-of (record-times-arg2 .given))
-          (sfits-of (record-times-arg3 .given))),
+          (cell-is (now (start .args .counts)) (now (start .args .choice)) (start .args .i) (start .args .j)
+          (entry-at .ensures) (sfits-of (negated-arg .given)) (sfits-of (negated-arg2 .given)) (sfits-of (negated .ok))
+          (sfits-of (negated2 .ok)) (negated .ensures) (negated2 .ensures)),
       record-times .ensures .1,
     )
 
@@ -66,11 +77,13 @@ record-cell-spec =
     mul-entry-at
     add-entry-at
     entry-at-requires
-    line-times-requires
-    mul-record-times
-    shared-slice-copy-out-record-times
-    mul-record-times-2
-    shared-slice-copy-out-record-times-2
+    mul-negated
+    shared-slice-copy-out-negated
+    negated-requires
+    mul-negated-2
+    shared-slice-copy-out-negated-2
+    negated-requires-2
+    slice-aggregate-record-times
     record-times-requires
     same-length
     returns)

@@ -12,17 +12,17 @@ use Rattle.pairs.proofs.record_pairs.Statement.{statement}
 use Rattle.pairs.proofs.record_pairs.Tie as tie
 
 abbrev Inv-loop : tie.InvT-loop
-Inv-loop log₀ is-deletion counts choice q₀ i₀ log q i = (i ≤ length choice) × (q .end ≡ q₀ .end) × Written (for-from 0 (i - 0) (row-lines is-deletion counts choice)) log₀ q₀ log q
+Inv-loop log₀ counts choice q₀ i₀ log q i = (i ≤ length choice) × (q .end ≡ q₀ .end) × Written (for-from 0 (i - 0) (row-lines counts choice)) log₀ q₀ log q
 
 abbrev μ-loop : tie.MeasureT-loop
-μ-loop log₀ is-deletion counts choice q₀ i₀ log q i = length choice - i
+μ-loop log₀ counts choice q₀ i₀ log q i = length choice - i
 
 loop-holds : tie.Need-loop-holds Inv-loop μ-loop
 loop-holds c =
     let start = c .before .before in (
       omega arith,
       refl,
-      written-start 0 0 (row-lines (start .args .is-deletion) (now (start .args .counts)) (now (start .args .choice)))
+      written-start 0 0 (row-lines (now (start .args .counts)) (now (start .args .choice)))
           (now (start .args .log)) (start .args .p) (omega arith),
     )
 
@@ -33,7 +33,7 @@ record-row-requires c κs =
     let start = back .before .before .before in (
       (loop-test .taken, start .pre .0),
       room-turn 0 (length (now (start .args .choice))) (loop .i)
-          (row-lines (start .args .is-deletion) (now (start .args .counts)) (now (start .args .choice))) (omega arith)
+          (row-lines (now (start .args .counts)) (now (start .args .choice))) (omega arith)
           (omega (arith, loop-test .taken)) (start .pre .1) (loop .inv .2),
     )
 
@@ -57,7 +57,7 @@ loop-again c =
       omega (arith, loop-test .taken),
       record-row .ensures .1 ∙ loop .inv .1,
       written-turn 0 (loop .i)
-          (row-lines (start .args .is-deletion) (now (start .args .counts)) (now (start .args .choice))) (omega arith)
+          (row-lines (now (start .args .counts)) (now (start .args .choice))) (omega arith)
           (loop .inv .2) (record-row .ensures .0),
     )
 
@@ -72,7 +72,7 @@ returns c =
       written-as (loop .inv .2)
           (ap
           (λ (k : ℕ). for-from 0 k
-          (row-lines (start .args .is-deletion) (now (start .args .counts)) (now (start .args .choice)))) e),
+          (row-lines (now (start .args .counts)) (now (start .args .choice)))) e),
       loop .inv .1,
     )
 

@@ -12,10 +12,10 @@ use Rattle.pairs.proofs.record_row.Statement.{statement}
 use Rattle.pairs.proofs.record_row.Tie as tie
 
 abbrev Inv-loop : tie.InvT-loop
-Inv-loop log₀ is-deletion counts choice i q₀ j₀ log q j = (suc i ≤ j) × (j ≤ length choice) × (q .end ≡ q₀ .end) × Written (for-from (suc i) (j - suc i) (cell-lines is-deletion counts choice i)) log₀ q₀ log q
+Inv-loop log₀ counts choice i q₀ j₀ log q j = (suc i ≤ j) × (j ≤ length choice) × (q .end ≡ q₀ .end) × Written (for-from (suc i) (j - suc i) (cell-lines counts choice i)) log₀ q₀ log q
 
 abbrev μ-loop : tie.MeasureT-loop
-μ-loop log₀ is-deletion counts choice i q₀ j₀ log q j = length choice - j
+μ-loop log₀ counts choice i q₀ j₀ log q j = length choice - j
 
 add-j : tie.Need-add-j Inv-loop μ-loop
 add-j c =
@@ -29,7 +29,7 @@ loop-holds c =
       omega (arith, start .pre .0 .0),
       refl,
       written-start (suc (start .args .i)) _
-          (cell-lines (start .args .is-deletion) (now (start .args .counts)) (now (start .args .choice))
+          (cell-lines (now (start .args .counts)) (now (start .args .choice))
           (start .args .i)) (now (start .args .log)) (start .args .p) (omega arith),
     )
 
@@ -40,7 +40,7 @@ record-cell-requires c κs =
     let start = back .before .before .before in (
       (omega (arith, loop .inv .0), loop-test .taken, start .pre .0 .1),
       room-turn (suc (start .args .i)) (length (now (start .args .choice)) - suc (start .args .i)) (loop .j)
-          (cell-lines (start .args .is-deletion) (now (start .args .counts)) (now (start .args .choice))
+          (cell-lines (now (start .args .counts)) (now (start .args .choice))
           (start .args .i)) (loop .inv .0) (omega (arith, loop .inv .0, loop-test .taken)) (start .pre .1)
           (loop .inv .3),
     )
@@ -66,7 +66,7 @@ loop-again c =
       omega (arith, loop-test .taken),
       record-cell .ensures .1 ∙ loop .inv .2,
       written-turn (suc (start .args .i)) (loop .j)
-          (cell-lines (start .args .is-deletion) (now (start .args .counts)) (now (start .args .choice))
+          (cell-lines (now (start .args .counts)) (now (start .args .choice))
           (start .args .i)) (loop .inv .0) (loop .inv .3) (record-cell .ensures .0),
     )
 
@@ -81,7 +81,7 @@ returns c =
       written-as (loop .inv .3)
           (ap
           (λ (k : ℕ). for-from (suc (start .args .i)) (k - suc (start .args .i))
-          (cell-lines (start .args .is-deletion) (now (start .args .counts)) (now (start .args .choice))
+          (cell-lines (now (start .args .counts)) (now (start .args .choice))
           (start .args .i))) e),
       loop .inv .2,
     )

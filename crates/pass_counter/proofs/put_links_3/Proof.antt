@@ -34,7 +34,7 @@ put-link-3-requires c κs =
     let back = c .before .before in let loop-test = back .loop-test in
     let back = back .before in let loop = back .loop in
     let start = back .before .before in (
-      (start .pre .0 .0, loop .inv .0, loop-test .taken),
+      (start .pre .0 .0, loop .inv .0, omega (arith, loop-test .taken)),
       grow-as
           (grow-turn 2 (length (now (start .args .choice)) - 1) (loop .i)
           (link-3 (choice-of (now (start .args .choice)) (start .args .below))) (loop .inv .0)

@@ -1,8 +1,7 @@
-use mathlib.Core.Path.{refl, sym, _∙_}
+use mathlib.Core.Path.{refl, sym}
 use denote.Ref.{now}
 use lib.Seq.{length-take-le, length-front}
-use Rattle.progress.proofs.Growing.{grown-length}
-use Rattle.pass_counter.proofs.Taking.{places-there, store-short, first-room, counter-room, line-room, last-room, choice-taken}
+use Rattle.pass_counter.proofs.Taking.{places-there, store-short, counter-room, line-room, last-room, choice-taken}
 use borrow.Author.Needs.{needs}
 use Rattle.pass_counter.proofs.take_choice.Statement.{statement}
 use Rattle.pass_counter.proofs.take_choice.Tie as tie
@@ -32,80 +31,57 @@ clear-store-requires c κs =
     let start = c .before .before .before .before .before .before .before in
     ((start .pre .good .formed, store-short (start .pre)), refl)
 
-slice-aggregate-record-pairs : tie.Need-slice-aggregate-record-pairs
-slice-aggregate-record-pairs c = search needs
-
-record-pairs-requires : tie.Need-record-pairs-requires
-record-pairs-requires c κs =
-    let back = c .before .before .before .before in let clear-store = back .clear-store in
-    let back = back .before .before .before .before .before in let set-places = back .set-places in
-    let start = back .before .before .before in (
-      start .pre .small .few,
-      first-room (start .pre) (places-there (start .pre) (set-places .ensures)) (clear-store .ensures),
-    )
-
 put-counter-requires : tie.Need-put-counter-requires
 put-counter-requires c κs =
-    let back = c .before .before .before .before in let record-pairs = back .record-pairs in
-    let back = back .before .before .before .before .before in let clear-store = back .clear-store in
+    let back = c .before .before .before .before in let clear-store = back .clear-store in
     let back = back .before .before .before .before .before in let set-places = back .set-places in
     let start = back .before .before .before in (
       (start .pre .small, start .pre .ready .long),
       counter-room (start .pre) (places-there (start .pre) (set-places .ensures)) (clear-store .ensures)
-          (record-pairs .ensures .0) (record-pairs .ensures .1)
           (length-front (now (start .args .work)) (clear-store .last .0) (start .args .p .end) (clear-store .kept .0)),
     )
 
 record-line-requires : tie.Need-record-line-requires
 record-line-requires c κs =
     let back = c .before .before .before .before in let put-counter = back .put-counter in
-    let back = back .before .before .before .before .before in let record-pairs = back .record-pairs in
     let back = back .before .before .before .before .before in let clear-store = back .clear-store in
     let back = back .before .before .before .before .before in let set-places = back .set-places in
     let start = back .before .before .before in
     line-room (start .pre) (places-there (start .pre) (set-places .ensures)) (clear-store .ensures)
-    (record-pairs .ensures .0) (record-pairs .ensures .1) (put-counter .ensures)
+    (put-counter .ensures)
 
-slice-aggregate-record-pairs-2 : tie.Need-slice-aggregate-record-pairs-2
-slice-aggregate-record-pairs-2 c = search needs
+slice-aggregate-record-pairs : tie.Need-slice-aggregate-record-pairs
+slice-aggregate-record-pairs c = search needs
 
-record-pairs-requires-2 : tie.Need-record-pairs-requires-2
-record-pairs-requires-2 c κs =
+record-pairs-requires : tie.Need-record-pairs-requires
+record-pairs-requires c κs =
     let back = c .before .before .before .before in let record-line = back .record-line in
     let back = back .before .before .before .before .before in let put-counter = back .put-counter in
-    let back = back .before .before .before .before .before in let record-pairs = back .record-pairs in
     let back = back .before .before .before .before .before in let clear-store = back .clear-store in
     let back = back .before .before .before .before .before in let set-places = back .set-places in
     let start = back .before .before .before in (
       start .pre .small .few,
       last-room (start .pre) (places-there (start .pre) (set-places .ensures)) (clear-store .ensures)
-          (record-pairs .ensures .0) (record-pairs .ensures .1) (put-counter .ensures) (record-line .ensures .0)
-          (record-line .ensures .1),
+          (put-counter .ensures) (record-line .ensures .0),
     )
 
 same-length : tie.Need-same-length
-same-length c =
-    let back = c .before .before .before .before .before .before .before .before .before .before .before .before in let put-counter = back .put-counter in
-    let back = back .before .before .before .before .before .before .before .before .before .before in let clear-store = back .clear-store in
-    let start = back .before .before .before .before .before .before .before .before in
-    grown-length (put-counter .ensures)
-    ∙ length-front (now (start .args .work)) (clear-store .last .0) (start .args .p .end) (clear-store .kept .0)
+same-length c = search needs
 
 same-length-2 : tie.Need-same-length-2
 same-length-2 c = search needs
 
 returns : tie.Need-returns
 returns c =
-    let back = c .before .before in let record-pairs2 = back .record-pairs2 in
+    let back = c .before .before in let record-pairs = back .record-pairs in
     let back = back .before .before .before .before .before in let record-line = back .record-line in
     let back = back .before .before .before .before .before in let put-counter = back .put-counter in
-    let back = back .before .before .before .before .before in let record-pairs = back .record-pairs in
     let back = back .before .before .before .before .before in let clear-store = back .clear-store in
     let back = back .before .before .before .before .before in let set-places = back .set-places in
     let start = back .before .before .before in
     choice-taken (start .pre) (places-there (start .pre) (set-places .ensures)) (clear-store .ensures)
-    (record-pairs .ensures .0) (record-pairs .ensures .1) (put-counter .ensures) (record-line .ensures .0)
-    (record-line .ensures .1) (record-pairs2 .ensures .0) (record-pairs2 .ensures .1) refl (clear-store .kept .0)
+    (put-counter .ensures) (record-line .ensures .0) (record-pairs .ensures .0) (record-line .ensures .1)
+    (record-pairs .ensures .1) refl (clear-store .kept .0)
 
 pub take-choice-spec : {M : Type 1} → statement M
 take-choice-spec =
@@ -118,12 +94,10 @@ take-choice-spec =
     slice-aggregate-clear-store-2
     slice-aggregate-clear-store-3
     clear-store-requires
-    slice-aggregate-record-pairs
-    record-pairs-requires
     put-counter-requires
     record-line-requires
-    slice-aggregate-record-pairs-2
-    record-pairs-requires-2
+    slice-aggregate-record-pairs
+    record-pairs-requires
     same-length
     same-length-2
     returns)

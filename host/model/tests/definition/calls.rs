@@ -3,7 +3,8 @@
 use crate::rows::{Call, Reencode, Text, WalkBack, PLENTY};
 use model::encoding::Encoding;
 use model::generator::{
-    answer_after, damage, damage_log, freed, noise, one_of_three_joined, planned, Joined, Random,
+    answer_after, clauses_apart, damage, damage_log, freed, noise, one_of_three_joined, paired,
+    planned, Joined, Random,
 };
 use model::reading::Formula;
 use model::texts::log_text;
@@ -29,6 +30,18 @@ pub fn small_freed(random: &mut Random) -> Joined {
     let (variables, clauses) = (random.between(5, 12), random.between(1, 14));
     let formula = planned(random, variables, clauses);
     let formula = freed(random, formula);
+    one_of_three_joined(random, formula)
+}
+
+/// Choices of which pairs stand, among other clauses or alone.
+pub fn small_paired(random: &mut Random) -> Joined {
+    let formula = if random.chance(50) {
+        let (variables, clauses) = (random.between(5, 12), random.between(1, 8));
+        planned(random, variables, clauses)
+    } else {
+        clauses_apart(random.between(5, 6), 1)
+    };
+    let formula = paired(random, formula);
     one_of_three_joined(random, formula)
 }
 

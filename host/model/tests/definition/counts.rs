@@ -1,13 +1,24 @@
 //! How often each case occurs in the rows.
 
 use crate::rows::{Call, Row};
-use model::encoding::Encoding;
+use model::encoding::{Encoding, Tally};
 use model::generator::clauses_with_repeat;
 use model::reading::{read_formula, READ_BACK_LIMITS};
 use model::Arrangement;
 use std::collections::BTreeMap;
 
 pub type Counts = BTreeMap<String, usize>;
+
+/// A case, and how often it occurs in a run.
+type Case = (&'static str, fn(&Tally) -> usize);
+
+/// Choices with no, some and all pairs, and pairs in several copies.
+pub const PAIRS: [Case; 4] = [
+    ("choices with no pair", |tally| tally.unpaired),
+    ("choices with some pairs", |tally| tally.partly_paired),
+    ("choices with all pairs", |tally| tally.fully_paired),
+    ("pairs in several copies", |tally| tally.repeated_pairs),
+];
 
 pub fn counts(rows: &[Row]) -> Counts {
     let mut counts = Counts::new();
@@ -67,6 +78,9 @@ fn count_reencoding(counts: &mut Counts, row: &Row) {
         format!("{form:?}{aligned}, free choices"),
         free_choices,
     );
+    for (what, kind) in PAIRS {
+        count(counts, format!("{form:?}, {what}"), kind(&run.tally));
+    }
     let matters = usize::from(row.alignment_matters());
     count(counts, format!("{form:?}, alignment matters"), matters);
     for (place, choice) in &run.choices {
@@ -89,7 +103,6 @@ fn count_run(counts: &mut Counts, run: &Encoding) {
         ("empty resolvents", tally.empty_resolvents),
         ("pure deletions", tally.pure),
         ("free choices joined by clashes", tally.joined_free_choices),
-        ("pairs in several copies", tally.repeated_pairs),
         ("several negated literals", tally.several_negated),
         ("replaced by nothing", tally.replaced_by_nothing),
         ("chained links", tally.chained_links),
@@ -107,17 +120,28 @@ fn count_walk_back(counts: &mut Counts, row: &Row) {
     count(counts, format!("walk-back, {log}"), 1);
     let changed = usize::from(row.is_changed());
     count(counts, format!("walk-back, {log}, answer changed"), changed);
-    let has_free = usize::from(row.free_choices() > 0);
+    let tally = row.tally();
+    let has_free = usize::from(tally.free_choices > 0);
     count(
         counts,
         format!("walk-back, {log}, free choice, answer changed"),
         changed * has_free,
     );
+    for (log, is_so) in [
+        ("whole log", !row.is_cut()),
+        ("cut in choices", row.is_cut_in_choices()),
+    ] {
+        for (what, kind) in PAIRS {
+            let times = usize::from(is_so) * kind(&tally);
+            count(counts, format!("walk-back, {log}, {what}"), times);
+        }
+    }
 }
 
 fn count_choose(counts: &mut Counts, row: &Row) {
     if matches!(row.call, Call::Choose { .. }) {
-        count(counts, "choose, free choices", row.free_choices());
-        count(counts, "choose, pure deletions", row.pure_deletions());
+        let tally = row.tally();
+        count(counts, "choose, free choices", tally.free_choices);
+        count(counts, "choose, pure deletions", tally.pure);
     }
 }

@@ -2,12 +2,13 @@
 
 use crate::calls::{
     choice_of_20, free_clause, linked_choices, reading_back, reencoding, small, small_freed,
-    unique_clause, walking_back, ARRANGEMENTS, FORMS,
+    small_paired, unique_clause, walking_back, ARRANGEMENTS, FORMS,
 };
+use crate::counts::PAIRS;
 use crate::rows::{Call, Row, READER};
 use model::encoding::Encoding;
 use model::generator::{clauses_with_repeat, joined, text_of, Random};
-use model::reading::{read_formula, INPUT_LIMITS};
+use model::reading::{read_formula, INPUT_LIMITS, READ_BACK_LIMITS};
 use model::{Arrangement, Form};
 
 pub fn rows(seed: u64) -> Vec<Row> {
@@ -30,6 +31,9 @@ pub fn rows(seed: u64) -> Vec<Row> {
         drawn.free_choices(form);
     }
     drawn.free_sizes();
+    for form in FORMS {
+        drawn.pairs(form);
+    }
     drawn.rows
 }
 
@@ -40,6 +44,13 @@ struct Drawn {
 
 fn has(row: &Row, what: impl Fn(&Encoding) -> bool) -> bool {
     row.run().is_some_and(|run| what(&run))
+}
+
+fn reads_back_without_a_clause(row: &Row) -> bool {
+    let Call::ReadBack { text, .. } = &row.call else {
+        return false;
+    };
+    read_formula(text, &READ_BACK_LIMITS).is_ok_and(|formula| formula.left_out > 0)
 }
 
 /// The clause of the size is written with a repeat, and no clause is left out.
@@ -120,6 +131,7 @@ impl Drawn {
     fn read_backs(&mut self, form: Form) {
         let draw = |random: &mut Random| reading_back(small(random).formula, random, form, 0);
         self.add(10, draw, |_| true);
+        self.add(2, draw, reads_back_without_a_clause);
     }
 
     /// The whole log of a choice of 20, written and walked back.
@@ -199,7 +211,7 @@ impl Drawn {
             });
         }
         let draw = |random: &mut Random| walking_back(small_freed(random), random, form, 0);
-        let is_wanted = |row: &Row| row.free_choices() > 0 && row.is_changed();
+        let is_wanted = |row: &Row| row.tally().free_choices > 0 && row.is_changed();
         self.add(2, draw, |row| is_wanted(row) && !row.is_cut());
         self.add(3, draw, |row| is_wanted(row) && row.is_cut());
     }
@@ -211,6 +223,22 @@ impl Drawn {
                 text: text_of(&free_clause(random, size)),
             };
             self.add(1, draw, |_| true);
+        }
+    }
+
+    /// Choices of which no, some and all pairs stand, and pairs in several copies, written and walked back.
+    fn pairs(&mut self, form: Form) {
+        for (_, kind) in PAIRS {
+            for arrangement in ARRANGEMENTS {
+                let draw = |random: &mut Random| {
+                    reencoding(small_paired(random), random, form, arrangement, 0)
+                };
+                self.add(2, draw, |row| has(row, |run| kind(&run.tally) > 0));
+            }
+            let draw = |random: &mut Random| walking_back(small_paired(random), random, form, 0);
+            let is_wanted = |row: &Row| row.number() == 0 && kind(&row.tally()) > 0;
+            self.add(1, draw, |row| is_wanted(row) && !row.is_cut());
+            self.add(2, draw, |row| is_wanted(row) && row.is_cut_in_choices());
         }
     }
 }

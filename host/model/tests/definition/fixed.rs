@@ -1,5 +1,5 @@
-//! Rows that are not drawn: the limits, repeated and opposed literals, clauses with a pure literal, and all
-//! formulas of a small kind.
+//! Rows that are not drawn: the limits, repeated and opposed literals, clauses with a pure literal, pairs in
+//! several copies, and all formulas of a small kind.
 
 use crate::calls::FORMS;
 use crate::rows::{Call, Reencode, Row, Text, WalkBack, PLENTY};
@@ -7,7 +7,7 @@ use model::encoding::Encoding;
 use model::generator::{clashing_at_1, clauses_apart, text_of};
 use model::log_reading::read_kept_lines;
 use model::reading::{read_formula, INPUT_LIMITS};
-use model::sessions::{JOINED_E, SIX};
+use model::sessions::{COPIES, JOINED_E, SIX};
 use model::texts::{formula_text, log_text};
 use model::walk_back::workspace_needed;
 use model::{Arrangement, Form};
@@ -121,12 +121,18 @@ fn clashing(a: i32, b: i32) -> Text {
     formula_text(a + b - 1, &clashing_at_1(a, b))
 }
 
+/// The log, and the number of its lines.
+fn log_in(form: Form, text: &[u8]) -> (String, usize) {
+    let formula = read_formula(text, &INPUT_LIMITS).expect("in order");
+    let lines = Encoding::run(&formula, form, Arrangement::AsListed).log;
+    let log = String::from_utf8(log_text(&lines)).expect("in ASCII");
+    (log, lines.len())
+}
+
 /// Over the whole log in order form.
 fn walking_back_ordered(text: &[u8], answer: &str) -> Call {
-    let formula = read_formula(text, &INPUT_LIMITS).expect("in order");
-    let log = Encoding::run(&formula, Form::Order, Arrangement::AsListed).log;
-    let text_of_log = String::from_utf8(log_text(&log)).expect("in ASCII");
-    walking_back(PLENTY, text, &text_of_log, log.len(), answer)
+    let (log, lines) = log_in(Form::Order, text);
+    walking_back(PLENTY, text, &log, lines, answer)
 }
 
 /// Clauses of which each literal is pure: choices, and clauses that are deleted.
@@ -144,6 +150,20 @@ pub fn free() -> Vec<Row> {
     // 2 and 3 are true, but the counter variables choose 4
     calls.push(walking_back_ordered(six, "2 3 10 11 "));
     calls.push(walking_back_ordered(&joined, "2 3 9 10 "));
+    calls.into_iter().map(Row::of).collect()
+}
+
+/// A choice with pairs in several copies, its log cut in stages 3 and 4. With 1 true each cut is walked back. With 2
+/// and 3 true, of which the pair does not stand, only the cuts before -3 -7 are.
+pub fn pairs() -> Vec<Row> {
+    let text = COPIES.as_bytes();
+    let (log, lines) = log_in(Form::Counter, text);
+    let mut calls = FORMS.map(|form| reencoding_in(form, PLENTY, text)).to_vec();
+    for kept in 11..=lines {
+        for answer in ["1 6 7 8 9 ", "2 3 7 8 9 "] {
+            calls.push(walking_back(PLENTY, text, &log, kept, answer));
+        }
+    }
     calls.into_iter().map(Row::of).collect()
 }
 

@@ -34,6 +34,7 @@ fn definition_and_model_agree() {
     rows.extend(fixed::limits());
     rows.extend(fixed::joined());
     rows.extend(fixed::free());
+    rows.extend(fixed::pairs());
     let counts = counts(&rows);
     println!("{} rows: {counts:#?}", rows.len());
     assert!(rows.len() >= 500);
@@ -80,7 +81,22 @@ fn assert_cases(counts: &Counts) {
         ("walk-back, cut log, free choice, answer changed", 6),
         ("choose, free choices", 3),
         ("choose, pure deletions", 2),
-        ("pairs in several copies", 10),
+        ("Counter, choices with no pair", 4),
+        ("Counter, choices with some pairs", 4),
+        ("Counter, choices with all pairs", 4),
+        ("Counter, pairs in several copies", 10),
+        ("Order, choices with no pair", 4),
+        ("Order, choices with some pairs", 4),
+        ("Order, choices with all pairs", 4),
+        ("Order, pairs in several copies", 10),
+        ("walk-back, whole log, choices with no pair", 2),
+        ("walk-back, whole log, choices with some pairs", 2),
+        ("walk-back, whole log, choices with all pairs", 2),
+        ("walk-back, whole log, pairs in several copies", 2),
+        ("walk-back, cut in choices, choices with no pair", 4),
+        ("walk-back, cut in choices, choices with some pairs", 4),
+        ("walk-back, cut in choices, choices with all pairs", 4),
+        ("walk-back, cut in choices, pairs in several copies", 4),
         ("several negated literals", 50),
         ("replaced by nothing", 50),
         ("walk-back, whole log, answer changed", 20),

@@ -1,7 +1,7 @@
 //! Rows: a call, and what the model gives for it.
 
 use model::answer::read_answer;
-use model::encoding::Encoding;
+use model::encoding::{Encoding, Tally};
 use model::generator::repeats_in_choices;
 use model::reading::{read_formula, INPUT_LIMITS};
 use model::texts::{answer_text, formula_text, log_text, Line};
@@ -132,30 +132,18 @@ impl Row {
         }
     }
 
-    /// The run in counter form of the formula that is reencoded, walked back to or chosen from.
-    fn plain_run(&self) -> Option<Encoding> {
+    /// The tally in counter form of the formula that is reencoded, walked back to or chosen from.
+    pub fn tally(&self) -> Tally {
         let text = match &self.call {
             Call::Reencode(call) => &call.text,
             Call::WalkBack(call) => &call.text,
             Call::Choose { text } => text,
-            Call::ReadBack { .. } => return None,
+            Call::ReadBack { .. } => return Tally::default(),
         };
-        let formula = read_formula(text, &INPUT_LIMITS).ok()?;
-        Some(Encoding::run(
-            &formula,
-            Form::Counter,
-            Arrangement::AsListed,
-        ))
-    }
-
-    /// How many choices of the formula have a pure literal.
-    pub fn free_choices(&self) -> usize {
-        self.plain_run().map_or(0, |run| run.tally.free_choices)
-    }
-
-    /// How many clauses of the formula are deleted for a pure literal.
-    pub fn pure_deletions(&self) -> usize {
-        self.plain_run().map_or(0, |run| run.tally.pure)
+        read_formula(text, &INPUT_LIMITS).map_or_else(
+            |_| Tally::default(),
+            |formula| Encoding::run(&formula, Form::Counter, Arrangement::AsListed).tally,
+        )
     }
 
     /// Without the arrangement, the log would be another one.
@@ -181,6 +169,12 @@ impl Row {
             Call::WalkBack(call) => call.kept < call.log.split(|&byte| byte == b'\n').count() - 1,
             _ => false,
         }
+    }
+
+    /// The lines of choices are kept in part.
+    pub fn is_cut_in_choices(&self) -> bool {
+        let before = self.tally().clearing_lines();
+        matches!(&self.call, Call::WalkBack(call) if call.kept > before) && self.is_cut()
     }
 
     /// An answer is carried back to other values than it has.

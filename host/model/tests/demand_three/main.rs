@@ -1,0 +1,173 @@
+//! Random small formulas. By full truth tables, every cut of the log and every assignment: demand 3, and the way
+//! forward. In counter form, the number of lines.
+
+mod back;
+mod drawing;
+mod forward;
+mod lines;
+mod lists;
+mod occurred;
+mod tables;
+
+use drawing::{drawn, WAYS};
+use lists::{apply, count_holding, long_unique, unclashed};
+use model::clearing::written_first;
+use model::encoding::{Encoding, Tally};
+use model::generator::{clauses_apart, paired, Random};
+use model::texts::Line;
+use model::{Arrangement, Form};
+use occurred::{add_up, Occurred};
+use tables::Tables;
+
+/// Runs the formulas of the seeds that need at most the given variables in total.
+fn run(seeds: std::ops::Range<u64>, variables: (usize, usize), highest: i32) -> Occurred {
+    let mut occurred = Occurred::default();
+    for seed in seeds {
+        let mut random = Random::new(seed);
+        let joined = drawn(&mut random, variables);
+        let (form, arrangement) = *random.one_of(&WAYS);
+        let encoding = Encoding::run(&joined.formula, form, arrangement);
+        if encoding.highest > highest {
+            continue;
+        }
+        occurred.count(&joined, &encoding);
+        let forward = &mut occurred.forward;
+        if back::check(&joined, form, arrangement, &mut random, forward) {
+            occurred.count_satisfiable(&encoding.tally, form);
+        }
+    }
+    occurred
+}
+
+#[test]
+fn small_formulas() {
+    let occurred = run(0..6_000, (0, 12), 14);
+    println!("{occurred:#?}");
+    let tally = &occurred.tally;
+    for count in [
+        occurred.with_choice,
+        occurred.with_joined_choice,
+        occurred.satisfiable_with_free_choice,
+        occurred.satisfiable_with_joined_free_choice,
+        occurred.with_repeat,
+        occurred.with_repeat_in_choice,
+        occurred.left_out,
+        occurred.left_out_beside_choice,
+        tally.chained_clashes,
+        tally.double_clashes,
+        tally.empty_resolvents,
+        tally.pure,
+        tally.repeated_pairs,
+        tally.several_negated,
+        tally.replaced_by_nothing,
+    ] {
+        assert!(count > 50);
+    }
+    for tally in &occurred.satisfiable_tallies {
+        assert_pairs(tally, 30);
+    }
+    assert_forward(&occurred, 500);
+}
+
+/// Choices with no, some and all pairs, and pairs in several copies, each more than so often.
+fn assert_pairs(tally: &Tally, least: usize) {
+    for count in [
+        tally.unpaired,
+        tally.partly_paired,
+        tally.fully_paired,
+        tally.repeated_pairs,
+    ] {
+        assert!(count > least);
+    }
+}
+
+/// More than so many lines -li -s(i-1) changed an assignment, and none of them carries forward as -s(i-1) -li.
+fn assert_forward(occurred: &Occurred, least: usize) {
+    let forward = &occurred.forward;
+    assert!(forward.changing_exclusions > least);
+    assert_eq!(forward.failing_if_turned, forward.changing_exclusions);
+}
+
+#[test]
+fn formulas_with_two_choices() {
+    let occurred = run(0..600, (10, 11), 19);
+    println!("{occurred:#?}");
+    assert!(occurred.with_two_choices > 10);
+    assert!(occurred.with_free_of_two_choices > 10);
+    assert!(occurred.satisfiable_with_free_choice > 50);
+    assert!(occurred.satisfiable_with_joined_free_choice > 10);
+    assert!(occurred.with_repeat_in_choice > 10);
+    assert!(occurred.left_out_beside_choice > 10);
+    assert!(occurred.tally.aligned > 2);
+    assert!(occurred.tally.unalignable > 2);
+    for tally in &occurred.satisfiable_tallies {
+        assert_pairs(tally, 5);
+    }
+    assert_forward(&occurred, 100);
+}
+
+/// In counter form: the random formulas, and choices of up to 64 literals with some of their pairs.
+#[test]
+fn lines_in_counter_form() {
+    let (mut total, mut fewer, mut long) = (Tally::default(), 0, 0);
+    for seed in 0..6_000 {
+        let random = &mut Random::new(seed);
+        let formula = if seed < 5_000 {
+            drawn(random, (5, 20)).formula
+        } else {
+            let (size, count) = (random.between(5, 64), random.between(1, 3));
+            paired(random, clauses_apart(size, count))
+        };
+        let arrangement = random.one_of(&[Arrangement::AsListed, Arrangement::Alignment]);
+        let (encoding, less) = lines::check(&formula, *arrangement);
+        add_up(&mut total, &encoding.tally);
+        fewer += usize::from(less > 0);
+        let is_long = |(_, choice): &&(usize, Vec<i32>)| choice.len() > 16;
+        long += encoding.choices.iter().filter(is_long).count();
+    }
+    println!("{total:#?}, fewer lines {fewer}, long choices {long}");
+    assert_pairs(&total, 500);
+    for count in [total.clashes, total.double_clashes, total.pure, fewer, long] {
+        assert!(count > 500);
+    }
+}
+
+/// Whether the choice, deleted with its pure literal first, can come back with another number of true
+/// literals than one.
+fn fails_if_deleted(standing: &[Vec<i32>], choice: &[i32], pure: i32, tables: &Tables) -> bool {
+    let line = Line {
+        deletion: true,
+        literals: written_first(pure, choice),
+    };
+    let mut left = standing.to_vec();
+    apply(&mut left, &line);
+    let exactly_one = tables.before(&line, &tables.exactly_one(choice));
+    !tables.list(&left).within(&exactly_one)
+}
+
+#[test]
+fn free_choices_deleted_instead() {
+    let (mut free_choices, mut failing) = (0, 0);
+    for seed in 0..2_000 {
+        let formula = drawn(&mut Random::new(seed), (5, 12)).formula;
+        let encoding = Encoding::run(&formula, Form::Counter, Arrangement::AsListed);
+        let standing = unclashed(&formula, &encoding);
+        let tables = Tables::new(formula.variables as usize);
+        for choice in long_unique(&standing) {
+            let mut literals = choice.iter().copied();
+            if let Some(pure) = literals.find(|literal| count_holding(&standing, -literal) == 0) {
+                free_choices += 1;
+                failing += usize::from(fails_if_deleted(&standing, &choice, pure, &tables));
+            }
+        }
+    }
+    println!("of {free_choices} free choices {failing} not exactly one if deleted");
+    assert!(failing > 100);
+}
+
+#[test]
+#[ignore = "some minutes"]
+fn more_formulas() {
+    println!("{:#?}", run(100_000..140_000, (0, 12), 15));
+    println!("{:#?}", run(400_000..402_000, (10, 12), 20));
+}

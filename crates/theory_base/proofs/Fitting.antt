@@ -16,9 +16,6 @@ use Rattle.theory_base.specs.Clauses.{Fit, Fits, Proper, Proper-all, Abs
 pub fit-neg : (h : ℕ) (x : ℤ) → Fit h x → Fit h (negℤ x)
 fit-neg h x f = (λ e. f .0 (sym (negℤ-negℤ x) ∙ ap negℤ e), rw natAbs-neg (f .1))
 
-pub fit-unneg : (h : ℕ) (x : ℤ) → Fit h (negℤ x) → Fit h x
-fit-unneg h x f = rw (negℤ-negℤ x) at (fit-neg h (negℤ x) f)
-
 pub fit-pos : (h n : ℕ) → n < h → Fit h (pos (suc n))
 fit-pos h n b = (λ e. omega (arith, ap natAbs e), omega arith)
 

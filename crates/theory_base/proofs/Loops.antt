@@ -10,7 +10,7 @@ use native.Mathlib.Decide.{ℕ-discrete}
 use lib.Dec.{T}
 use lib.ListN.{length, getD, replicate}
 use Rattle.definition.specs.Lists.{first, count, only-if, or-else, first-from, for-from, for-each}
-use Rattle.theory_base.proofs.Tests.{of-true, differ, bit-true, bit≤1}
+use Rattle.theory_base.proofs.Tests.{of-true, differ, bit≤1}
 
 -- ---- what `for-each` and `only-if` give
 module _ {A B : Type 0} where
@@ -59,11 +59,6 @@ pub count-++ : {A : Type 0} (t : A → Bool) (xs ys : List A) → count t (xs ++
 unfolding count
 count-++ t [] ys = omega arith
 count-++ t (x ∷ xs) ys = omega (arith, count-++ t xs ys)
-
-pub count-mem : {A : Type 0} (p : A → Bool) (xs : List A) (x : A) → List·Memᴰ x xs → T (p x) → 1 ≤ count p xs
-unfolding count
-count-mem {A} p (y ∷ xs) x (here e) t = omega (arith, bit-true (p y) (rw e at t))
-count-mem p (y ∷ xs) x (there m) t = omega (arith, count-mem p xs x m t)
 
 -- nothing is not something
 pub none-some : {A : Type 0} {P : Type 0} {x : A} → none ≡ some x → P

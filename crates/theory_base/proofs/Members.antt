@@ -207,12 +207,6 @@ unfolding those
 those-same p q [] h = refl
 those-same p q (x ∷ xs) h = rw (h x (here refl), those-same p q xs (λ y i. h y (there i))) refl
 
--- and where none passes
-pub those-none : {A : Type 0} (p : A → Bool) (xs : List A) → ((x : A) → List·Memᴰ x xs → p x ≡ false) → those p xs ≡ []
-unfolding those
-those-none p [] h = refl
-those-none p (x ∷ xs) h = rw (h x (here refl)) (those-none p xs (λ y i. h y (there i)))
-
 pub those-those : {A : Type 0} (p q : A → Bool) (xs : List A) → those (λ x. not (q x)) (those (λ x. not (p x)) xs) ≡ those (λ x. not (p x || q x)) xs
 unfolding those
 those-those p q [] = refl

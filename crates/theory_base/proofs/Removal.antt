@@ -6,7 +6,6 @@ use mathlib.Core.List.{[], _∷_, _++_, List·Memᴰ, List·Memᴰ·head as here
 use Prim.Native.Nat.{suc, _≤_}
 use lib.Dec.{T}
 use lib.ListN.{length}
-use native.Mathlib.Omega.{arith}
 use Rattle.definition.specs.Lists.{any}
 use Rattle.definition.specs.Literals.{Clause, Formula, same-set}
 use Rattle.definition.specs.Standing.{stands, take-out}
@@ -62,15 +61,6 @@ mem-take-out c (e ∷ F) d m = go (same-set c e) m (mem-take-out c F d)
     go true m ih = there m
     go false (here q) ih = here q
     go false (there m) ih = there (ih m)
-
-take-out-within : (c : Clause) (F : Formula) → length (take-out c F) ≤ length F
-unfolding take-out
-take-out-within c [] = omega arith
-take-out-within c (d ∷ F) = go (same-set c d) (take-out-within c F)
-  where
-    go : (b : Bool) → length (take-out c F) ≤ length F → length (cond b F (d ∷ take-out c F)) ≤ length (d ∷ F)
-    go true h = omega arith
-    go false h = omega arith
 
 -- nothing is taken out of what stands behind and has other literals
 pub take-out-first : (c : Clause) (F X : Formula) → ((x : Clause) → List·Memᴰ x X → same-set c x ≡ false) → take-out c (F ++ X) ≡ take-out c F ++ X

@@ -5,10 +5,8 @@ use mathlib.Core.Bool.{Bool, true, false, cond}
 use mathlib.Core.List.{List, [], _∷_, _++_, map, List·Memᴰ, List·Memᴰ·head as here, List·Memᴰ·tail as there, Memᴰ·cast}
 use Prim.Native.Nat.{ℕ, zero, suc, _+_, _*_, _≤_, _<_}
 use native.Mathlib.Omega.{arith}
-use lib.Dec.{T}
-use lib.ListN.{length, replicate}
+use lib.ListN.{length}
 use Rattle.definition.specs.Lists.{bit, count, those, sum-of, for-from, for-each}
-use Rattle.theory_base.proofs.Tests.{of-true}
 
 module _ {A : Type 0} where
   pub sum-++ : (w : A → ℕ) (xs ys : List A) → sum-of w (xs ++ ys) ≡ sum-of w xs + sum-of w ys
@@ -60,23 +58,6 @@ module _ {A : Type 0} where
       go : (b : Bool) → sum-of w (those p xs) ≤ sum-of w xs → sum-of w (cond b (x ∷ those p xs) (those p xs)) ≤ w x + sum-of w xs
       go true ih = omega arith
       go false ih = omega arith
-
-  -- each of those that pass stands among its copies
-  pub sum-copies : (w : A → ℕ) (p : A → Bool) (n : A → ℕ) (xs : List A) → ((x : A) → List·Memᴰ x xs → T (p x) → 1 ≤ n x) → sum-of w (those p xs) ≤ sum-of w (for-each xs (λ x. replicate (n x) x))
-  unfolding sum-of those for-each
-  sum-copies w p n [] h = omega arith
-  sum-copies w p n (x ∷ xs) h = go (p x) refl (sum-copies w p n xs (λ y m. h y (there m)))
-    where
-      copies : List A
-      copies = for-each xs (λ x. replicate (n x) x)
-
-      some-copy : (k : ℕ) → 1 ≤ k → w x ≤ sum-of w (replicate k x)
-      some-copy zero h = absurd (omega arith)
-      some-copy (suc k) h = omega arith
-
-      go : (b : Bool) → p x ≡ b → sum-of w (those p xs) ≤ sum-of w copies → sum-of w (cond b (x ∷ those p xs) (those p xs)) ≤ sum-of w (replicate (n x) x ++ copies)
-      go true e ih = omega (arith, sum-++ w (replicate (n x) x) copies, some-copy (n x) (h x (here refl) (of-true e)))
-      go false e ih = omega (arith, sum-++ w (replicate (n x) x) copies)
 
   -- where each number gives at most b
   pub sum-for-from : (w : A → ℕ) (b i n : ℕ) (f : ℕ → List A) → ((j : ℕ) → i ≤ j → j < i + n → sum-of w (f j) ≤ b) → sum-of w (for-from i n f) ≤ n * b

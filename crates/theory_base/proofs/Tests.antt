@@ -73,9 +73,6 @@ pub bit-not : (b : Bool) → bit (not b) + bit b ≡ 1
 bit-not true = refl
 bit-not false = refl
 
-pub bit-true : (b : Bool) → T b → bit b ≡ 1
-bit-true true t = refl
-
 -- a conjunction, by its second part
 pub second-holds : (a b : Bool) → b ≡ true → a ≡ (a && b)
 second-holds true b e = sym e

@@ -24,11 +24,6 @@ use Rattle.theory_counter.specs.Front.{drop-copies, drop-all}
 not-copy : (p d : Clause) → (Same p d → ⊥) → same-set p d ≡ false
 not-copy p d n = to-false (λ t. n (same-set-same p d t))
 
-pub count-none : (p : Clause) (F : Formula) → ((d : Clause) → List·Memᴰ d F → Same p d → ⊥) → count (same-set p) F ≡ 0
-unfolding count
-count-none p [] n = refl
-count-none p (d ∷ F) n = rw (not-copy p d (n d (here refl))) (omega (arith, count-none p F (λ k i. n k (there i))))
-
 -- a clause that is a copy of q is none of p
 not-both : (p q d : Clause) → (Same p q → ⊥) → same-set q d ≡ true → same-set p d ≡ false
 not-both p q d n e = not-copy p d (λ s. n (same-joined s (same-turned (same-set-same q d (of-true e)))))

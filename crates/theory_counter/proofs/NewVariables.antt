@@ -1,7 +1,7 @@
 -- The first new variable of a choice is above all used.
-use Prim.Native.Nat.{ℕ, _≤_, _-_, _+_}
+use Prim.Native.Nat.{ℕ, _≤_}
 use native.Mathlib.Omega.{arith}
-use Rattle.definition.specs.Events.{Choice, choice-of}
+use Rattle.definition.specs.Events.{choice-of}
 use Rattle.definition.specs.Literals.{Clause}
 use Rattle.definition.specs.Counter.{below-new, last-new}
 

@@ -1,7 +1,7 @@
 -- What is asked of a choice, and literals of other variables.
 use mathlib.Core.Path.{_≡_}
 use mathlib.Core.List.{List·Memᴰ}
-use Prim.Native.Nat.{_≤_, ℕ}
+use Prim.Native.Nat.{_≤_}
 use lib.IntN.{ℤ, negℤ, natAbs}
 use lib.ListN.{length}
 use Rattle.definition.specs.Literals.{Formula, Clause}

@@ -1,20 +1,19 @@
 -- How much one event adds, counted in numbers: the literals of the added clauses, and one more for each clause. Assumes that the lines are proper.
-use mathlib.Core.Path.{_≡_, refl}
+use mathlib.Core.Path.{refl}
 use mathlib.Core.Bool.{Bool, true, false, not}
 use mathlib.Core.List.{List, [], _∷_, _++_, map, List·Memᴰ·head as here}
-use Prim.Native.Nat.{ℕ, zero, suc, _+_, _-_, _*_, _≤_}
+use Prim.Native.Nat.{ℕ, suc, _+_, _-_, _*_, _≤_}
 use native.Mathlib.Omega.{arith}
 use lib.IntN.{ℤ, negℤ}
-use lib.ListN.{length}
 use Rattle.definition.specs.Lists.{sum-of, only-if, for-from}
 use Rattle.definition.specs.Literals.{Clause, Formula, with-first, opposed}
-use Rattle.definition.specs.Standing.{addition, deletion, literals, stands}
+use Rattle.definition.specs.Standing.{addition, deletion, literals}
 use Rattle.definition.specs.Events.{Choice, Event}
 use Rattle.definition.specs.Clearing.{resolvent, clash-lines, pure-lines}
 use Rattle.definition.specs.Counter.{size, counter, take-choice}
 use Rattle.definition.specs.Order.{replacement-lines, replaced, deletions-of, literal-deletions}
 use Rattle.definition.specs.Reencoding.{lines-of}
-use Rattle.theory_base.proofs.Sums.{sum-++, sum-≤, sum-those, sum-map, sum-most, sum-least, count-length}
+use Rattle.theory_base.proofs.Sums.{sum-≤, count-length}
 use Rattle.theory_base.proofs.Fitting.{Proper-to, proper-length}
 use Rattle.theory_base.proofs.Replay.{All-lines}
 use Rattle.theory_room.proofs.Weights.{weight, added, added-deletions}

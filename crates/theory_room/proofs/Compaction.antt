@@ -32,7 +32,7 @@ use Rattle.theory_room.proofs.Replaced.{Weighs, replaced-weight}
 use Rattle.theory_room.proofs.Lines.{before-counter, taken-lines, after-taken, order-gone-through, Of-choice, Arranges, ordered-length, ordered-size, ordered-proper, ordered-formed, choices-lines-to, choices-standing-to, From-choices, from-choice, events-of-choices, used-least, below-to}
 use Rattle.theory_room.specs.Choices.{new-variables, as-choice, clearing, order-of, events-of-first, standing-after-first, next-choice, used-after}
 use Rattle.theory_room.proofs.Cleared.{clearing-event, cleared-after}
-use Rattle.theory_room.proofs.Runs.{Run, choosing, events-are, standing-to, chosen-mem, arranges, parts-lead, run-raises, weight-after, few-new-variables, literal-weight, literal-most, literal-least, weighs, weight-most, weight-least}
+use Rattle.theory_room.proofs.Runs.{Run, choosing, events-are, standing-to, arranges, parts-lead, run-raises, weight-after, few-new-variables, literal-weight, literal-most, literal-least, weighs, weight-most, weight-least}
 use Rattle.theory_room.proofs.Additions.{numbers, numbers-least, taken-adds}
 use Rattle.theory_room.proofs.Rises.{risen, clearing-risen, added-only-if, taken-changes, counter-weight, choice-raises, choices-risen}
 use Rattle.theory_counter.proofs.NewVariables.{below-new-least}

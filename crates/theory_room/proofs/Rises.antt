@@ -1,23 +1,22 @@
 -- How much each event raises the weight of what stands. Assumes nothing but the weights of a choice's literals.
 use mathlib.Core.Path.{_≡_, refl, _∙_, ap}
 use mathlib.Core.Bool.{Bool, true, false, not}
-use mathlib.Core.List.{List, [], _∷_, _++_, map, List·Memᴰ, List·Memᴰ·head as here, Memᴰ·append-left, Memᴰ·append-right, List·Memᴰ·eq-of-singleton}
+use mathlib.Core.List.{List, [], _∷_, map, List·Memᴰ, List·Memᴰ·head as here, List·Memᴰ·eq-of-singleton}
 use Prim.Native.Nat.{ℕ, suc, _+_, _-_, _*_, _≤_, _<_}
 use native.Mathlib.Omega.{arith}
 use lib.IntN.{ℤ, negℤ}
 use lib.ListN.{length, take}
-use Rattle.definition.specs.Lists.{sum-of, count, only-if, for-from, for-each}
-use Rattle.definition.specs.Literals.{Clause, Formula, same-set, without, with-first, opposes, opposed}
-use Rattle.definition.specs.Standing.{addition, deletion, stands, after}
+use Rattle.definition.specs.Lists.{sum-of, only-if, for-from, for-each}
+use Rattle.definition.specs.Literals.{Clause, Formula, without, with-first, opposes, opposed}
+use Rattle.definition.specs.Standing.{addition, deletion, after}
 use Rattle.definition.specs.Events.{Choice, Event, clash-cleared, pure-deleted, choice-taken, clause-replaced, literals-deleted}
 use Rattle.definition.specs.Clearing.{resolvent, clash-lines, pure-lines}
 use Rattle.definition.specs.Counter.{last-new, size, lit, new, stage-2, stage-3, counter, copies, take-choice}
 use Rattle.definition.specs.Order.{replacement-lines, replaced, replace, order-events, deletions-of, literal-deletions}
 use Rattle.definition.specs.Reencoding.{lines-of, lines, Form, counter-form, order-form, choice-events, choices-events}
-use Rattle.theory_base.proofs.Loops.{only-if-mem, for-each-mem, count-mem}
-use Rattle.theory_base.proofs.Sums.{sum-++, sum-none, sum-for-from, sum-copies}
+use Rattle.theory_base.proofs.Loops.{only-if-mem, for-each-mem}
+use Rattle.theory_base.proofs.Sums.{sum-++, sum-none, sum-for-from}
 use Rattle.theory_counter.proofs.Front.{taken-lines-are}
-use Rattle.theory_base.proofs.Members.{mem-those, same-same-set, same-clause}
 use Rattle.theory_room.proofs.Weights.{weight, gained, lost, added, deleted, added-additions, added-deletions, deleted-additions, deleted-deletions}
 use Rattle.theory_room.proofs.Choice.{lit-mem}
 use Rattle.theory_room.proofs.Replaced.{Weighs, new-weight, negated-new-weight}

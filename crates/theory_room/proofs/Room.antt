@@ -11,7 +11,6 @@ use Rattle.definition.specs.Lists.{sum-of}
 use Rattle.definition.specs.Standing.{after}
 use Rattle.definition.specs.Reading.{Input}
 use Rattle.definition.specs.Events.{Event}
-use Rattle.definition.specs.Counter.{size}
 use Rattle.definition.specs.Reencoding.{lines-of, lines, Settings, chosen, events, log}
 use Rattle.definition.specs.Calls.{workspace-need, numbers-of}
 use Rattle.theory_base.proofs.Loops.{mem-for-each}
@@ -19,12 +18,12 @@ use Rattle.theory_base.proofs.Sums.{sum-++}
 use Rattle.theory_base.proofs.Fitting.{Proper-to}
 use Rattle.theory_base.proofs.Replay.{All-lines, lines-++}
 use Rattle.theory_room.proofs.Weights.{added, at-each-event}
-use Rattle.theory_room.proofs.Lines.{ordered-length, ordered-size, From-choices, from-choice}
+use Rattle.theory_room.proofs.Lines.{ordered-size, From-choices, from-choice}
 use Rattle.theory_room.specs.Choices.{as-choice, order-of}
 use Rattle.theory_room.proofs.Cleared.{Clearing}
 use Rattle.theory_room.proofs.Rises.{risen}
 use Rattle.theory_room.proofs.Additions.{numbers, clearing-adds, choice-adds}
-use Rattle.theory_room.proofs.Runs.{Run, top, arranges, chosen-mem, log-to, event-of, run-risen, few-new-variables, literal-weight, literal-most, literal-least, weighs, weight-most, weight-least, weight-after, top-most}
+use Rattle.theory_room.proofs.Runs.{Run, top, arranges, log-to, event-of, run-risen, few-new-variables, literal-weight, literal-most, literal-least, weighs, weight-most, weight-least, weight-after, top-most}
 
 module _ (s : Settings) (i : Input) (h : Run s i) where
   -- what one event adds

@@ -1,8 +1,7 @@
 -- What is known where a choice is taken. Assumes that the formula was accepted.
 use mathlib.Core.Path.{_≡_, refl, sym, _∙_, ap}
-use mathlib.Core.Logic.{⊎-elim}
 use mathlib.Core.Bool.{Bool, true, false, not}
-use mathlib.Core.List.{List, [], _∷_, _++_, append-assoc, append-nil, List·Memᴰ, List·Memᴰ·head as here, Memᴰ·append-left, Memᴰ·append-right, List·Memᴰ·append-cases}
+use mathlib.Core.List.{List, [], _∷_, _++_, append-assoc, append-nil, List·Memᴰ, List·Memᴰ·head as here, Memᴰ·append-left, Memᴰ·append-right}
 use Prim.Native.Nat.{ℕ, _+_, _-_, _≤_}
 use native.Mathlib.Omega.{arith}
 use lib.ListN.{length}
@@ -22,14 +21,13 @@ use Rattle.theory_base.proofs.Replay.{All-clauses, after-++, lines-++}
 use Rattle.theory_soundness.proofs.Removals.{mem-removes}
 use Rattle.theory_clearing.proofs.Cleared.{cleared-facts}
 use Rattle.theory_counter.specs.Ready.{Ready}
-use Rattle.theory_counter.proofs.Front.{own-fit, front-removes}
+use Rattle.theory_counter.proofs.Front.{front-removes}
 use Rattle.theory_counter.specs.Front.{front}
 use Rattle.theory_counter.proofs.Counter.{after-choice}
 use Rattle.theory_order.proofs.Order.{order-events-are}
 use Rattle.theory_order.specs.Pass.{results, added as results-of}
 use Rattle.theory_text.specs.Accepted.{Accepted}
 use Rattle.theory_room.proofs.Weights.{gained, added}
-use Rattle.theory_room.proofs.Choice.{pairs-to}
 use Rattle.theory_room.proofs.Lines.{Arranges, ordered-length, ordered-proper, used-most, used-++}
 use Rattle.theory_room.specs.Choices.{new-variables, clearing, order-of, events-of-first, standing-after-first, next-choice, used-after}
 use Rattle.theory_room.proofs.Cleared.{cleared-after}

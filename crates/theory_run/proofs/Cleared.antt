@@ -1,21 +1,20 @@
 -- What stands when the clashes are cleared, and when the pure clauses are deleted too. Assumes that the formula was accepted.
-use mathlib.Core.Path.{_≡_, ap}
+use mathlib.Core.Path.{_≡_}
 use mathlib.Core.List.{List, _++_, List·Memᴰ, Memᴰ·append-left}
 use Prim.Native.Nat.{_≤_}
 use native.Mathlib.Omega.{arith}
 use lib.ListN.{length}
-use Rattle.definition.specs.Literals.{Formula}
 use Rattle.definition.specs.Standing.{after}
 use Rattle.definition.specs.Reading.{Input, input-limits}
 use Rattle.definition.specs.Events.{Event}
 use Rattle.definition.specs.Clearing.{clear-clashes, clear-pure}
-use Rattle.definition.specs.Reencoding.{lines, counter-form, Settings, chosen, events, unclashed, cleared}
+use Rattle.definition.specs.Reencoding.{lines, counter-form, Settings, chosen, events, unclashed}
 use Rattle.definition.specs.Alignment.{as-listed}
 use Rattle.theory_text.specs.Accepted.{Accepted}
 use Rattle.theory_room.proofs.Rises.{clearing-risen}
-use Rattle.theory_room.proofs.Cleared.{Clearing, clearing-event, cleared-after}
+use Rattle.theory_room.proofs.Cleared.{Clearing, clearing-event}
 use Rattle.theory_room.specs.Choices.{clearing}
-use Rattle.theory_room.proofs.Runs.{choosing, events-are, weight-after, literal-weight, literal-most, literal-least, weight-most, weight-least}
+use Rattle.theory_room.proofs.Runs.{choosing, weight-after, literal-weight, literal-most, literal-least, weight-most, weight-least}
 use Rattle.theory_run.proofs.LogSound.{accepted-run}
 use Rattle.theory_run.proofs.Steps.{events-from-clashes}
 
@@ -41,7 +40,3 @@ module _ (i : Input) (a : Accepted input-limits i) where
   unclashed-shorter =
       let f = i .formula in
       shorter (clear-clashes f) (clear-pure (unclashed f) ++ choosing any-settings i) (events-from-clashes any-settings i) (λ e m. clearing-event f e (Memᴰ·append-left (clear-pure (unclashed f)) m))
-
-  cleared-shorter : length (cleared (i .formula)) ≤ length (i .formula)
-  cleared-shorter =
-      omega (arith, shorter (clearing (i .formula)) (choosing any-settings i) (events-are any-settings i) (clearing-event (i .formula)), ap (λ (X : Formula). length X) (cleared-after (i .formula)))

@@ -2,7 +2,7 @@
 use mathlib.Core.Path.{_≡_, refl, sym, _∙_}
 use mathlib.Core.Logic.{_≢_}
 use mathlib.Core.Bool.{Bool, true, false, cond}
-use mathlib.Core.List.{List, [], _∷_, _++_, List·Memᴰ, append-assoc, append-nil, map, Memᴰ·cast}
+use mathlib.Core.List.{List, [], _∷_, _++_, List·Memᴰ, Memᴰ·cast}
 use Prim.Native.Nat.{ℕ, _≤_}
 use native.Mathlib.Omega.{arith}
 use lib.IntN.{ℤ, negℤ, natAbs}
@@ -14,7 +14,7 @@ use Rattle.definition.specs.Events.{Event}
 use Rattle.theory_base.proofs.Tests.{of-true, differ}
 use Rattle.theory_base.proofs.Members.{holds-mem, mem-holds}
 use Rattle.theory_base.specs.Clauses.{Absent}
-use Rattle.theory_base.proofs.Trues.{made, keeps, unmoved, trues-mono, trues-same, has-trues, trues-has, Sat, sat-at, sat-all, sat-++, sat-left}
+use Rattle.theory_base.proofs.Trues.{made, keeps, unmoved, trues-mono, trues-same, has-trues, trues-has, Sat, sat-at, sat-all, sat-++}
 use Rattle.theory_base.proofs.Removal.{Removed, sat-more}
 use Rattle.theory_soundness.proofs.Sound.{Into, Ones, Sound, adding, deleting}
 
@@ -97,11 +97,3 @@ module _ {F G H : Formula} {K L : List Event} {xs : List Line} where
   -- so if its negation stands in no other clause
   pub del-blocked : {l : ℤ} {c : Clause} → Removed (l ∷ c) F G → Absent (negℤ l) G → Clear l K → Sound G K xs H L → Sound F K (deletion (l ∷ c) ∷ xs) H L
   del-blocked {l} e h k s = del-first e (λ σ t g. absent-stays σ l G h t) k s
-
--- clauses that follow may be added one by one
-pub add-all : {F H : Formula} {K L : List Event} {xs : List Line} (S : Formula) → ((σ : Assignment) → Sat σ F → Sat σ S) →
-    Sound (F ++ S) K xs H L → Sound F K (map addition S ++ xs) H L
-add-all {F} {H} {K} {L} {xs} [] h s = rw (append-nil F) at s
-add-all {F} {H} {K} {L} {xs} (c ∷ S) h s =
-    add-implied (λ σ t. h σ t .0)
-    (add-all S (λ σ t. h σ (sat-left σ F (c ∷ []) t) .1) (rw (append-assoc F (c ∷ []) S) s))

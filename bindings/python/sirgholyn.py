@@ -294,7 +294,7 @@ def reencode(
 
     >>> new = reencode(b"p cnf 6 6\n1 2 3 4 5 0\n-1 6 0\n-2 6 0\n-3 6 0\n-4 -6 0\n-5 -6 0\n", form="order")
     >>> new.choices, new.highest, new.clauses, new.lines
-    (1, 10, 8, 60)
+    (1, 10, 8, 40)
     >>> new.formula.splitlines()[0]
     b'p cnf 10 8'
     """

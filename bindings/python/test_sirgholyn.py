@@ -34,6 +34,8 @@ D = b"p cnf 2 2\n1 2 0\n-1 -2 0\n"
 E = b"p cnf 3 2\n1 2 0\n-1 3 0\n"
 F = b"p cnf 6 7\n1 2 3 4 5 0\n-1 -2 0\n-1 6 0\n-2 6 0\n-3 6 0\n-4 -6 0\n-5 -6 0\n"
 G = b"p cnf 10 8\n8 -7 0\n9 -8 0\n10 -9 0\n-7 6 0\n7 -8 6 0\n8 -9 6 0\n9 -10 -6 0\n10 -6 0\n"
+# two pairs of the choice in two copies each
+COPIES = b"p cnf 5 9\n1 2 3 4 5 0\n-1 -2 0\n-1 -3 0\n-2 -1 0\n-3 -1 0\n-4 0\n-4 0\n-5 0\n-5 0\n"
 # F with literals repeated, and with clauses that hold a literal and its negation
 JOINED_F = b"p cnf 6 9\n1 2 1 3 4 5 5 0\n-1 1 0\n-1 -2 -1 0\n-1 6 0\n-2 6 0\n-3 6 0\n-4 -6 0\n2 6 -2 2 0\n-5 -6 -6 0\n"
 H_ANSWER = b"s SATISFIABLE\nv 1 2 3 4 5 -6 -7 -8 -9 10 0\n"
@@ -108,18 +110,26 @@ class Sessions(Case):
 
     def test_f(self):
         new = reencode(F)
-        self.assertEqual(new[2:], (1, 10, 21, 36))
+        self.assertEqual(new[2:], (1, 10, 21, 18))
         self.assertEqual(len(read_back(new.formula).clauses), 21)
 
     def test_g_and_h(self):
         new = reencode(F, form="order")
-        self.assertEqual(new[1:], (G, 1, 10, 8, 59))
+        self.assertEqual(new[1:], (G, 1, 10, 8, 41))
         self.assertEqual(read_back(G).clauses[4], [7, -8, 6])
         self.assertEqual(read_back(G)[1:], (10, 19))
         self.assertEqual(walk_back(F, new.log, H_ANSWER), H_LINE)
-        self.assertEqual(walk_back(F, new.log, H_ANSWER, kept=59), H_LINE)
+        self.assertEqual(walk_back(F, new.log, H_ANSWER, kept=41), H_LINE)
         self.assertEqual(walk_back(F, new.log, b"s SATISFIABLE\nv 4 0\n", kept=0), H_LINE)
         self.assertEqual(plan(H_LINE), [-1, -2, -3, 4, -5, -6])
+
+    def test_copies_of_pairs(self):
+        new = reencode(COPIES)
+        self.assertEqual((new.lines, len(new.log)), (21, 175))
+        stage_3 = b"\n-2 -6 0\n-3 -7 0\n-4 -8 0\n-5 -9 0\n9 5 0\n"
+        stage_4 = b"d 1 2 3 4 5 0\nd -1 -2 0\nd -1 -2 0\nd -1 -3 0\nd -1 -3 0\n"
+        self.assertTrue(new.log.endswith(stage_3 + stage_4))
+        self.assertEqual(walk_back(COPIES, new.log, b"s SATISFIABLE\nv 3 8 9 0\n"), b"v -1 -2 3 -4 -5 0\n")
 
     def test_alignment(self):
         negated = [[-literal] for literal in range(1, 11) for _ in range(2)]
@@ -315,7 +325,7 @@ class Buffers(Case):
             self.assertEqual(read_back(G), back)
             with mock.patch.object(sirgholyn, "_MOST_BYTES", 500):
                 self.assert_refused(11, reencode, F)
-                self.assert_refused(12, reencode, F, work=10_000)
+                self.assert_refused(12, reencode, F, form="order", work=10_000)
 
     def test_no_memory(self):
         for size in (2**60, 2**62, 2**64, 10**30):

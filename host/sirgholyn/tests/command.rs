@@ -29,7 +29,7 @@ fn reencode_and_back(text: &str) {
     let (formula, log) = (folder.path("new.cnf"), folder.path("new.drat"));
     let outputs = ["--formula", &formula, "--log", &log];
     let ran = run(&[&["reencode", &input, "--form", "order"], &outputs[..]].concat());
-    let tally = "choices 1 highest 10 clauses 8 lines 59 log-bytes 533 formula-bytes 77\n";
+    let tally = "choices 1 highest 10 clauses 8 lines 41 log-bytes 371 formula-bytes 77\n";
     expect_printed(&ran, tally);
     let new = fs::read_to_string(&formula).unwrap();
     assert!(new.starts_with("p cnf 10 8\n8 -7 0\n"));
@@ -43,7 +43,7 @@ fn reencode_and_back(text: &str) {
     let answer = folder.write("answer", ANSWER.as_bytes());
     let line = "v -1 -2 -3 4 -5 -6 0\n";
     expect_printed(&run(&["walk-back", &input, &log, &answer]), line);
-    let words = ["walk-back", "--keep=59", &input, "-", &answer];
+    let words = ["walk-back", "--keep=41", &input, "-", &answer];
     expect_printed(&run_with(&words, &fs::read(&log).unwrap()), line);
     let words = ["walk-back", &input, &log, "-", "--keep", "0"];
     expect_printed(&run_with(&words, b"s SATISFIABLE\nv 4 0\n"), line);

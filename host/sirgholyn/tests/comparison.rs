@@ -3,6 +3,7 @@
 mod common;
 
 use common::formulas::{any_kind_joined, is_joined};
+use common::lines::lines_of_choices;
 use common::{
     compare_read_back, compare_reencode, compare_walk_back, expect_more, new_formula, note,
     over_seeds, run_model, sum, walk_back_work, work_for, Occurred, Room, WAYS,
@@ -11,8 +12,9 @@ use model::encoding::Encoding;
 use model::generator::{
     answer_after, clauses_with_repeat, damage, damage_log, repeats_in_choices, Joined, Random,
 };
-use model::reading::{read_formula, INPUT_LIMITS};
+use model::reading::{read_formula, Formula, INPUT_LIMITS};
 use model::texts::{log_text, Line};
+use sirgholyn::Form;
 
 const FORMULAS: u64 = 22_000;
 
@@ -23,7 +25,6 @@ fn note_run(occurred: &mut Occurred, encoding: &Encoding) {
     note(occurred, "double clashes", tally.double_clashes);
     note(occurred, "empty resolvents", tally.empty_resolvents);
     note(occurred, "pure literals", tally.pure);
-    note(occurred, "pairs in several copies", tally.repeated_pairs);
     note(occurred, "several negated literals", tally.several_negated);
     note(occurred, "replaced by nothing", tally.replaced_by_nothing);
     note(occurred, "aligned", tally.aligned);
@@ -42,28 +43,53 @@ fn note_run(occurred: &mut Occurred, encoding: &Encoding) {
     }
 }
 
-/// Choices with a pure literal, by a name of the way.
-fn note_free(occurred: &mut Occurred, way: &str, encoding: &Encoding) {
+/// Choices with a pure literal, and with no, some and all of their pairs, by a name of the way.
+fn note_choices(occurred: &mut Occurred, way: &str, encoding: &Encoding) {
     let tally = &encoding.tally;
     for (what, times) in [
         ("free choices", tally.free_choices),
         ("free choices joined by clashes", tally.joined_free_choices),
+        ("choices without a pair", tally.unpaired),
+        ("choices with some pairs", tally.partly_paired),
+        ("choices with all pairs", tally.fully_paired),
+        ("pairs in several copies", tally.repeated_pairs),
     ] {
         note(occurred, format!("{way}: {what}"), times);
     }
 }
 
-/// A walk-back that gave a plan, over all lines or some, of a log with a free choice.
-fn note_free_walked(occurred: &mut Occurred, way: &str, encoding: &Encoding, kept: usize) {
+/// A walk-back that gave a plan, over all lines or some, by what choices the log has.
+fn note_walked(occurred: &mut Occurred, way: &str, encoding: &Encoding, kept: usize) {
     let tally = &encoding.tally;
-    let cleared = 3 * tally.clashes - tally.double_clashes + tally.pure;
-    if tally.free_choices > 0 && kept > cleared {
-        let what = if kept == encoding.log.len() {
-            "whole logs with a free choice"
-        } else {
-            "logs with a free choice, cut in a choice"
-        };
-        note(occurred, format!("{way}: {what}"), 1);
+    if kept <= tally.clearing_lines() {
+        return;
+    }
+    let cut = ["cut in a choice", "whole"][usize::from(kept == encoding.log.len())];
+    for (what, times) in [
+        ("a free choice", tally.free_choices),
+        ("a choice without a pair", tally.unpaired),
+        ("a choice with some pairs", tally.partly_paired),
+        ("a choice with all pairs", tally.fully_paired),
+        ("a pair in several copies", tally.repeated_pairs),
+    ] {
+        note(
+            occurred,
+            format!("{way}: {what}, {cut}"),
+            usize::from(times > 0),
+        );
+    }
+}
+
+/// The number of lines in counter form: clashes have three each, or two if no resolvent is added, pure clauses one.
+fn expect_lines(occurred: &mut Occurred, formula: &Formula, encoding: &Encoding) {
+    let (lines, tally) = (encoding.log.len(), &encoding.tally);
+    let of_choices = lines_of_choices(formula, encoding);
+    assert_eq!(lines, tally.clearing_lines() + of_choices, "{formula:?}");
+    let most = 3 * tally.clashes + tally.pure + of_choices;
+    assert!(lines <= most, "{formula:?}");
+    if of_choices > 0 {
+        let what = ["fewer lines than the bound", "lines at the bound"][usize::from(lines == most)];
+        note(occurred, what, 1);
     }
 }
 
@@ -107,7 +133,7 @@ fn in_order(seed: u64, occurred: &mut Occurred) {
         let way = format!("{form:?} {arrangement:?}");
         let encoding = run_model(&input.formula, form, arrangement);
         note_run(occurred, &encoding);
-        note_free(occurred, &way, &encoding);
+        note_choices(occurred, &way, &encoding);
         let repeats = repeats_in_choices(&input.text, &encoding);
         note(occurred, "repeats in choices", repeats);
         let new: Joined = new_formula(&encoding).into();
@@ -118,6 +144,9 @@ fn in_order(seed: u64, occurred: &mut Occurred) {
         };
         let number = compare_reencode(&input.text, form, arrangement, room);
         read_outcome(occurred, "reencode", number, &input);
+        if form == Form::Counter && number == 0 {
+            expect_lines(occurred, &input.formula, &encoding);
+        }
         for text in [&new, &input] {
             let store = around(&mut random, work_for(&text.formula));
             let number = compare_read_back(&text.text, store);
@@ -126,7 +155,7 @@ fn in_order(seed: u64, occurred: &mut Occurred) {
         let (number, kept) = walk_in_order(&mut random, &input, &encoding);
         read_outcome(occurred, "walk-back", number, &input);
         if number == 0 {
-            note_free_walked(occurred, &way, &encoding, kept);
+            note_walked(occurred, &way, &encoding, kept);
         }
     }
 }
@@ -171,7 +200,11 @@ fn changed(seed: u64, occurred: &mut Occurred) {
     outcome(occurred, "reencode", number);
     if number == 0 {
         let read = read_formula(&text, &INPUT_LIMITS).unwrap();
-        note_free(occurred, "changed", &run_model(&read, form, arrangement));
+        let encoding = run_model(&read, form, arrangement);
+        note_choices(occurred, "changed", &encoding);
+        if form == Form::Counter {
+            expect_lines(occurred, &read, &encoding);
+        }
     }
     outcome(occurred, "read-back", compare_read_back(&text, room.work));
     let number = walk_changed(&mut random, &input, encoding.log);
@@ -213,7 +246,7 @@ fn library_and_model_agree() {
     let occurred = sum(counted);
     println!("{FORMULAS} formulas in both forms, and half as many changed: {occurred:#?}");
     expect_cases(&occurred);
-    expect_free_choices(&occurred);
+    expect_choices(&occurred);
     for (call, numbers) in [
         ("reencode", &[0, 1, 2, 3, 4, 7, 8, 11, 12, 13][..]),
         ("read-back", &[0, 1, 2, 3, 4, 7, 8, 11]),
@@ -230,7 +263,6 @@ fn expect_cases(occurred: &Occurred) {
         ("double clashes", 500),
         ("empty resolvents", 500),
         ("pure literals", 500),
-        ("pairs in several copies", 500),
         ("several negated literals", 500),
         ("replaced by nothing", 500),
         ("aligned", 500),
@@ -242,27 +274,42 @@ fn expect_cases(occurred: &Occurred) {
         ("taken 64", 200),
         ("stays 04", 500),
         ("stays 65", 100),
+        ("lines at the bound", 5_000),
+        ("fewer lines than the bound", 500),
     ];
     expect_more(occurred, cases);
 }
 
-/// Choices with a pure literal in each way, and in texts that were changed.
-fn expect_free_choices(occurred: &Occurred) {
-    for (form, arrangement) in WAYS {
+/// Choices with a pure literal, and with no, some and all of their pairs, in each way and in texts that were
+/// changed.
+fn expect_choices(occurred: &Occurred) {
+    let choices = |of: &str| {
         let cases = [
             ("free choices", 500),
             ("free choices joined by clashes", 200),
-            ("whole logs with a free choice", 200),
-            ("logs with a free choice, cut in a choice", 200),
+            ("choices without a pair", 500),
+            ("choices with some pairs", 1_000),
+            ("choices with all pairs", 300),
+            ("pairs in several copies", 1_000),
         ];
-        let of_way = |(what, least)| (format!("{form:?} {arrangement:?}: {what}"), least);
-        expect_more(occurred, cases.map(of_way));
+        cases.map(|(what, least)| (format!("{of}: {what}"), least))
+    };
+    expect_more(occurred, choices("changed"));
+    for (form, arrangement) in WAYS {
+        let way = format!("{form:?} {arrangement:?}");
+        expect_more(occurred, choices(&way));
+        for (what, least) in [
+            ("a free choice", 200),
+            ("a choice without a pair", 200),
+            ("a choice with some pairs", 500),
+            ("a choice with all pairs", 100),
+            ("a pair in several copies", 500),
+        ] {
+            let cuts = ["whole", "cut in a choice"];
+            let of_way = cuts.map(|cut| (format!("{way}: {what}, {cut}"), least));
+            expect_more(occurred, of_way);
+        }
     }
-    let changed = [
-        ("changed: free choices", 500),
-        ("changed: free choices joined by clashes", 200),
-    ];
-    expect_more(occurred, changed);
 }
 
 /// The call ended with each of these numbers and no other, and accepted texts of both kinds.

@@ -10,11 +10,11 @@ use common::{
 };
 use model::generator::Random;
 use model::reading::{read_formula, INPUT_LIMITS};
-use model::sessions::{self, JOINED_E};
+use model::sessions::{self, COPIES, JOINED_E};
 use model::texts::log_text;
 use sirgholyn::{Arrangement, Form};
 
-const TEXTS: [&[u8]; 9] = [
+const TEXTS: [&[u8]; 10] = [
     F,
     JOINED_F.as_bytes(),
     JOINED_E.as_bytes(),
@@ -25,6 +25,7 @@ const TEXTS: [&[u8]; 9] = [
     b"p cnf 8000 1\n8000 -7999 0\n",
     // a choice that nothing forbids, and none where a literal is lost
     b"p cnf 5 1\n1 2 3 4 5 0\n",
+    COPIES.as_bytes(),
 ];
 const ROOM: Room = Room {
     work: 60_000,

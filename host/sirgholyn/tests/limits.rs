@@ -2,7 +2,8 @@
 
 mod common;
 
-use common::formulas::{clash_chain, JOINED_F};
+use common::formulas::{clash_chain, with_pairs, JOINED_F};
+use common::lines::parts;
 use common::{
     compare_read_back, compare_reencode, compare_walk_back, new_formula, run_model, walk_back_work,
     work_for, Room, PLENTY, WAYS,
@@ -12,9 +13,10 @@ use model::generator::{
 };
 use model::reading::{read_formula, Formula, INPUT_LIMITS};
 use model::sessions;
-use model::texts::log_text;
+use model::texts::{answer_text, log_text};
 use sirgholyn::calls::{library, on_large_stack, Tally};
 use sirgholyn::{Arrangement, Error, Form, ReencodeRoom, Refusal, WalkBackRoom};
+use std::slice;
 
 const LARGE: Room = Room {
     work: PLENTY,
@@ -347,32 +349,6 @@ fn tally_of(formula: &Formula, form: Form, arrangement: Arrangement) -> Tally {
     new.unwrap().tally
 }
 
-/// L 64, C 1, V 64, and 2,016 pairs that stand from stage 1 to stage 4.
-#[test]
-fn a_free_choice_of_64() {
-    let formula = clauses_apart(64, 1);
-    let text = text_of(&formula);
-    for (form, arrangement) in WAYS {
-        let enough = Room::exact(&formula, &run_model(&formula, form, arrangement));
-        for (work, log, formula, number) in [
-            (9_858, 0, 0, 0),
-            (9_857, 0, 0, 11),
-            (9_857, 1, 1, 11),
-            (9_858, 1, 0, 12),
-            (9_858, 1, 1, 12),
-            (9_858, 0, 1, 13),
-        ] {
-            let room = Room {
-                work,
-                log: enough.log - log,
-                formula: enough.formula - formula,
-            };
-            let found = compare_reencode(&text, form, arrangement, room);
-            assert_eq!(found, number, "{form:?} {arrangement:?} {room:?}");
-        }
-    }
-}
-
 /// 8,000 variables in choices that nothing forbids.
 #[test]
 fn most_free_choices() {
@@ -453,6 +429,105 @@ fn sizes_joined_by_a_clash() {
                 "{size}, {form:?}"
             );
         }
+    }
+}
+
+// Choices of which pairs stand
+
+/// The least buffers for a choice of 64, and each of them one short.
+#[test]
+fn a_choice_of_64() {
+    // L 64, 4,096 and 8,128; C 1, 2,017 and 4,033
+    for (copies, work, lines) in [(0, 9_858, 253), (1, 94_530, 2_269), (2, 179_202, 4_285)] {
+        let formula = with_pairs(64, 1, copies);
+        let text = text_of(&formula);
+        for (form, arrangement) in WAYS {
+            let tally = tally_of(&formula, form, arrangement);
+            let of_order = if form == Form::Order { 3 * 64 - 2 } else { 0 };
+            assert_eq!((tally.choices, tally.lines), (1, lines + of_order));
+            for (work, log, new, number) in [
+                (work, 0, 0, 0),
+                (work - 1, 0, 0, 11),
+                (work - 1, 1, 1, 11),
+                (work, 1, 0, 12),
+                (work, 1, 1, 12),
+                (work, tally.log_bytes, 0, 12),
+                (work, 0, 1, 13),
+            ] {
+                let room = Room {
+                    work,
+                    log: tally.log_bytes - log,
+                    formula: tally.formula_bytes - new,
+                };
+                let found = compare_reencode(&text, form, arrangement, room);
+                assert_eq!(found, number, "{copies} {form:?} {arrangement:?} {room:?}");
+            }
+        }
+    }
+}
+
+/// The log of such a choice ends where the buffer does: in each part of it, at a line's end and inside the line.
+#[test]
+fn logs_of_a_choice_of_64_cut_short() {
+    for copies in [0, 1, 2] {
+        let formula = with_pairs(64, 1, copies);
+        let text = text_of(&formula);
+        let encoding = run_model(&formula, Form::Order, Arrangement::AsListed);
+        let exact = Room::exact(&formula, &encoding);
+        let parts = parts(&formula, &encoding);
+        let mut ends = 0;
+        for (place, line) in encoding.log.iter().enumerate() {
+            ends += log_text(slice::from_ref(line)).len();
+            let is_last = parts.get(place + 1) != Some(&parts[place]);
+            for log in [ends - 1, ends].into_iter().filter(|_| is_last) {
+                let room = Room { log, ..exact };
+                let found = compare_reencode(&text, Form::Order, Arrangement::AsListed, room);
+                let is_whole = place + 1 == parts.len() && log == ends;
+                assert_eq!(found, if is_whole { 0 } else { 12 }, "{copies} {log}");
+            }
+        }
+    }
+}
+
+/// Walked back on the least workspace, from an answer with the last literal true.
+#[test]
+fn a_choice_of_64_walked_back() {
+    let answer = b"s SATISFIABLE\nv 64 0\n";
+    let line = answer_text(64, |variable| variable == 64).len();
+    for copies in [0, 1, 2] {
+        let formula = with_pairs(64, 1, copies);
+        let text = text_of(&formula);
+        for (form, arrangement) in WAYS {
+            let lines = run_model(&formula, form, arrangement).log;
+            let log = log_text(&lines);
+            let work = walk_back_work(&formula, &log, lines.len());
+            for (work, room, number) in
+                [(work, line, 0), (work - 1, line, 11), (work, line - 1, 14)]
+            {
+                let found = compare_walk_back(&text, &log, lines.len(), answer, work, room);
+                assert_eq!(found, number, "{copies} {form:?} {arrangement:?}");
+            }
+        }
+    }
+}
+
+/// C 20,000, nearly all of them pairs; with one clause more it is refused.
+#[test]
+fn most_pairs() {
+    for (size, count) in [(64, 10), (64, 5), (5, 1_600), (5, 1_000)] {
+        let mut formula = with_pairs(size, count, 2);
+        formula.clauses.truncate(20_000);
+        assert_eq!(formula.clauses.len(), 20_000);
+        let of_pairs = 20_000 - count;
+        let lines = count * (4 * (size - 1) + 1) + of_pairs;
+        for (form, of_order) in [(Form::Counter, 0), (Form::Order, count * (3 * size - 2))] {
+            let tally = tally_of(&formula, form, Arrangement::AsListed);
+            assert_eq!(tally.choices, count as u64);
+            assert_eq!(tally.lines, (lines + of_order) as u64, "{size} {form:?}");
+        }
+        formula.clauses.push(vec![-1, -2]);
+        let text = String::from_utf8(text_of(&formula)).unwrap();
+        assert_eq!(reencode(&text), 2);
     }
 }
 

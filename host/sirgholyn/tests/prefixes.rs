@@ -3,71 +3,120 @@
 mod common;
 
 use common::formulas::is_joined;
-use common::{over_seeds, run_model, WAYS};
+use common::lines::{parts, Part};
+use common::{expect_more, note, over_seeds, run_model, sum, Occurred, WAYS};
+use model::encoding::Encoding;
 use model::generator::{
-    clauses_with_repeat, freed, one_of_three_joined, planned, written_clauses, Joined, Random,
+    clauses_apart, clauses_with_repeat, freed, one_of_three_joined, paired, planned,
+    written_clauses, Joined, Random,
 };
+use model::reading::Formula;
 use model::texts::{count_true, log_text};
 use model::walk_back::{replay, satisfies};
-use sirgholyn::{calls, plan};
+use sirgholyn::{calls, plan, Arrangement, Form};
 
-#[derive(Default)]
-struct Walked {
-    formulas: usize,
-    with_choice: usize,
-    joined_with_choice: usize,
-    /// Clauses with a repeat that are kept.
-    repeats: usize,
-    left_out: usize,
-    cuts: usize,
-    /// Cuts of logs with a choice that has a pure literal.
-    cuts_with_free: usize,
-    lines: usize,
-    /// True literals of clauses that go into a choice, where the whole log was walked back.
-    chosen: usize,
+/// One formula's log, which is the library's.
+struct Walk<'a> {
+    input: &'a Joined,
+    way: (Form, Arrangement),
+    log: Vec<u8>,
+    encoding: Encoding,
+    in_choices: Vec<usize>,
 }
 
-/// Walks back from every cut of one formula's log.
-fn walk_all(input: &Joined, seed: u64, walked: &mut Walked) {
-    let Joined { text, formula } = input;
-    let (form, arrangement) = WAYS[seed as usize % WAYS.len()];
-    let mut work = vec![0; 100_000];
-    let (mut log, mut new) = (vec![0; 10_000], vec![0; 10_000]);
-    let tally = calls::reencode(text, form, arrangement, &mut work, &mut log, &mut new).unwrap();
-    log.truncate(tally.log_bytes);
-    let encoding = run_model(formula, form, arrangement);
-    assert_eq!(log, log_text(&encoding.log));
-    walked.formulas += 1;
-    walked.with_choice += usize::from(tally.choices > 0);
-    walked.joined_with_choice += usize::from(tally.choices > 0 && is_joined(input));
-    walked.repeats += clauses_with_repeat(text).len();
-    walked.left_out += formula.left_out;
+impl<'a> Walk<'a> {
+    fn new(input: &'a Joined, (form, arrangement): (Form, Arrangement)) -> Walk<'a> {
+        let (mut work, mut log, mut new) = (vec![0; 100_000], vec![0; 10_000], vec![0; 10_000]);
+        let text = &input.text;
+        let tally = calls::reencode(text, form, arrangement, &mut work, &mut log, &mut new);
+        log.truncate(tally.unwrap().log_bytes);
+        let encoding = run_model(&input.formula, form, arrangement);
+        assert_eq!(log, log_text(&encoding.log));
+        Walk {
+            input,
+            way: (form, arrangement),
+            log,
+            in_choices: encoding.input_clauses_in_choices(),
+            encoding,
+        }
+    }
 
-    let free = encoding.tally.free_choices > 0;
-    let in_choices = encoding.input_clauses_in_choices();
-    let can = can_be_satisfied(formula.variables, &written_clauses(text));
-    for kept in 0..=encoding.log.len() {
-        let standing = replay(&formula.clauses, &encoding.log[..kept]).unwrap();
-        let lines = walked.lines;
+    /// Walks back from every assignment that satisfies what stands after so many lines; the answer is how many.
+    fn walk_cut(&self, kept: usize, walked: &mut Occurred) -> usize {
+        let Joined { text, formula } = self.input;
+        let standing = replay(&formula.clauses, &self.encoding.log[..kept]).unwrap();
+        let mut work = vec![0; 100_000];
+        let mut lines = 0;
         for_each_answer(&standing, |answer| {
             let mut line = vec![0; 200];
-            let outcome = calls::walk_back(text, &log, kept, answer, &mut work, &mut line);
-            let seen = || format!("{kept} lines of {} {form:?} {arrangement:?}", shown(text));
+            let outcome = calls::walk_back(text, &self.log, kept, answer, &mut work, &mut line);
+            let seen = || format!("{kept} lines of {} {:?}", shown(text), self.way);
             let bytes = outcome.unwrap_or_else(|number| panic!("{number}: {}", seen()));
             let line = String::from_utf8_lossy(&line[..bytes]);
             assert!(plan::satisfies(&shown(text), &line), "{line}: {}", seen());
-            if kept == encoding.log.len() {
-                for &place in &in_choices {
+            if kept == self.encoding.log.len() {
+                for &place in &self.in_choices {
                     let chosen = count_true(&line, &formula.clauses[place]);
                     assert_eq!(chosen, 1, "{line}: clause {place}, {}", seen());
-                    walked.chosen += chosen;
+                    note(walked, "exactly one literal", chosen);
                 }
             }
-            walked.lines += 1;
+            lines += 1;
         });
-        walked.cuts += 1;
-        walked.cuts_with_free += usize::from(free);
-        assert_eq!(walked.lines > lines, can, "{kept} lines of {}", shown(text));
+        lines
+    }
+
+    /// Walks back from every cut.
+    fn walk_all(&self, walked: &mut Occurred) {
+        let Joined { text, formula } = self.input;
+        self.note(walked);
+        let parts = parts(formula, &self.encoding);
+        assert_eq!(parts.len(), self.encoding.log.len());
+        let free = self.encoding.tally.free_choices > 0;
+        let can = can_be_satisfied(formula.variables, &written_clauses(text));
+        for kept in 0..=parts.len() {
+            let lines = self.walk_cut(kept, walked);
+            assert_eq!(lines > 0, can, "{kept} lines of {}", shown(text));
+            note(walked, "lines walked back", lines);
+            note(walked, "cuts", 1);
+            note(walked, "cuts with a free choice", usize::from(free));
+            if let Some(place) = place_of_cut(&parts, kept).filter(|_| can) {
+                note(walked, format!("{:?}: cuts {place}", self.way.0), 1);
+            }
+        }
+    }
+
+    fn note(&self, walked: &mut Occurred) {
+        let Joined { text, formula } = self.input;
+        let (choices, tally) = (self.encoding.choices.len(), &self.encoding.tally);
+        let joined_choice = choices > 0 && is_joined(self.input);
+        for (what, times) in [
+            ("formulas", 1),
+            ("formulas with a choice", usize::from(choices > 0)),
+            ("joined, with a choice", usize::from(joined_choice)),
+            ("clauses with a repeat", clauses_with_repeat(text).len()),
+            ("clauses left out", formula.left_out),
+            ("choices without a pair", tally.unpaired),
+            ("choices with some pairs", tally.partly_paired),
+            ("choices with all pairs", tally.fully_paired),
+            ("pairs in several copies", tally.repeated_pairs),
+        ] {
+            note(walked, what, times);
+        }
+    }
+}
+
+/// Where in a choice's lines a log is cut: the parts of the lines before and after it.
+fn place_of_cut(parts: &[Part], kept: usize) -> Option<&'static str> {
+    match (parts.get(kept.checked_sub(1)?)?, parts.get(kept)?) {
+        (Part::Counter, Part::Counter) => Some("in stage 2"),
+        (Part::Counter, _) => Some("between stages 2 and 3"),
+        (Part::Exclusion, _) => Some("in stage 3"),
+        (Part::Last, _) => Some("between stages 3 and 4"),
+        (Part::Choice | Part::Pair, Part::Pair) => Some("in stage 4"),
+        (Part::Choice | Part::Pair, Part::Order) => Some("between stage 4 and order form"),
+        (Part::Order, Part::Order) => Some("in order form"),
+        _ => None,
     }
 }
 
@@ -110,34 +159,71 @@ fn can_be_satisfied(variables: i32, clauses: &[Vec<i32>]) -> bool {
     })
 }
 
+/// One of five is a choice alone, of which no pair stands unless it is paired.
+fn drawn(random: &mut Random) -> Joined {
+    let mut formula = if random.chance(20) {
+        clauses_apart(random.between(5, 6), 1)
+    } else {
+        let (variables, clauses) = (random.between(3, 8), random.between(3, 22));
+        planned(random, variables, clauses)
+    };
+    if random.chance(33) {
+        formula = freed(random, formula);
+    }
+    if random.chance(33) {
+        formula = paired(random, formula);
+    }
+    one_of_three_joined(random, formula)
+}
+
+fn highest(formula: &Formula) -> i32 {
+    run_model(formula, Form::Counter, Arrangement::AsListed).highest
+}
+
 #[test]
 fn every_cut_walks_back() {
-    let counted = over_seeds(0..500, |seed, walked: &mut Walked| {
-        let mut random = Random::new(seed);
-        let variables = random.between(3, 8);
-        let clauses = random.between(3, 22);
-        let mut formula = planned(&mut random, variables, clauses);
-        if random.chance(33) {
-            formula = freed(&mut random, formula);
-        }
-        let input = one_of_three_joined(&mut random, formula);
-        if run_model(&input.formula, WAYS[0].0, WAYS[0].1).highest <= 13 {
-            walk_all(&input, seed, walked);
+    let counted = over_seeds(0..600, |seed, walked: &mut Occurred| {
+        let input = drawn(&mut Random::new(seed));
+        if highest(&input.formula) <= 13 {
+            Walk::new(&input, WAYS[seed as usize % WAYS.len()]).walk_all(walked);
         }
     });
-    let sum = |of: fn(&Walked) -> usize| counted.iter().map(of).sum::<usize>();
-    let (formulas, with_choice) = (sum(|w| w.formulas), sum(|w| w.with_choice));
-    let (repeats, left_out) = (sum(|w| w.repeats), sum(|w| w.left_out));
-    let (cuts, lines) = (sum(|w| w.cuts), sum(|w| w.lines));
-    let joined_with_choice = sum(|w| w.joined_with_choice);
-    let (cuts_with_free, chosen) = (sum(|w| w.cuts_with_free), sum(|w| w.chosen));
-    println!(
-        "{formulas} formulas, {with_choice} with a choice, {joined_with_choice} of these joined; \
-         clauses: {repeats} with a repeat, {left_out} left out; \
-         {cuts} cuts, {cuts_with_free} of logs with a free choice, {lines} lines walked back, \
-         {chosen} times exactly one literal"
-    );
-    assert!(with_choice > 100 && cuts > 5_000 && lines > 40_000);
-    assert!(cuts_with_free > 1_000 && chosen > 500);
-    assert!(joined_with_choice > 20 && repeats > 200 && left_out > 150);
+    let walked = sum(counted);
+    println!("{walked:#?}");
+    let cases = [
+        ("formulas with a choice", 100),
+        ("joined, with a choice", 20),
+        ("clauses with a repeat", 200),
+        ("clauses left out", 150),
+        ("choices without a pair", 50),
+        ("choices with some pairs", 50),
+        ("choices with all pairs", 20),
+        ("pairs in several copies", 50),
+        ("cuts", 5_000),
+        ("cuts with a free choice", 1_000),
+        ("lines walked back", 40_000),
+        ("exactly one literal", 500),
+    ];
+    expect_more(&walked, cases);
+    expect_cuts(&walked);
+}
+
+/// Cuts of a formula that has a plan, all over the lines of a choice.
+fn expect_cuts(walked: &Occurred) {
+    for form in [Form::Counter, Form::Order] {
+        let cuts = [
+            ("in stage 2", 500),
+            ("between stages 2 and 3", 50),
+            ("in stage 3", 200),
+            ("between stages 3 and 4", 50),
+            ("in stage 4", 200),
+        ];
+        let of_form = |(place, least)| (format!("{form:?}: cuts {place}"), least);
+        expect_more(walked, cuts.map(of_form));
+    }
+    let order = [
+        ("Order: cuts between stage 4 and order form", 50),
+        ("Order: cuts in order form", 500),
+    ];
+    expect_more(walked, order);
 }

@@ -1,6 +1,10 @@
-//! The sessions listed in document 01, word for word.
+//! The sessions listed in document 01, word for word, as its changes have them.
 
-use model::sessions::{F, SIX};
+mod common;
+
+use common::{compare_reencode, run_model, Room, WAYS};
+use model::reading::{read_formula, INPUT_LIMITS};
+use model::sessions::{COPIES, F, SIX};
 use sirgholyn::{
     read_back, reencode, walk_back, Arrangement, Error, Form, ReencodeRoom, Reencoded, Refusal,
     WalkBackRoom,
@@ -73,13 +77,13 @@ fn e() {
 #[test]
 fn f() {
     let tally = encode(F, Form::Counter, Arrangement::AsListed).tally;
-    assert_eq!((tally.highest, tally.clauses, tally.lines), (10, 21, 36));
+    assert_eq!((tally.highest, tally.clauses, tally.lines), (10, 21, 18));
 }
 
 #[test]
 fn g_and_h() {
     let new = encode(F, Form::Order, Arrangement::AsListed);
-    assert_eq!(new.tally.lines, 59);
+    assert_eq!(new.tally.lines, 41);
     assert_eq!(String::from_utf8_lossy(&new.formula), G);
     let back = read_back(&new.formula, None).unwrap();
     assert_eq!(back.counts.variables, 10);
@@ -90,7 +94,7 @@ fn g_and_h() {
     let line = walk(
         F,
         &new.log,
-        59,
+        41,
         "s SATISFIABLE\nv 1 2 3 4 5 -6 -7 -8 -9 10 0\n",
     );
     assert_eq!(line.as_deref(), Ok("v -1 -2 -3 4 -5 -6 0\n"));
@@ -101,7 +105,7 @@ fn g_and_h() {
 fn six_literals() {
     let [counter, order] =
         [Form::Counter, Form::Order].map(|form| encode(SIX, form, Arrangement::AsListed));
-    for (new, clauses, lines) in [(&counter, 20, 51), (&order, 4, 67)] {
+    for (new, clauses, lines) in [(&counter, 20, 21), (&order, 4, 37)] {
         let tally = &new.tally;
         assert_eq!((tally.choices, tally.highest), (1, 11));
         assert_eq!((tally.clauses, tally.lines), (clauses, lines));
@@ -109,10 +113,30 @@ fn six_literals() {
     let steps = "p cnf 11 4\n8 -7 0\n9 -8 0\n10 -9 0\n11 -10 0\n";
     assert_eq!(String::from_utf8_lossy(&order.formula), steps);
     let answer = "s SATISFIABLE\nv 1 2 -3 -4 -5 -6 -7 -8 9 10 11 0\n";
-    let line = walk(SIX, &order.log, 67, answer);
+    let line = walk(SIX, &order.log, 37, answer);
     assert_eq!(line.as_deref(), Ok("v -1 -2 3 -4 -5 -6 0\n"));
-    let refused = walk(SIX, &counter.log, 51, answer);
+    let refused = walk(SIX, &counter.log, 21, answer);
     assert_eq!(refused, Err(Error::Refused(Refusal(44))));
+}
+
+/// All copies of a pair are deleted, and no pair is added that does not stand.
+#[test]
+fn copies_of_pairs() {
+    let log = "-6 1 0\n6 -1 0\n-7 6 2 0\n7 -6 0\n7 -2 0\n-8 7 3 0\n8 -7 0\n8 -3 0\n-9 8 4 0\n9 -8 0\n9 -4 0\n\
+               -2 -6 0\n-3 -7 0\n-4 -8 0\n-5 -9 0\n9 5 0\n\
+               d 1 2 3 4 5 0\nd -1 -2 0\nd -1 -2 0\nd -1 -3 0\nd -1 -3 0\n";
+    let counter = encode(COPIES, Form::Counter, Arrangement::AsListed);
+    assert_eq!(String::from_utf8_lossy(&counter.log), log);
+    assert_eq!((counter.tally.lines, counter.tally.log_bytes), (21, 175));
+    let order = encode(COPIES, Form::Order, Arrangement::AsListed);
+    assert!(order.log.starts_with(log.as_bytes()));
+
+    let read = read_formula(COPIES.as_bytes(), &INPUT_LIMITS).unwrap();
+    for (form, arrangement) in WAYS {
+        let room = Room::exact(&read, &run_model(&read, form, arrangement));
+        let number = compare_reencode(COPIES.as_bytes(), form, arrangement, room);
+        assert_eq!(number, 0);
+    }
 }
 
 /// A repeated literal is kept once; a clause that holds a literal and its negation is left out.

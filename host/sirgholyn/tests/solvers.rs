@@ -3,13 +3,14 @@
 mod common;
 
 use common::formulas::{any_kind, any_kind_joined, beside_free_choice, is_joined, rewritten};
+use common::lines::check_lines;
 use common::solvers::{cadical, fullest_answer, minisat, Answer};
 use common::{expect_more, note, over_seeds, run_model, sum, Occurred, WAYS};
-use model::generator::{one_of_three_joined, written_clauses, Joined, Random};
+use model::generator::{one_of_three_joined, paired, Joined, Random};
 use model::log_reading::read_kept_lines;
 use model::texts::count_true;
 use model::valleys::Valley;
-use sirgholyn::drat::{self, Checker, Ground};
+use sirgholyn::drat::{self, Ground};
 use sirgholyn::{plan, Arrangement, Form, ReencodeRoom, Reencoded, WalkBackRoom};
 use std::io::Read;
 
@@ -27,6 +28,10 @@ struct Trip<'a> {
     in_choices: Vec<&'a [i32]>,
     /// Whether a choice has a pure literal.
     free: bool,
+    /// Whether a pair of some choice stands.
+    paired: bool,
+    /// Whether no pair of some choice stands.
+    unpaired: bool,
 }
 
 impl<'a> Trip<'a> {
@@ -37,17 +42,25 @@ impl<'a> Trip<'a> {
         assert_eq!(new.tally.choices as usize, encoding.choices.len());
         let clause = |place: usize| input.formula.clauses[place].as_slice();
         let places = encoding.input_clauses_in_choices();
+        let tally = &encoding.tally;
         Trip {
             input,
             new,
             in_choices: places.into_iter().map(clause).collect(),
-            free: encoding.tally.free_choices > 0,
+            free: tally.free_choices > 0,
+            paired: tally.partly_paired + tally.fully_paired > 0,
+            unpaired: tally.unpaired > 0,
         }
     }
 
     fn note(&self, trips: &mut Occurred, what: &str) {
         note(trips, what, 1);
-        for (of, applies) in [("joined", is_joined(self.input)), ("free", self.free)] {
+        for (of, applies) in [
+            ("joined", is_joined(self.input)),
+            ("free", self.free),
+            ("paired", self.paired),
+            ("unpaired", self.unpaired),
+        ] {
             note(trips, format!("{of}: {what}"), usize::from(applies));
         }
     }
@@ -101,14 +114,18 @@ fn total(trips: Vec<Occurred>) -> Occurred {
     trips
 }
 
-/// Also of texts that are not kept in full, and with a choice that has a pure literal.
-const ROUNDS: [(&str, usize); 6] = [
+/// Also of texts that are not kept in full, with a choice that has a pure literal, and with and without pairs.
+const ROUNDS: [(&str, usize); 10] = [
     ("plans", 60),
     ("proofs", 60),
     ("joined: plans", 20),
     ("joined: proofs", 10),
     ("free: plans", 20),
     ("free: proofs", 10),
+    ("paired: plans", 20),
+    ("paired: proofs", 10),
+    ("unpaired: plans", 20),
+    ("unpaired: proofs", 10),
 ];
 
 #[test]
@@ -121,9 +138,13 @@ fn valleys() {
         if random.chance(30) {
             valley.free = vec![(random.below(traps), random.below(lures))];
         }
+        let mut formula = valley.formula();
+        if random.chance(40) {
+            formula = paired(&mut random, formula);
+        }
         let input = match seed % 3 {
-            0 => rewritten(&mut random, valley.formula()),
-            _ => valley.formula().into(),
+            0 => rewritten(&mut random, formula),
+            _ => formula.into(),
         };
         Trip::new(&input, WAYS[seed as usize % WAYS.len()]).round(trips);
     }));
@@ -202,10 +223,12 @@ fn valleys_with_free_lures() {
 fn random_formulas() {
     let trips = total(over_seeds(0..240, |seed, trips: &mut Occurred| {
         let random = &mut Random::new(seed);
-        let mut formula = any_kind(random);
-        if seed % 3 == 0 {
-            formula = beside_free_choice(random, formula);
-        }
+        let formula = any_kind(random);
+        let formula = match seed % 3 {
+            0 => beside_free_choice(random, formula),
+            1 => paired(random, formula),
+            _ => formula,
+        };
         let input = one_of_three_joined(random, formula);
         Trip::new(&input, WAYS[seed as usize % WAYS.len()]).round(trips);
     }));
@@ -221,23 +244,16 @@ fn our_lines_follow() {
             0 => with_free_lures(random).formula().into(),
             _ => any_kind_joined(random),
         };
-        let text = &input.text;
         let trip = Trip::new(&input, WAYS[seed as usize % WAYS.len()]);
         let kept = read_kept_lines(&trip.new.log, trip.new.tally.lines as usize).unwrap();
-        let mut checker = Checker::new(written_clauses(text));
-        for line in kept {
-            let seen = || format!("{line:?} of {}", String::from_utf8_lossy(text));
-            if line.deletion {
-                assert!(checker.delete(&line.literals), "{}", seen());
-                trip.note(lines, "deletions");
-                continue;
-            }
-            match checker.add_if_follows(&line.literals, &mut || {}) {
-                Some(Ground::Propagation) => trip.note(lines, "by propagation"),
-                Some(Ground::Resolvents) => trip.note(lines, "by resolvents"),
-                None => panic!("{}", seen()),
-            }
-        }
+        check_lines(&input.text, &kept, |_, _, ground| {
+            let what = match ground {
+                Some(Ground::Propagation) => "by propagation",
+                Some(Ground::Resolvents) => "by resolvents",
+                None => "deletions",
+            };
+            trip.note(lines, what);
+        });
     }));
     for (what, least) in [
         ("by propagation", 10_000),
@@ -246,5 +262,6 @@ fn our_lines_follow() {
     ] {
         let of = |kind: &str, share: usize| (format!("{kind}{what}"), least / share);
         expect_more(&lines, [of("", 1), of("joined: ", 10), of("free: ", 4)]);
+        expect_more(&lines, [of("paired: ", 2), of("unpaired: ", 4)]);
     }
 }

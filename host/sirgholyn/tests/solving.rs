@@ -7,9 +7,11 @@ use common::command::{
 };
 use common::formulas::rewritten;
 use common::solvers::{fullest_answer, named, Folder};
-use model::generator::Random;
-use model::reading::{read_formula, INPUT_LIMITS};
+use common::{run_model, WAYS as NAMED_WAYS};
+use model::generator::{paired, text_of, Random};
+use model::reading::{read_formula, Formula, INPUT_LIMITS};
 use model::sessions::F;
+use model::texts::log_text;
 use sirgholyn::{drat, plan};
 use std::fs;
 use std::os::unix::process::{CommandExt, ExitStatusExt};
@@ -52,7 +54,7 @@ fn a_plan() {
     );
 }
 
-/// Form and alignment, as words of `solve`.
+/// Form and alignment, as words of `solve`: those of `NAMED_WAYS`.
 const WAYS: [[&str; 3]; 4] = [
     ["--form", "counter", "--no-align"],
     ["--form", "counter", "--align"],
@@ -179,6 +181,45 @@ fn a_proof_that_there_is_no_plan() {
         let ran = run_with(&["solve", "-", "--proof", &proof], small.as_bytes());
         assert_eq!((ran.status, ran.err.as_str()), (20, ""));
         check(small, &fs::read_to_string(&proof).unwrap());
+    }
+}
+
+/// An example with more pairs of its traps: of each some or all, a few twice.
+fn paired_example(name: &str) -> Formula {
+    let text = fs::read(example(name)).unwrap();
+    let formula = read_formula(&text, &INPUT_LIMITS).unwrap();
+    paired(&mut Random::new(1), formula)
+}
+
+/// A script may forbid each trap two lures itself. The proof begins with our log, which deletes these pairs.
+#[test]
+fn plans_and_proofs_where_pairs_stand() {
+    let folder = Folder::new();
+    let proof = folder.path("proof.drat");
+    for ((form, arrangement), words) in NAMED_WAYS.into_iter().zip(WAYS) {
+        let solve = |input: &str| {
+            let own = ["solve", input, "--proof", &proof];
+            run(&[&own, &words[..]].concat())
+        };
+        let valley = folder.write("in.cnf", &text_of(&paired_example("valley.cnf")));
+        expect_one_lure_each(&valley, &solve(&valley));
+
+        let formula = paired_example("no_plan.cnf");
+        let text = text_of(&formula);
+        let ran = solve(&folder.write("in.cnf", &text));
+        let found = (ran.status, ran.out.as_str(), ran.err.as_str());
+        assert_eq!(found, (20, "s UNSATISFIABLE\n", ""));
+        let whole = fs::read_to_string(&proof).unwrap();
+        check(&String::from_utf8(text).unwrap(), &whole);
+        let encoding = run_model(&formula, form, arrangement);
+        assert!(whole.as_bytes().starts_with(&log_text(&encoding.log)));
+        let tally = &encoding.tally;
+        let counts = [
+            tally.partly_paired,
+            tally.fully_paired,
+            tally.repeated_pairs,
+        ];
+        assert!(!counts.contains(&0), "{counts:?}");
     }
 }
 

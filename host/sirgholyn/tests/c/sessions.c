@@ -109,14 +109,14 @@ static void sessions(void)
     EXPECT(tally[SIRGHOLYN_REENCODE_CHOICES] == 1);
     EXPECT(tally[SIRGHOLYN_REENCODE_HIGHEST] == 10);
     EXPECT(tally[SIRGHOLYN_REENCODE_CLAUSES] == 8);
-    EXPECT(tally[SIRGHOLYN_REENCODE_LINES] == 59);
+    EXPECT(tally[SIRGHOLYN_REENCODE_LINES] == 41);
     EXPECT(tally[SIRGHOLYN_REENCODE_FORMULA_BYTES] == strlen(G));
     EXPECT(memcmp(new_formula, G, strlen(G)) == 0);
     EXPECT(all(new_formula, strlen(G), sizeof new_formula, PATTERN));
     log_len = tally[SIRGHOLYN_REENCODE_LOG_BYTES];
     EXPECT(log_len < LOG_ROOM && all(new_log, log_len, sizeof new_log, PATTERN));
 
-    EXPECT(walk_back(log_len, 59, H_ANSWER, work_len, LINE_ROOM) == SIRGHOLYN_DONE);
+    EXPECT(walk_back(log_len, 41, H_ANSWER, work_len, LINE_ROOM) == SIRGHOLYN_DONE);
     EXPECT(tally[SIRGHOLYN_WALK_BACK_BYTES] == strlen(H_LINE));
     EXPECT(memcmp(line, H_LINE, strlen(H_LINE)) == 0);
     EXPECT(all(line, strlen(H_LINE), sizeof line, PATTERN));
@@ -177,11 +177,11 @@ static void zero_after_refusals(void)
 
     EXPECT(reencode(F, F_WORK, LOG_ROOM, FORMULA_ROOM) == SIRGHOLYN_DONE);
     log_len = tally[SIRGHOLYN_REENCODE_LOG_BYTES];
-    EXPECT(walk_back(log_len, 59, "s SATISFIABLE\nv 8 -10 0\n", work_len, LINE_ROOM)
+    EXPECT(walk_back(log_len, 41, "s SATISFIABLE\nv 8 -10 0\n", work_len, LINE_ROOM)
            == SIRGHOLYN_STANDING_CLAUSE_FALSE);
     EXPECT(all(line, 0, sizeof line, 0) && tally[0] == 0);
-    EXPECT(walk_back(log_len, 60, H_ANSWER, work_len, LINE_ROOM) == SIRGHOLYN_FEWER_LINES);
-    EXPECT(walk_back(log_len, 59, H_ANSWER, work_len, 9) == SIRGHOLYN_LINE_SHORT);
+    EXPECT(walk_back(log_len, 42, H_ANSWER, work_len, LINE_ROOM) == SIRGHOLYN_FEWER_LINES);
+    EXPECT(walk_back(log_len, 41, H_ANSWER, work_len, 9) == SIRGHOLYN_LINE_SHORT);
     EXPECT(all(line, 0, 9, 0) && all(line, 9, sizeof line, PATTERN));
 
     EXPECT(read_back("p cnf 1 1\n2 0\n", 64) == SIRGHOLYN_VARIABLE_ABOVE_V);
@@ -197,8 +197,8 @@ static void workspace_rules(void)
     EXPECT(reencode(F, F_WORK, LOG_ROOM, FORMULA_ROOM) == SIRGHOLYN_DONE);
     log_len = tally[SIRGHOLYN_REENCODE_LOG_BYTES];
     enough = SIRGHOLYN_WALK_BACK_WORK(17 + 7, numbers(new_log, log_len), 10);
-    EXPECT(walk_back(log_len, 59, H_ANSWER, enough - 1, LINE_ROOM) == SIRGHOLYN_WORK_SHORT);
-    EXPECT(walk_back(log_len, 59, H_ANSWER, enough, LINE_ROOM) == SIRGHOLYN_DONE);
+    EXPECT(walk_back(log_len, 41, H_ANSWER, enough - 1, LINE_ROOM) == SIRGHOLYN_WORK_SHORT);
+    EXPECT(walk_back(log_len, 41, H_ANSWER, enough, LINE_ROOM) == SIRGHOLYN_DONE);
     enough = SIRGHOLYN_WORK(19, 8, 10);
     EXPECT(read_back(G, enough - 1) == SIRGHOLYN_WORK_SHORT);
     EXPECT(read_back(G, enough) == SIRGHOLYN_DONE);

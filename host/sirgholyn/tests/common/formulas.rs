@@ -1,8 +1,10 @@
 //! Random formulas: with choices of named sizes, joined by clashes, linked, and negated in many ways; and with
 //! clashes at variables all over the range.
 
+use model::counter::pairs;
 use model::generator::{
-    clauses_with_repeat, freed, noise, one_of_three_joined, planned, Joined, Random,
+    clauses_apart, clauses_with_repeat, freed, noise, one_of_three_joined, paired, planned, Joined,
+    Random,
 };
 use model::reading::Formula;
 use model::texts::formula_text;
@@ -37,12 +39,14 @@ pub fn any_kind(random: &mut Random) -> Formula {
     }
 }
 
-/// The same, one of four freed, then one of three joined.
+/// The same, one of three freed, one of three with more pairs of its choices; then one of three joined.
 pub fn any_kind_joined(random: &mut Random) -> Joined {
-    let mut formula = any_kind(random);
-    if random.chance(25) {
-        formula = freed(random, formula);
-    }
+    let formula = any_kind(random);
+    let formula = match random.below(3) {
+        0 => freed(random, formula),
+        1 => paired(random, formula),
+        _ => formula,
+    };
     one_of_three_joined(random, formula)
 }
 
@@ -54,6 +58,21 @@ pub fn beside_free_choice(random: &mut Random, mut formula: Formula) -> Formula 
     let choice: Vec<i32> = choice.collect();
     let place = random.below(formula.clauses.len() + 1);
     formula.clauses.insert(place, choice);
+    formula
+}
+
+/// So many choices of the size, and so many copies of all their pairs, every other copy turned.
+pub fn with_pairs(size: usize, count: usize, copies: usize) -> Formula {
+    let mut formula = clauses_apart(size, count);
+    let choices = formula.clauses.clone();
+    for copy in 0..copies {
+        for mut pair in choices.iter().flat_map(|choice| pairs(choice)) {
+            if copy % 2 == 1 {
+                pair.reverse();
+            }
+            formula.clauses.push(pair);
+        }
+    }
     formula
 }
 

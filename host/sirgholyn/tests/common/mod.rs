@@ -3,6 +3,7 @@
 
 pub mod command;
 pub mod formulas;
+pub mod lines;
 pub mod solvers;
 
 use model::encoding::Encoding;

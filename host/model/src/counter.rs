@@ -28,6 +28,14 @@ pub fn pairs(choice: &[i32]) -> Vec<Vec<i32>> {
     pairs
 }
 
+/// How many of the clauses are copies of the choice's pairs, by a plain walk.
+pub fn copies_of_pairs(clauses: &[Vec<i32>], choice: &[i32]) -> usize {
+    let is_pair = |clause: &&Vec<i32>| {
+        clause.len() == 2 && clause.iter().all(|literal| choice.contains(&-literal))
+    };
+    clauses.iter().filter(is_pair).count()
+}
+
 /// The 4(k-1) clauses of stages 2 and 3, in order. Here l1..lk are
 /// choice[0]..choice[k-1] and s1..s(k-1) are steps[0]..steps[k-2].
 fn counter_clauses(choice: &[i32], steps: &[i32]) -> Vec<Vec<i32>> {

@@ -405,6 +405,17 @@ pub fn one_of_three_joined(random: &mut Random, formula: Formula) -> Joined {
     }
 }
 
+/// The same, freed and paired before, each in so many of a hundred.
+pub fn varied(random: &mut Random, mut formula: Formula, free: usize, pair: usize) -> Joined {
+    if random.chance(free) {
+        formula = freed(random, formula);
+    }
+    if random.chance(pair) {
+        formula = paired(random, formula);
+    }
+    one_of_three_joined(random, formula)
+}
+
 /// The clauses of an accepted text as they are written.
 pub fn written_clauses(text: &[u8]) -> Vec<Vec<i32>> {
     let text = String::from_utf8_lossy(text);

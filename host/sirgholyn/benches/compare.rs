@@ -261,7 +261,7 @@ fn print_rows(rows: &[Row]) {
             .filter(|_| row.family != "largest")
             .map(|before| ratio(&row.library, &before.library));
         println!(
-            "| {} | {} | {:.1} | {} | {:.3} | {:.0} | {} | {} | {} | {} |",
+            "| {} | {} | {:.2} | {} | {:.3} | {:.0} | {} | {} | {} | {} |",
             row.name,
             row.form,
             row.log_megabytes,

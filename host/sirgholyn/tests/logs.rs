@@ -4,9 +4,9 @@
 mod common;
 
 use common::formulas::{any_kind_joined, with_pairs};
-use common::lines::{check_lines, cleared, copies_of_pairs, parts, Part};
+use common::lines::{check_lines, cleared, parts, Part};
 use common::{expect_more, note, over_seeds, run_model, sum, Occurred, WAYS};
-use model::counter::pairs;
+use model::counter::{copies_of_pairs, pairs};
 use model::encoding::Encoding;
 use model::generator::{clauses_apart, forbidding, paired, Joined, Random};
 use model::log_reading::read_kept_lines;

@@ -7,8 +7,7 @@ use common::lines::{parts, Part};
 use common::{expect_more, note, over_seeds, run_model, sum, Occurred, WAYS};
 use model::encoding::Encoding;
 use model::generator::{
-    clauses_apart, clauses_with_repeat, freed, one_of_three_joined, paired, planned,
-    written_clauses, Joined, Random,
+    clauses_apart, clauses_with_repeat, planned, varied, written_clauses, Joined, Random,
 };
 use model::reading::Formula;
 use model::texts::{count_true, log_text};
@@ -161,19 +160,13 @@ fn can_be_satisfied(variables: i32, clauses: &[Vec<i32>]) -> bool {
 
 /// One of five is a choice alone, of which no pair stands unless it is paired.
 fn drawn(random: &mut Random) -> Joined {
-    let mut formula = if random.chance(20) {
+    let formula = if random.chance(20) {
         clauses_apart(random.between(5, 6), 1)
     } else {
         let (variables, clauses) = (random.between(3, 8), random.between(3, 22));
         planned(random, variables, clauses)
     };
-    if random.chance(33) {
-        formula = freed(random, formula);
-    }
-    if random.chance(33) {
-        formula = paired(random, formula);
-    }
-    one_of_three_joined(random, formula)
+    varied(random, formula, 33, 33)
 }
 
 fn highest(formula: &Formula) -> i32 {

@@ -1,6 +1,6 @@
 //! Random small formulas.
 
-use model::generator::{freed, noise, one_of_three_joined, paired, planned, Joined, Random};
+use model::generator::{noise, planned, varied, Joined, Random};
 use model::{Arrangement, Form};
 
 pub const WAYS: [(Form, Arrangement); 4] = [
@@ -13,16 +13,10 @@ pub const WAYS: [(Form, Arrangement); 4] = [
 pub fn drawn(random: &mut Random, variables: (usize, usize)) -> Joined {
     let variable_count = random.between(variables.0, variables.1);
     let clause_limit = random.between(2, 26);
-    let mut formula = if random.chance(10) {
+    let formula = if random.chance(10) {
         noise(random, variable_count, clause_limit)
     } else {
         planned(random, variable_count, clause_limit)
     };
-    if random.chance(50) {
-        formula = freed(random, formula);
-    }
-    if random.chance(40) {
-        formula = paired(random, formula);
-    }
-    one_of_three_joined(random, formula)
+    varied(random, formula, 50, 40)
 }

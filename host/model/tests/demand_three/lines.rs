@@ -1,6 +1,7 @@
 //! How many lines the log has in counter form.
 
 use crate::lists::cleared;
+use model::counter::copies_of_pairs;
 use model::encoding::Encoding;
 use model::generator::text_of;
 use model::reading::Formula;
@@ -11,14 +12,6 @@ use model::{reencode, Arrangement, Form};
 fn by_choice(lines: &[Line]) -> Vec<&[Line]> {
     let is_same = |line: &Line, next: &Line| !line.deletion || next.deletion;
     lines.chunk_by(is_same).collect()
-}
-
-/// p, the copies of the choice's pairs.
-fn copies_of_pairs(standing: &[Vec<i32>], choice: &[i32]) -> usize {
-    let is_pair = |clause: &&Vec<i32>| {
-        clause.len() == 2 && clause.iter().all(|literal| choice.contains(&-literal))
-    };
-    standing.iter().filter(is_pair).count()
 }
 
 /// Each choice writes 4(k-1) + 1 + p lines, a clash up to three, a pure clause one. The answer is the run, and how

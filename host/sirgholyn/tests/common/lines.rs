@@ -1,6 +1,6 @@
-//! The lines of a log: how many there are, what each belongs to, and why it follows. Pairs are counted by a plain
-//! walk over what stands.
+//! The lines of a log: how many there are, what each belongs to, and why it follows.
 
+use model::counter::copies_of_pairs;
 use model::encoding::Encoding;
 use model::generator::written_clauses;
 use model::reading::Formula;
@@ -32,14 +32,6 @@ pub enum Part {
 pub fn cleared(formula: &Formula, encoding: &Encoding) -> Vec<Vec<i32>> {
     let lines = &encoding.log[..encoding.tally.clearing_lines()];
     replay(&formula.clauses, lines).unwrap()
-}
-
-/// How many clauses are copies of the choice's pairs.
-pub fn copies_of_pairs(clauses: &[Vec<i32>], choice: &[i32]) -> usize {
-    let is_pair = |clause: &&Vec<i32>| {
-        clause.len() == 2 && clause.iter().all(|literal| choice.contains(&-literal))
-    };
-    clauses.iter().filter(is_pair).count()
 }
 
 /// The parts of one choice in counter form, with the lines of each: 4(k-1) + 1 + p together, p the copies of its

@@ -108,25 +108,21 @@ choice-exact order-form f c k p b =
     let F = after f (lines-of (take-choice f c k)) in
     (taken-exact f c k p b, along-each Exact F (order-events k F) (order-exact k F))
 
-choices-exact : (form : Form) (order : Clause → Clause) (n : ℕ) (f : Formula) (cs : List Clause) → Arranges n order cs → Along Exact f (choices-events form order n f cs)
-unfolding choices-events size
-choices-exact form order n f [] h = tt
-choices-exact form order n f (c ∷ cs) h =
-    let k = as-choice n order c in
-    let es = choice-events form f c k in
-    along-++ Exact f es (choices-events form order (last-new k) (after f (lines es)) cs)
-    (choice-exact form f c k (ordered-proper n order (c ∷ cs) h c (here refl) .0) (ordered-size n order (c ∷ cs) h c (here refl) n))
-    (choices-exact form order (last-new k) (after f (lines es)) cs (others n order c cs h))
+choice-bounded : (f : Formula) (c : Clause) (k : Choice) → Proper (k .literals) → 2 ≤ length (k .literals) → Along Bounded f (choice-events counter-form f c k)
+unfolding choice-events
+choice-bounded f c k p b = (taken-bounded f c k p b, tt)
 
-choices-bounded : (order : Clause → Clause) (n : ℕ) (f : Formula) (cs : List Clause) → Arranges n order cs → Along Bounded f (choices-events counter-form order n f cs)
-unfolding choices-events choice-events size
-choices-bounded order n f [] h = tt
-choices-bounded order n f (c ∷ cs) h =
-    let k = as-choice n order c in
-    let es = choice-events counter-form f c k in
-    along-++ Bounded f es (choices-events counter-form order (last-new k) (after f (lines es)) cs)
-    (taken-bounded f c k (ordered-proper n order (c ∷ cs) h c (here refl) .0) (ordered-size n order (c ∷ cs) h c (here refl) n), tt)
-    (choices-bounded order (last-new k) (after f (lines es)) cs (others n order c cs h))
+-- what holds of the events of each choice holds along all of them
+module _ (P : Formula → Event → Type 0) (form : Form) (each : (f : Formula) (c : Clause) (k : Choice) → Proper (k .literals) → 2 ≤ length (k .literals) → Along P f (choice-events form f c k)) (order : Clause → Clause) where
+  choices-along : (n : ℕ) (f : Formula) (cs : List Clause) → Arranges n order cs → Along P f (choices-events form order n f cs)
+  unfolding choices-events size
+  choices-along n f [] h = tt
+  choices-along n f (c ∷ cs) h =
+      let k = as-choice n order c in
+      let es = choice-events form f c k in
+      along-++ P f es (choices-events form order (last-new k) (after f (lines es)) cs)
+      (each f c k (ordered-proper n order (c ∷ cs) h c (here refl) .0) (ordered-size n order (c ∷ cs) h c (here refl) n))
+      (choices-along (last-new k) (after f (lines es)) cs (others n order c cs h))
 
 -- ---- a run
 module _ (s : Settings) (i : Input) (h : Run s i) where
@@ -139,14 +135,14 @@ module _ (s : Settings) (i : Input) (h : Run s i) where
 
   run-exact : Along Exact (i .formula) (events s i)
   unfolding choosing
-  run-exact = run-along Exact clearing-exact (choices-exact (s .form) (order-of s i) (i .highest) (cleared (i .formula)) (chosen s i) (arranges s i h))
+  run-exact = run-along Exact clearing-exact (choices-along Exact (s .form) (choice-exact (s .form)) (order-of s i) (i .highest) (cleared (i .formula)) (chosen s i) (arranges s i h))
 
   run-bounded : s .form ≡ counter-form → Along Bounded (i .formula) (events s i)
   unfolding choosing
   run-bounded e =
       let F = cleared (i .formula) in
       run-along Bounded clearing-bounded
-      (subst (λ (form : Form). Along Bounded F (choices-events form (order-of s i) (i .highest) F (chosen s i))) (sym e) (choices-bounded (order-of s i) (i .highest) F (chosen s i) (arranges s i h)))
+      (subst (λ (form : Form). Along Bounded F (choices-events form (order-of s i) (i .highest) F (chosen s i))) (sym e) (choices-along Bounded counter-form choice-bounded (order-of s i) (i .highest) F (chosen s i) (arranges s i h)))
 
 pub short-log : Short-log-holds
 unfolding Short-log-holds log

@@ -15,6 +15,7 @@ use Rattle.theory_base.proofs.Tests.{of-true, to-false}
 use Rattle.theory_base.proofs.Members.{any-mem, same-set-same, same-turned, same-joined}
 use Rattle.theory_base.specs.Clauses.{Same}
 use Rattle.theory_base.proofs.Loops.{replicate-mem}
+use Rattle.theory_base.proofs.Sums.{count-sum, sum-none}
 use Rattle.theory_base.proofs.Removal.{Removed, found, later}
 use Rattle.theory_soundness.proofs.Removals.{Removes, none-left, next, removes-join, Spread}
 use Rattle.theory_counter.specs.Front.{drop-copies, drop-all}
@@ -86,14 +87,9 @@ count-either p q (d ∷ F) n = omega (arith, count-either p q F n, both (p d) (q
     both false true n = refl
     both false false n = refl
 
-count-never : (F : Formula) → count (λ d. false) F ≡ 0
-unfolding count
-count-never [] = refl
-count-never (d ∷ F) = omega (arith, count-never F)
-
 pub copies-length : (ps F : Formula) → Spread ps → length (for-each ps (λ p. replicate (count (same-set p) F) p)) ≡ count (λ d. any (λ p. same-set p d) ps) F
 unfolding for-each any
-copies-length [] F s = sym (count-never F)
+copies-length [] F s = sym (count-sum (λ d. false) F ∙ sum-none (λ d. 0) F (λ d i. refl))
 copies-length (p ∷ ps) F s =
     omega (
       arith,

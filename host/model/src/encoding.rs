@@ -42,6 +42,17 @@ pub struct Tally {
     pub unalignable: usize,
 }
 
+/// A case, and how often it occurs in a run.
+pub type Case = (&'static str, fn(&Tally) -> usize);
+
+/// Choices with no, some and all of their pairs, and pairs in several copies.
+pub const PAIRS: [Case; 4] = [
+    ("choices with no pair", |tally| tally.unpaired),
+    ("choices with some pairs", |tally| tally.partly_paired),
+    ("choices with all pairs", |tally| tally.fully_paired),
+    ("pairs in several copies", |tally| tally.repeated_pairs),
+];
+
 impl Tally {
     /// A clash writes three lines, or two if no resolvent is added.
     pub fn clash_lines(&self) -> usize {

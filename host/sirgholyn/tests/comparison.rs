@@ -8,7 +8,7 @@ use common::{
     compare_read_back, compare_reencode, compare_walk_back, expect_more, new_formula, note,
     over_seeds, run_model, sum, walk_back_work, work_for, Occurred, Room, WAYS,
 };
-use model::encoding::Encoding;
+use model::encoding::{Encoding, Tally, PAIRS};
 use model::generator::{
     answer_after, clauses_with_repeat, damage, damage_log, repeats_in_choices, Joined, Random,
 };
@@ -43,17 +43,17 @@ fn note_run(occurred: &mut Occurred, encoding: &Encoding) {
     }
 }
 
-/// Choices with a pure literal, and with no, some and all of their pairs, by a name of the way.
+/// Choices with a pure literal, and with no, some and all of their pairs.
+fn kinds(tally: &Tally) -> Vec<(&'static str, usize)> {
+    let pairs = PAIRS.map(|(what, times)| (what, times(tally)));
+    [&[("free choices", tally.free_choices)], &pairs[..]].concat()
+}
+
+/// The kinds of choices that are taken, by a name of the way.
 fn note_choices(occurred: &mut Occurred, way: &str, encoding: &Encoding) {
     let tally = &encoding.tally;
-    for (what, times) in [
-        ("free choices", tally.free_choices),
-        ("free choices joined by clashes", tally.joined_free_choices),
-        ("choices without a pair", tally.unpaired),
-        ("choices with some pairs", tally.partly_paired),
-        ("choices with all pairs", tally.fully_paired),
-        ("pairs in several copies", tally.repeated_pairs),
-    ] {
+    let joined = ("free choices joined by clashes", tally.joined_free_choices);
+    for (what, times) in kinds(tally).into_iter().chain([joined]) {
         note(occurred, format!("{way}: {what}"), times);
     }
 }
@@ -65,18 +65,9 @@ fn note_walked(occurred: &mut Occurred, way: &str, encoding: &Encoding, kept: us
         return;
     }
     let cut = ["cut in a choice", "whole"][usize::from(kept == encoding.log.len())];
-    for (what, times) in [
-        ("a free choice", tally.free_choices),
-        ("a choice without a pair", tally.unpaired),
-        ("a choice with some pairs", tally.partly_paired),
-        ("a choice with all pairs", tally.fully_paired),
-        ("a pair in several copies", tally.repeated_pairs),
-    ] {
-        note(
-            occurred,
-            format!("{way}: {what}, {cut}"),
-            usize::from(times > 0),
-        );
+    for (what, times) in kinds(tally) {
+        let walked = usize::from(times > 0);
+        note(occurred, format!("{way}, {cut}: {what}"), walked);
     }
 }
 
@@ -287,7 +278,7 @@ fn expect_choices(occurred: &Occurred) {
         let cases = [
             ("free choices", 500),
             ("free choices joined by clashes", 200),
-            ("choices without a pair", 500),
+            ("choices with no pair", 500),
             ("choices with some pairs", 1_000),
             ("choices with all pairs", 300),
             ("pairs in several copies", 1_000),
@@ -299,14 +290,14 @@ fn expect_choices(occurred: &Occurred) {
         let way = format!("{form:?} {arrangement:?}");
         expect_more(occurred, choices(&way));
         for (what, least) in [
-            ("a free choice", 200),
-            ("a choice without a pair", 200),
-            ("a choice with some pairs", 500),
-            ("a choice with all pairs", 100),
-            ("a pair in several copies", 500),
+            ("free choices", 200),
+            ("choices with no pair", 200),
+            ("choices with some pairs", 500),
+            ("choices with all pairs", 100),
+            ("pairs in several copies", 500),
         ] {
             let cuts = ["whole", "cut in a choice"];
-            let of_way = cuts.map(|cut| (format!("{way}: {what}, {cut}"), least));
+            let of_way = cuts.map(|cut| (format!("{way}, {cut}: {what}"), least));
             expect_more(occurred, of_way);
         }
     }

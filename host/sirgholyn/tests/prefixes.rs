@@ -5,7 +5,7 @@ mod common;
 use common::formulas::is_joined;
 use common::lines::{parts, Part};
 use common::{expect_more, note, over_seeds, run_model, sum, Occurred, WAYS};
-use model::encoding::Encoding;
+use model::encoding::{Encoding, PAIRS};
 use model::generator::{
     clauses_apart, clauses_with_repeat, planned, varied, written_clauses, Joined, Random,
 };
@@ -95,12 +95,11 @@ impl<'a> Walk<'a> {
             ("joined, with a choice", usize::from(joined_choice)),
             ("clauses with a repeat", clauses_with_repeat(text).len()),
             ("clauses left out", formula.left_out),
-            ("choices without a pair", tally.unpaired),
-            ("choices with some pairs", tally.partly_paired),
-            ("choices with all pairs", tally.fully_paired),
-            ("pairs in several copies", tally.repeated_pairs),
         ] {
             note(walked, what, times);
+        }
+        for (what, times) in PAIRS {
+            note(walked, what, times(tally));
         }
     }
 }
@@ -188,7 +187,7 @@ fn every_cut_walks_back() {
         ("joined, with a choice", 20),
         ("clauses with a repeat", 200),
         ("clauses left out", 150),
-        ("choices without a pair", 50),
+        ("choices with no pair", 50),
         ("choices with some pairs", 50),
         ("choices with all pairs", 20),
         ("pairs in several copies", 50),

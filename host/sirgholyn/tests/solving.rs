@@ -8,6 +8,7 @@ use common::command::{
 use common::formulas::rewritten;
 use common::solvers::{fullest_answer, named, Folder};
 use common::{run_model, WAYS as NAMED_WAYS};
+use model::encoding::PAIRS;
 use model::generator::{paired, text_of, Random};
 use model::reading::{read_formula, Formula, INPUT_LIMITS};
 use model::sessions::F;
@@ -213,13 +214,8 @@ fn plans_and_proofs_where_pairs_stand() {
         check(&String::from_utf8(text).unwrap(), &whole);
         let encoding = run_model(&formula, form, arrangement);
         assert!(whole.as_bytes().starts_with(&log_text(&encoding.log)));
-        let tally = &encoding.tally;
-        let counts = [
-            tally.partly_paired,
-            tally.fully_paired,
-            tally.repeated_pairs,
-        ];
-        assert!(!counts.contains(&0), "{counts:?}");
+        let [_, pairs @ ..] = PAIRS.map(|(_, times)| times(&encoding.tally));
+        assert!(!pairs.contains(&0), "{pairs:?}");
     }
 }
 

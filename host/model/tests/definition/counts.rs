@@ -1,24 +1,13 @@
 //! How often each case occurs in the rows.
 
 use crate::rows::{Call, Row};
-use model::encoding::{Encoding, Tally};
+use model::encoding::{Encoding, PAIRS};
 use model::generator::clauses_with_repeat;
 use model::reading::{read_formula, READ_BACK_LIMITS};
 use model::Arrangement;
 use std::collections::BTreeMap;
 
 pub type Counts = BTreeMap<String, usize>;
-
-/// A case, and how often it occurs in a run.
-type Case = (&'static str, fn(&Tally) -> usize);
-
-/// Choices with no, some and all pairs, and pairs in several copies.
-pub const PAIRS: [Case; 4] = [
-    ("choices with no pair", |tally| tally.unpaired),
-    ("choices with some pairs", |tally| tally.partly_paired),
-    ("choices with all pairs", |tally| tally.fully_paired),
-    ("pairs in several copies", |tally| tally.repeated_pairs),
-];
 
 pub fn counts(rows: &[Row]) -> Counts {
     let mut counts = Counts::new();

@@ -4,9 +4,8 @@ use crate::calls::{
     choice_of_20, free_clause, linked_choices, reading_back, reencoding, small, small_freed,
     small_paired, unique_clause, walking_back, ARRANGEMENTS, FORMS,
 };
-use crate::counts::PAIRS;
 use crate::rows::{Call, Row, READER};
-use model::encoding::Encoding;
+use model::encoding::{Encoding, PAIRS};
 use model::generator::{clauses_with_repeat, joined, text_of, Random};
 use model::reading::{read_formula, INPUT_LIMITS, READ_BACK_LIMITS};
 use model::{Arrangement, Form};

@@ -10,7 +10,6 @@ use Rattle.definition.specs.Standing.{Line, after}
 use Rattle.definition.specs.Log.{log-text}
 use Rattle.definition.specs.Events.{Event}
 use Rattle.definition.specs.Reencoding.{lines}
-use Rattle.definition.specs.Calls.{numbers-of}
 use Rattle.theory_base.specs.Clauses.{Proper-all, Fits}
 use Rattle.text.specs.Output.{Put}
 use Rattle.store.specs.Store.{Formed, stored}
@@ -49,8 +48,3 @@ pub record Runs (es : List Event) (work : List ℤ) (log : Bytes) (p : Progress)
   pub stands : standing new-work r ≡ after (standing work p) (lines es)
   pub written : Put log (p .at) (log-text (lines es)) (r .at) new-log
   pub counted : r .lines ≡ p .lines + length (lines es)
-
--- the standing clauses are slid down, and fill the first elements
-pub record Slid-down (work : List ℤ) (p : Progress) (new-work : List ℤ) (r : Progress) : Type 0 where
-  pub runs : (log : Bytes) → Runs [] work log p new-work log r
-  pub end-is : r .end ≡ numbers-of (standing work p)

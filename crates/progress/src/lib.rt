@@ -4,16 +4,18 @@ ghost use mathlib.Core.Bool.{true};
 ghost use mathlib.Core.List.{[], _∷_, _++_};
 ghost use Prim.Native.Nat.{_+_, _-_, _*_, _≤_, _<_, _^_};
 ghost use lib.ListN.{length, take, drop};
-ghost use Rattle.definition.specs.Text.{bytes, literal-text};
+ghost use Rattle.definition.specs.Text.{Bytes, bytes, literal-text};
 ghost use Rattle.definition.specs.Literals.{without, with-first};
-ghost use Rattle.definition.specs.Standing.{addition, deletion};
+ghost use Rattle.definition.specs.Standing.{deletion};
 ghost use Rattle.theory_text.specs.ClauseText.{literals-text};
 ghost use Rattle.literals.specs.Literal.{largest};
 ghost use Rattle.text.specs.Output.{Put};
+ghost use Rattle.theory_base.specs.Cells.{cells-of};
 ghost use Rattle.store.specs.Store.{clause-at, marked, Formed};
 ghost use Rattle.drat.specs.Lines.{line-of};
-ghost use Rattle.progress.specs.Progress.{Written, Slid-down};
-ghost use Rattle.progress.specs.Growth.{Grow-room, Grown};
+ghost use Rattle.index.specs.Index.{nodes, Indexed, Roomy};
+ghost use Rattle.progress.specs.Progress.{Written, standing, Runs};
+ghost use Rattle.progress.specs.Growth.{Grow-room, Grown, Entry-there};
 use store::Added;
 
 // How far a run is: the store's end, the log's end and the lines in the log.
@@ -112,17 +114,18 @@ pub fn delete_first(work: &mut [i32], at: usize, log: &mut [u8], p: Progress, l:
     q
 }
 
-// ---- the store in a workspace
+// ---- the store in a workspace, with its index
 
-// Slides the standing clauses of the store down.
-pub fn slide_down(work: &mut [i32], p: Progress) -> Progress
-    requires { ⌜ (p .end ≤ length (now work)) × Formed (take (p .end) (now work)) ⌝ }
-    ensures { λ r. ⌜ Slid-down (now (work .entry)) p (now (work .exit)) r ⌝ }
+// Makes room for so many elements, where that is less than what is asked.
+pub fn make_room(work: &mut [i32], newest: &mut [u32], p: Progress, cells: usize) -> Progress
+    requires { ⌜ Indexed (now work) (p .end) (now newest) × (cells-of (standing (now work) p) + cells ≤ length (now work)) ⌝ }
+    ensures runs { λ r. ⌜ ((log : Bytes) → Runs [] (now (work .entry)) log p (now (work .exit)) log r) ⌝ }
+    ensures indexed { λ r. ⌜ Indexed (now (work .exit)) (r .end) (now (newest .exit)) ⌝ }
+    ensures roomy { λ r. ⌜ Roomy cells (now (work .exit)) (r .end) (now (newest .exit)) ⌝ }
 {
-    let end = p.end;
-    let n = store::compact(&mut work[..end]);
+    let end = index::make_room(work, newest, p.end, cells);
     Progress {
-        end: n,
+        end,
         at: p.at,
         lines: p.lines,
     }
@@ -130,37 +133,44 @@ pub fn slide_down(work: &mut [i32], p: Progress) -> Progress
 
 // ---- clauses added behind the store
 
-// Adds a clause to the store, and records it.
-pub fn add_clause(work: &mut [i32], log: &mut [u8], p: Progress, clause: &[i32]) -> Progress
-    requires { ⌜ (length (now clause) ≤ largest) × Grow-room (now clause ∷ []) (length (now work)) p ⌝ }
-    ensures { λ r. ⌜ Grown (now (clause .entry) ∷ []) (now (work .entry)) (now (log .entry)) p (now (work .exit)) (now (log .exit)) r ⌝ }
-{
-    let from = p.end;
-    match store::append_clause(work, from, clause) {
-        Added::To(end) => {
-            let q = record_line(log, p, false, clause);
-            Progress {
-                end,
-                at: q.at,
-                lines: q.lines,
-            }
-        }
-        Added::Full => p,
-    }
-}
-
-// Records the clause whose entry was written from the store's end up to another place as added.
-pub fn record_added(work: &[i32], log: &mut [u8], p: Progress, next: usize) -> Progress
-    requires { ⌜ (p .end < next) × (next ≤ length (now work)) × (length (now work) < 2 ^ 31) ⌝ }
+// Enters the clause whose entry was written from the store's end up to another place, and records it as added.
+pub fn record_added(
+    work: &mut [i32],
+    newest: &mut [u32],
+    log: &mut [u8],
+    p: Progress,
+    next: usize,
+) -> Progress
+    requires { ⌜ Indexed (now work) (p .end) (now newest) × Entry-there (now work) (p .end) next ⌝ }
+    requires { ⌜ next + 2 * (nodes (now newest) + (next - (p .end + 1))) ≤ length (now work) ⌝ }
     requires { ⌜ (p .at < 2 ^ 63) × (p .lines < 2 ^ 63) ⌝ }
-    ensures written { λ r. ⌜ Written (addition (take (next - (p .end + 1)) (drop (p .end + 1) (now (work .entry)))) ∷ []) (now (log .entry)) p (now (log .exit)) r ⌝ }
-    ensures end { λ r. ⌜ r .end ≡ next ⌝ }
+    ensures { λ r. ⌜ Grown (clause-at (now (work .entry)) (p .end) ∷ []) (now (work .entry)) (now (newest .entry)) (now (log .entry)) p (now (work .exit)) (now (newest .exit)) (now (log .exit)) r ⌝ }
 {
-    let first = p.end + 1;
+    let end = p.end;
+    let first = end + 1;
+    index::enter(work, newest, end, next);
     let q = record_line(log, p, false, &work[first..next]);
     Progress {
         end: next,
         at: q.at,
         lines: q.lines,
+    }
+}
+
+// Adds a clause to the store, and records it.
+pub fn add_clause(
+    work: &mut [i32],
+    newest: &mut [u32],
+    log: &mut [u8],
+    p: Progress,
+    clause: &[i32],
+) -> Progress
+    requires { ⌜ (length (now clause) ≤ largest) × Grow-room (now clause ∷ []) (now work) (now newest) p ⌝ }
+    ensures { λ r. ⌜ Grown (now (clause .entry) ∷ []) (now (work .entry)) (now (newest .entry)) (now (log .entry)) p (now (work .exit)) (now (newest .exit)) (now (log .exit)) r ⌝ }
+{
+    let from = p.end;
+    match store::append_clause(work, from, clause) {
+        Added::To(end) => record_added(work, newest, log, p, end),
+        Added::Full => p,
     }
 }

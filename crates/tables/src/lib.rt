@@ -209,7 +209,7 @@ pub fn mark(seen: &mut [u32], stamp: u32, l: i32) -> Marked
 }
 
 // Makes every entry 0.
-fn clear(seen: &mut [u32])
+pub fn clear(seen: &mut [u32])
     ensures { λ _. ⌜ At-most (now (seen .exit)) 0 ⌝ }
 {
     let mut i = 0;

@@ -58,9 +58,9 @@ reencoded s i =
       formula = formula;
     }
 
--- 11: fewer 32-bit entries than 20L + 2C + 6V + 8,192; L counts what is kept, C is the header's
+-- 11: fewer 32-bit entries than 40L + 4C + 12V + 8,192; L counts what is kept, C is the header's
 unfoldable pub workspace-need : Input → ℕ
-workspace-need i = 20 * literals-of (i .formula) + 2 * i .clauses + 6 * i .highest + 8_192
+workspace-need i = 40 * literals-of (i .formula) + 4 * i .clauses + 12 * i .highest + 8_192
 
 -- 1 to 4, 7 to 9, 11, 12, 13; the three numbers are the entries of workspace and the bytes of the two buffers
 unfoldable pub reencode : Settings → ℕ → ℕ → ℕ → Bytes → Checked Reencoded

@@ -186,8 +186,8 @@ sessions =
     ∷ refused "p cnf 1 1\n1 -1 1" 7
     ∷ refused "p cnf 1 1\n1 -1 0 1 0\n" 8
     ∷ refused "p cnf 1 2\n1 -1 0\n" 8
-    ∷ short counter "p cnf 1 1\n1 -1 0\n" 8_199 0 0 11
-    ∷ short counter "p cnf 1 1\n1 -1 0\n" 8_200 0 0 13
+    ∷ short counter "p cnf 1 1\n1 -1 0\n" 8_207 0 0 11
+    ∷ short counter "p cnf 1 1\n1 -1 0\n" 8_208 0 0 13
     ∷ walks counter "p cnf 3 3\n1 2 1 0\n2 -2 0\n-1 3 -1 0\n" "s SATISFIABLE\nv 0\n" 4 "v -1 2 -3 0\n"
     -- refusals
     ∷ refused "p cnf 1 1\n2 0\n" 4
@@ -197,9 +197,9 @@ sessions =
     ∷ refused "p cnf 8001 0\n" 2
     ∷ refused "p cnf 0 0 \n" 1
     -- E has V 3, C 2 and L 4; its log has 31 bytes, its new formula 10
-    ∷ short counter e-text 8_293 0 0 11
-    ∷ short counter e-text 8_294 30 9 12
-    ∷ short counter e-text 8_294 31 9 13
+    ∷ short counter e-text 8_395 0 0 11
+    ∷ short counter e-text 8_396 30 9 12
+    ∷ short counter e-text 8_396 31 9 13
     -- the log's writer, then the solver
     ∷ not-walked "p cnf 2 1\n1 2 0\n" "d 1 2 0" 1 "" 31
     ∷ not-walked "p cnf 2 1\n1 2 0\n" "1 1 0\n" 1 "" 31

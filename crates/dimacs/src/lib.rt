@@ -61,9 +61,9 @@ pub fn read_back_limits() -> Limits
 
 // How many entries of workspace a formula needs.
 pub fn workspace_need(variables: u32, clauses: u32, literals: u32) -> usize
-    ensures { λ r. ⌜ r ≡ 20 * literals + 2 * clauses + 6 * variables + 8192 ⌝ }
+    ensures { λ r. ⌜ r ≡ 40 * literals + 4 * clauses + 12 * variables + 8192 ⌝ }
 {
-    20 * (literals as usize) + 2 * (clauses as usize) + 6 * (variables as usize) + 8192
+    40 * (literals as usize) + 4 * (clauses as usize) + 12 * (variables as usize) + 8192
 }
 
 // ---- the header

@@ -8,7 +8,8 @@ use Rattle.definition.specs.Text.{Bytes}
 use Rattle.definition.specs.Log.{log-text, formula-text}
 use Rattle.definition.specs.LogReading.{read-log}
 use Rattle.definition.specs.Reencoding.{Settings, log, result, highest-used}
-use Rattle.definition.specs.Calls.{read-input, workspace-need, numbers-of}
+use Rattle.definition.specs.Calls.{read-input, workspace-need}
+use Rattle.theory_base.specs.Cells.{cells-of}
 use Rattle.theorems.specs.Demand3.{standing}
 
 pub record Texts (s : Settings) (i : Input) : Type 0 where
@@ -16,8 +17,8 @@ pub record Texts (s : Settings) (i : Input) : Type 0 where
   pub formula-read : read-formula read-back-limits (formula-text (highest-used s i) (result s i)) ≡ value (as-read (highest-used s i) (length (result s i)) (result s i))
   -- the log's text, read with j lines kept, gives these lines
   pub log-read : (j : ℕ) → j ≤ length (log s i) → read-log j (log-text (log s i)) ≡ value (take j (log s i))
-  -- at every line, what stands fits the workspace with an entry for each literal and one for each clause
-  pub room : (j : ℕ) → numbers-of (standing s i j) ≤ workspace-need i
+  -- at every line, what stands fits the workspace with its index: an element for each clause and three for each literal
+  pub room : (j : ℕ) → cells-of (standing s i j) ≤ workspace-need i
 
 -- the theorem, proved as `texts` in proofs/Texts
 unfoldable pub Texts-hold : Type 0

@@ -1,20 +1,20 @@
--- What stands before a choice, and all that its events add, fits into the workspace: clauses that are deleted in between need not be given back.
+-- What stands before a choice leaves room for a step, and all that its events add is no more: clauses that are deleted in between need not be given back.
 -- Assumes what a run keeps (`Run`), and that no two choices have a variable in common.
 use mathlib.Core.Path.{_≡_, refl, sym, _∙_, ap}
 use mathlib.Core.Logic.{_≢_}
 use mathlib.Core.Bool.{Bool, true, false, not, cond}
-use mathlib.Core.List.{List, [], _∷_, _++_, append-assoc, List·Memᴰ, List·Memᴰ·head as here, Memᴰ·append-left, Memᴰ·append-right}
+use mathlib.Core.List.{List, [], _∷_, _++_, append-assoc, append-nil, List·Memᴰ, List·Memᴰ·head as here, Memᴰ·append-left, Memᴰ·append-right}
 use Prim.Native.Nat.{ℕ, _+_, _-_, _*_, _≤_}
 use native.Mathlib.Omega.{arith}
 use lib.Dec.{T}
 use lib.IntN.{ℤ, negℤ, negℤ-negℤ, natAbs}
 use lib.ListN.{length}
-use Rattle.definition.specs.Lists.{bit, sum-of, only-if, for-from, for-each}
-use Rattle.definition.specs.Literals.{Clause, Formula, holds, opposes, opposed, literals-of}
-use Rattle.definition.specs.Standing.{addition, deletion, after}
+use Rattle.definition.specs.Lists.{bit, count, sum-of, only-if, for-from, for-each}
+use Rattle.definition.specs.Literals.{Clause, Formula, holds, same-set, opposes, opposed, literals-of}
+use Rattle.definition.specs.Standing.{addition, deletion, take-out, after}
 use Rattle.definition.specs.Reading.{Input}
 use Rattle.definition.specs.Events.{Choice, Event, clause-replaced, literals-deleted}
-use Rattle.definition.specs.Counter.{last-new, size, counter, take-choice}
+use Rattle.definition.specs.Counter.{last-new, size, counter, pairs, take-choice}
 use Rattle.definition.specs.Order.{replacement-lines, replaced, replace, order-events, deletions-of, literal-deletions}
 use Rattle.definition.specs.Reencoding.{lines-of, lines, Form, counter-form, order-form, Settings, choice-events, choices-events, cleared, chosen, events, result}
 use Rattle.definition.specs.Calls.{workspace-need, numbers-of}
@@ -22,19 +22,23 @@ use Rattle.theory_base.proofs.Tests.{to-true, of-true, to-false}
 use Rattle.theory_base.proofs.Members.{opposes-same, opposes-mem, mem-opposes, holds-false, natAbs-neg, parted-before}
 use Rattle.theory_base.specs.Clauses.{Disjoint, Parted}
 use Rattle.theory_base.proofs.Replay.{Leads, leads-split, after-++, lines-++, All-clauses, All-lines}
-use Rattle.theory_base.proofs.Sums.{sum-++, sum-≤, sum-at, sum-none, sum-for-each}
+use Rattle.theory_base.proofs.Sums.{sum-++, sum-≤, sum-at, sum-none, sum-those, sum-for-each, count-sum}
 use Rattle.theory_base.proofs.Fitting.{Up-to, Proper-to}
+use Rattle.theory_base.specs.Cells.{cells-of}
 use Rattle.theory_counter.specs.Ready.{Well-formed}
+use Rattle.theory_counter.specs.Front.{drop-copies, drop-all, front}
 use Rattle.theory_soundness.proofs.Times.{holds-yes}
 use Rattle.theory_order.proofs.Replace.{replaced-old}
-use Rattle.theory_room.proofs.Weights.{weight, Of-set, weight-of-set, gained, added, added-deletions, deleted, balance, Raises, raised}
+use Rattle.theory_room.proofs.Weights.{weight, take-out-≤, Of-set, weight-of-set, gained, added, added-deletions, deleted, balance, Raises, raised}
 use Rattle.theory_room.proofs.Replaced.{Weighs, replaced-weight}
 use Rattle.theory_room.proofs.Lines.{before-counter, taken-lines, after-taken, order-gone-through, Of-choice, Arranges, ordered-length, ordered-size, ordered-proper, ordered-formed, choices-lines-to, choices-standing-to, From-choices, from-choice, events-of-choices, used-least, below-to}
 use Rattle.theory_room.specs.Choices.{new-variables, as-choice, clearing, order-of, events-of-first, standing-after-first, next-choice, used-after}
-use Rattle.theory_room.proofs.Cleared.{clearing-event, cleared-after}
-use Rattle.theory_room.proofs.Runs.{Run, choosing, events-are, standing-to, arranges, parts-lead, run-raises, weight-after, few-new-variables, literal-weight, literal-most, literal-least, weighs, weight-most, weight-least}
-use Rattle.theory_room.proofs.Additions.{numbers, numbers-least, taken-adds}
-use Rattle.theory_room.proofs.Rises.{risen, clearing-risen, added-only-if, taken-changes, counter-weight, choice-raises, choices-risen}
+use Rattle.theory_room.specs.Step.{step-of}
+use Rattle.theory_room.proofs.Cleared.{cleared-after}
+use Rattle.theory_room.proofs.Runs.{Run, choosing, events-are, standing-to, arranges, chosen-mem, parts-lead, run-raises, clearing-weight, few-new-variables, literal-weight, literal-most, literal-least, weighs, weight-most, weight-least}
+use Rattle.theory_room.proofs.Additions.{cells, cells-least, taken-adds}
+use Rattle.theory_room.proofs.Chosen.{chosen-few}
+use Rattle.theory_room.proofs.Rises.{risen, added-only-if, taken-changes, counter-weight, choice-raises, choices-risen}
 use Rattle.theory_counter.proofs.NewVariables.{below-new-least}
 
 -- ---- the weight of the clauses that hold a negated literal of l
@@ -53,6 +57,23 @@ touched-of-set : (l : Clause) (g : Clause → ℕ) → Of-set g → Of-set (touc
 unfolding touched
 touched-of-set l g i c d p q s =
     ap (λ (b : Bool). cond b (g c) 0) (opposes-same l c d s) ∙ ap (λ (n : ℕ). cond (opposes l d) n 0) (i c d p q s)
+
+touched-counts : (l : Clause) (w : ℤ → ℕ) (d : Clause) → bit (opposes l d) ≤ touched l (weight 1 w) d
+unfolding touched weight
+touched-counts l w d = go (opposes l d)
+  where
+    go : (b : Bool) → bit b ≤ cond b (weight 1 w d) 0
+    go true = omega arith
+    go false = omega arith
+
+-- ---- what stands before the counter clauses weighs no more than what stood before the choice
+drop-all-weight : (g : Clause → ℕ) (F ps : Formula) → sum-of g (drop-all F ps) ≤ sum-of g F
+drop-all-weight g F [] = omega arith
+drop-all-weight g F (p ∷ ps) = omega (arith, drop-all-weight g (drop-copies p F) ps, sum-those g (λ d. not (same-set p d)) F)
+
+front-weight : (g : Clause → ℕ) (F : Formula) (k : Choice) → sum-of g (front F k) ≤ sum-of g F
+unfolding front
+front-weight g F k = omega (arith, drop-all-weight g (take-out (k .literals) F) (pairs (k .literals)), take-out-≤ g (k .literals) F)
 
 -- ---- a choice whose variables are not those of l
 module _ (l : Clause) (c : Choice) (u : Well-formed c) (low : Up-to (c .below) l) (foreign : Disjoint l (c .literals)) where
@@ -216,19 +237,23 @@ module _ (s : Settings) (i : Input) (h : Run s i) (disjoint : Parted (chosen s i
   next-to : All-clauses (Proper-to (next-choice s i cs c .below)) (standing-after-first s i cs)
   next-to = below-to (used-after (order-of s i) (i .highest) cs) (standing-after-first s i cs) first-to
 
-  heavier : Clause → ℕ
-  heavier = weight 1 (literal-weight 1 (chosen s i))
+  heavier : ℕ → ℕ → Clause → ℕ
+  heavier u a = weight u (literal-weight a (chosen s i))
 
-  cleared-weight : sum-of heavier (cleared (i .formula)) ≤ length (i .formula) + literals-of (i .formula) * 2
+  heavier-of-set : (u a : ℕ) → Of-set (heavier u a)
   unfolding heavier
-  cleared-weight =
+  heavier-of-set u a = weight-of-set u (literal-weight a (chosen s i))
+
+  cleared-weight : (u a : ℕ) → sum-of (heavier u a) (cleared (i .formula)) ≤ length (i .formula) * u + literals-of (i .formula) * (a + a)
+  unfolding heavier
+  cleared-weight u a =
       let f = i .formula in
+      let w = literal-weight a (chosen s i) in
       omega (
         arith,
-        weight-after s i h 1 1 (clearing f) (choosing s i) (events-are s i),
-        clearing-risen 16 (clearing f) (clearing-event f),
-        ap (sum-of heavier) (cleared-after f),
-        weight-most 1 2 (literal-weight 1 (chosen s i)) (literal-most 1 (chosen s i)) f,
+        clearing-weight s i h u w (clearing f) [] (sym (append-nil (clearing f))),
+        ap (sum-of (heavier u a)) (cleared-after f),
+        weight-most u (a + a) w (literal-most a (chosen s i)) f,
       )
 
   first-event : (d : Event) → List·Memᴰ d (events-of-first s i cs) → List·Memᴰ d (events s i)
@@ -249,55 +274,90 @@ module _ (s : Settings) (i : Input) (h : Run s i) (disjoint : Parted (chosen s i
       )
 
   -- and that of the clauses with a negated literal of the choice not at all
-  first-foreign : Raises (touched (order-of s i c) heavier) (risen 0) (events-of-first s i cs)
+  first-foreign : (u a : ℕ) → Raises (touched (order-of s i c) (heavier u a)) (risen 0) (events-of-first s i cs)
   unfolding events-of-first heavier
-  first-foreign d m = by-choice (events-of-choices (s .form) (order-of s i) (i .highest) (cleared (i .formula)) cs (standing-to s i h) arranges-first d m)
+  first-foreign u a d m = by-choice (events-of-choices (s .form) (order-of s i) (i .highest) (cleared (i .formula)) cs (standing-to s i h) arranges-first d m)
     where
       w : ℤ → ℕ
-      w = literal-weight 1 (chosen s i)
+      w = literal-weight a (chosen s i)
 
-      by-choice : From-choices (i .highest) (order-of s i) cs d → added (touched (order-of s i c) heavier) (lines-of d) ≤ deleted (touched (order-of s i c) heavier) (lines-of d) + risen 0 d
+      g : Clause → ℕ
+      g = touched (order-of s i c) (heavier u a)
+
+      by-choice : From-choices (i .highest) (order-of s i) cs d → added g (lines-of d) ≤ deleted g (lines-of d) + risen 0 d
       by-choice (from-choice n b f j k o) =
           let z = as-choice n (order-of s i) b in
           foreign-raises (order-of s i c) z (ordered-formed (i .highest) (order-of s i) cs arranges-first b k n j)
           (λ x l. omega (arith, below-new-least n, ordered-proper (i .highest) (order-of s i) (chosen s i) (arranges s i h) c mem-next .1 x l))
           (λ x l y t q. parted-before cs c ds (rw e at disjoint) b k y (arranges-first b k .3 .0 y t) x (arranges s i h c mem-next .3 .0 x l) (sym q))
-          heavier (replaced-weight 1 w z (weighs 1 (i .highest) n (order-of s i) (chosen s i) (arranges s i h) b (mem-first b k) j) 1) b f d o
+          (heavier u a) (replaced-weight a w z (weighs a (i .highest) n (order-of s i) (chosen s i) (arranges s i h) b (mem-first b k) j) u) b f d o
 
-  next-new : new-variables cs + (size (next-choice s i cs c) - 1) ≤ new-variables (chosen s i)
-  unfolding size new-variables sum-of
-  next-new =
+  -- so these weigh no more than the input
+  touched-weight : (u a : ℕ) → sum-of (touched (order-of s i c) (heavier u a)) (standing-after-first s i cs) ≤ length (i .formula) * u + literals-of (i .formula) * (a + a)
+  touched-weight u a =
+      let l = order-of s i c in
+      let g = heavier u a in
       omega (
         arith,
-        ap new-variables e,
-        sum-++ (λ d. length d - 1) cs (c ∷ ds),
-        ordered-length (i .highest) (order-of s i) (chosen s i) (arranges s i h) c mem-next,
+        first-raised (touched l g) 0 (touched-of-set l g (heavier-of-set u a)) (first-foreign u a),
+        sum-≤ (touched l g) g (cleared (i .formula)) (λ d _. touched-≤ l g d),
+        cleared-weight u a,
       )
 
-  -- what stands before the choice, and all that its events add
-  pub choice-room : let F = standing-after-first s i cs in numbers-of F + added numbers (lines (choice-events (s .form) F c (next-choice s i cs c))) ≤ workspace-need i
+  first-new : new-variables cs ≤ new-variables (chosen s i)
+  unfolding new-variables sum-of
+  first-new = omega (arith, ap new-variables e, sum-++ (λ d. length d - 1) cs (c ∷ ds))
+
+  -- what stands before the choice, and a step
+  pub choice-room : cells-of (standing-after-first s i cs) + step-of i ≤ workspace-need i
   unfolding numbers-of workspace-need heavier
   choice-room =
       let F = standing-after-first s i cs in
+      let w = literal-weight 3 (chosen s i) in
+      omega (
+        arith,
+        weight-least 1 3 w (literal-least 3 (chosen s i)) F,
+        first-raised (heavier 1 3) 40 (weight-of-set 1 w) (λ d m. run-raises s i h 1 3 d (first-event d m)),
+        cleared-weight 1 3,
+        first-new,
+        few-new-variables s i h,
+        chosen-few s i h disjoint .1,
+        h .formula-few,
+      )
+
+  -- what its events add, in either form
+  pub choice-step : (form : Form) → added cells (lines (choice-events form (standing-after-first s i cs) c (next-choice s i cs c))) ≤ step-of i
+  unfolding heavier size
+  choice-step form =
+      let F = standing-after-first s i cs in
       let k = next-choice s i cs c in
       let n = used-after (order-of s i) (i .highest) cs in
-      let l = order-of s i c in
-      let w = literal-weight 1 (chosen s i) in
-      let least = literal-least 1 (chosen s i) in
-      let q : Weighs 1 w k = weighs 1 (i .highest) n (order-of s i) (chosen s i) (arranges s i h) c mem-next (used-least (order-of s i) (i .highest) cs) in
+      let w = literal-weight 3 (chosen s i) in
+      let least = literal-least 3 (chosen s i) in
+      let q : Weighs 3 w k = weighs 3 (i .highest) n (order-of s i) (chosen s i) (arranges s i h) c mem-next (used-least (order-of s i) (i .highest) cs) in
       let two = ordered-size (i .highest) (order-of s i) (chosen s i) (arranges s i h) c mem-next n in
       let u = ordered-formed (i .highest) (order-of s i) (chosen s i) (arranges s i h) c mem-next n (used-least (order-of s i) (i .highest) cs) in
       let t = taken-leads (s .form) F c k events-after (first-leads .1) in
       omega (
         arith,
-        weight-least 1 1 w least F,
-        first-raised heavier 16 (weight-of-set 1 w) (λ d m. run-raises s i h 1 1 d (first-event d m)),
-        cleared-weight,
-        events-add c k u F next-to t numbers heavier (weight-of-set 1 w) (λ d. omega (arith, numbers-least w least (replaced k d), replaced-weight 1 w k q 1 d)) (s .form),
+        events-add c k u F next-to t cells (heavier 1 3) (weight-of-set 1 w) (λ d. omega (arith, cells-least w least (replaced k d), replaced-weight 3 w k q 1 d)) form,
         taken-adds w least c k q two F,
-        first-raised (touched l heavier) 0 (touched-of-set l heavier (weight-of-set 1 w)) first-foreign,
-        sum-≤ (touched l heavier) heavier (cleared (i .formula)) (λ d _. touched-≤ l heavier d),
-        next-new,
-        few-new-variables s i h,
-        h .formula-few,
+        ordered-length (i .highest) (order-of s i) (chosen s i) (arranges s i h) c mem-next,
+        chosen-mem s i c mem-next .2,
+        touched-weight 1 3,
+      )
+
+  -- the clauses that it replaces are as many as those of the input at most
+  pub choice-touched : let k = next-choice s i cs c in count (opposes (k .literals)) (front (standing-after-first s i cs) k) ≤ length (i .formula)
+  unfolding heavier
+  choice-touched =
+      let F = standing-after-first s i cs in
+      let k = next-choice s i cs c in
+      let g = touched (k .literals) (heavier 1 0) in
+      omega (
+        arith,
+        count-sum (opposes (k .literals)) (front F k),
+        sum-≤ (λ d. bit (opposes (k .literals) d)) g (front F k) (λ d _. touched-counts (k .literals) (literal-weight 0 (chosen s i)) d),
+        front-weight g F k,
+        touched-weight 1 0,
       )

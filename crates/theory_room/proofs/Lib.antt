@@ -4,8 +4,9 @@ pub mod Replaced
 pub mod Lines
 pub mod Cleared
 pub mod Rises
-pub mod Additions
 pub mod Runs
+pub mod Additions
+pub mod Chosen
 pub mod Room
 pub mod Limits
 pub mod Compaction

@@ -2,7 +2,7 @@
 use mathlib.Core.Path.{_≡_, refl, sym, _∙_, ap}
 use mathlib.Core.Logic.{_⊎_, inl, inr, ⊎-elim}
 use mathlib.Core.Bool.{Bool, true, false, cond, _&&_}
-use mathlib.Core.List.{List, [], _∷_, _++_, List·Memᴰ, Memᴰ·append-left, Memᴰ·append-right, List·Memᴰ·append-cases, append-nil}
+use mathlib.Core.List.{List, [], _∷_, _++_, List·Memᴰ, Memᴰ·append-left, Memᴰ·append-right, List·Memᴰ·append-cases, append-nil, append-assoc}
 use Prim.Native.Nat.{ℕ, _+_, _-_, _*_, _≤_}
 use native.Mathlib.Omega.{arith}
 use lib.Dec.{T}
@@ -203,16 +203,27 @@ module _ (s : Settings) (i : Input) (h : Run s i) where
       let f = cleared (i .formula) in
       omega (arith, sum-≤ (λ c. length c - 1) length (chosen s i) (λ c _. omega arith), sum-those length (λ c. choice-size c && unique f c) f)
 
-  -- clearing raises no number of literals, and the choices stand then
+  -- clearing raises no weight
+  pub clearing-weight : (u : ℕ) (w : ℤ → ℕ) (xs ys : List Event) → clearing (i .formula) ≡ xs ++ ys → sum-of (weight u w) (after (i .formula) (lines xs)) ≤ sum-of (weight u w) (i .formula)
+  clearing-weight u w xs ys e =
+      let f = i .formula in
+      let rest = ys ++ choosing s i in
+      let split : events s i ≡ xs ++ rest = events-are s i ∙ ap (λ (zs : List Event). zs ++ choosing s i) e ∙ append-assoc xs ys (choosing s i) in
+      let part : (d : Event) → List·Memᴰ d xs → Clearing d = λ d m. clearing-event f d (rw e (Memᴰ·append-left ys m)) in
+      omega (
+        arith,
+        raised (weight u w) (risen 0) (weight-of-set u w) xs (parts-lead xs rest split .0) (h .proper) (parts-proper xs rest split .0) (λ d m. clearing-raises u w 0 d (part d m)),
+        clearing-risen 0 xs part,
+      )
+
+  -- so the choices, which stand then, have few literals
   pub few-new-variables : new-variables (chosen s i) ≤ literals-of (i .formula)
   few-new-variables =
       let f = i .formula in
       let w : ℤ → ℕ = λ _. 1 in
       omega (
         arith,
-        raised (weight 0 w) (risen 0) (weight-of-set 0 w) (clearing f) (parts-lead (clearing f) (choosing s i) (events-are s i) .0) (h .proper) (parts-proper (clearing f) (choosing s i) (events-are s i) .0)
-            (λ e m. clearing-raises 0 w 0 e (clearing-event f e m)),
-        clearing-risen 0 (clearing f) (clearing-event f),
+        clearing-weight 0 w (clearing f) [] (sym (append-nil (clearing f))),
         weight-most 0 1 w (λ _. omega arith) f,
         weight-least 0 1 w (λ _. omega arith) (after f (lines (clearing f))),
         ap literals-of (cleared-after f),

@@ -74,7 +74,7 @@ balance g i (dels {c = c} r s) a p =
     omega (arith, removed-weight g i r (p (deletion c) (here refl)) a, balance g i s (λ d m. a d (mem-removed r m)) (λ x m. p x (there m)))
 
 -- ---- at any line
-take-out-≤ : (g : Clause → ℕ) (c : Clause) (f : Formula) → sum-of g (take-out c f) ≤ sum-of g f
+pub take-out-≤ : (g : Clause → ℕ) (c : Clause) (f : Formula) → sum-of g (take-out c f) ≤ sum-of g f
 unfolding sum-of take-out
 take-out-≤ g c [] = omega arith
 take-out-≤ g c (d ∷ f) = go (same-set c d) (take-out-≤ g c f)

@@ -13,7 +13,8 @@ use Rattle.definition.specs.Events.{Choice, Event, clause-replaced, literals-de
 use Rattle.definition.specs.Counter.{last-new, counter, take-choice}
 use Rattle.definition.specs.Order.{replacement-lines, replaced, replace, order-events}
 use Rattle.definition.specs.Reencoding.{lines-of, lines, Form, counter-form, order-form, Settings, choice-events, choices-events, cleared, chosen, events, log, result}
-use Rattle.definition.specs.Calls.{workspace-need, numbers-of}
+use Rattle.definition.specs.Calls.{workspace-need}
+use Rattle.theory_base.specs.Cells.{cells-of}
 use Rattle.theory_base.specs.Clauses.{Parted, Proper-all, Fits, Fit-all}
 use Rattle.theory_base.proofs.Sums.{sum-++, sum-≤, sum-for-each}
 use Rattle.theory_base.proofs.Fitting.{Proper-to, proper-fit, fit-up}
@@ -32,64 +33,53 @@ use Rattle.theory_room.proofs.Lines.{Arranges, ordered-length, ordered-proper, 
 use Rattle.theory_room.specs.Choices.{new-variables, clearing, order-of, events-of-first, standing-after-first, next-choice, used-after}
 use Rattle.theory_room.proofs.Cleared.{cleared-after}
 use Rattle.theory_room.proofs.Rises.{taken-changes}
-use Rattle.theory_room.proofs.Additions.{numbers}
+use Rattle.theory_room.proofs.Additions.{cells, cells-sum}
+use Rattle.theory_room.proofs.Chosen.{chosen-few}
+use Rattle.theory_room.specs.Step.{step-of}
 use Rattle.theory_room.proofs.Runs.{Run, choosing, events-are, chosen-mem, arranges, weight-least}
-use Rattle.theory_room.proofs.Compaction.{choices-split, first-to}
+use Rattle.theory_room.proofs.Compaction.{choices-split, first-to, choice-room, choice-step, choice-touched}
 use Rattle.theory_run.proofs.LogSound.{chosen-parted, chosen-ready, accepted-run}
-use Rattle.theory_run.proofs.Steps.{steps}
 use Rattle.theory_run.proofs.ChoicesSound.{before-order, fits-below}
 use Rattle.theory_run.specs.Choices.{events-up-to, Takeable, At-choice, Choices-taken}
 use Rattle.theory_run.proofs.Splits.{choice-alone, ready-after}
-use Rattle.theory_run.proofs.Variables.{chosen-few}
 use Rattle.theory_counter.proofs.NewVariables.{below-new-most}
 
--- ---- what the events of a choice add, counted in numbers
+-- ---- what the events of a choice add, counted in cells
 
-numbers-sum : (f : Formula) → numbers-of f ≤ sum-of numbers f
-unfolding numbers-of
-numbers-sum f = omega (arith, weight-least 1 1 (λ _. 1) (λ _. omega arith) f)
-
-taken-space : (F : Formula) (c : Clause) (k : Choice) → numbers-of (counter k) ≤ added numbers (lines-of (take-choice F c k))
-taken-space F c k = omega (arith, taken-changes numbers c k F .0, numbers-sum (counter k))
-
-choice-space : (form : Form) (F : Formula) (c : Clause) (k : Choice) → numbers-of (counter k) ≤ added numbers (lines (choice-events form F c k))
-unfolding choice-events lines for-each
-choice-space counter-form F c k = omega (arith, taken-space F c k, sum-++ (gained numbers) (lines-of (take-choice F c k)) [])
-choice-space order-form F c k = omega (arith, taken-space F c k, sum-++ (gained numbers) (lines-of (take-choice F c k)) (lines (order-events k (after F (lines-of (take-choice F c k))))))
-
-result-space : (k : Choice) (d : Clause) → sum-of numbers (results k d) ≤ sum-of (λ e. added numbers (lines-of e)) (replace k d)
+result-cells : (k : Choice) (d : Clause) → sum-of cells (results k d) ≤ sum-of (λ e. added cells (lines-of e)) (replace k d)
 unfolding replace only-if sum-of lines-of replacement-lines
-result-space k d = go (opposes (k .literals) d)
+result-cells k d = go (opposes (k .literals) d)
   where
     r : Clause
     r = replaced k d
 
-    one : (u : Bool) → sum-of numbers (only-if u (r ∷ [])) ≤ added numbers (only-if u (addition r ∷ []) ++ (deletion d ∷ []))
+    one : (u : Bool) → sum-of cells (only-if u (r ∷ [])) ≤ added cells (only-if u (addition r ∷ []) ++ (deletion d ∷ []))
     one true = omega arith
     one false = omega arith
 
-    go : (t : Bool) → sum-of numbers (only-if t (only-if (not (opposed r)) (r ∷ []))) ≤ sum-of (λ e. added numbers (lines-of e)) (only-if t (clause-replaced d r ∷ []))
+    go : (t : Bool) → sum-of cells (only-if t (only-if (not (opposed r)) (r ∷ []))) ≤ sum-of (λ e. added cells (lines-of e)) (only-if t (clause-replaced d r ∷ []))
     go true = omega (arith, one (not (opposed r)))
     go false = omega arith
 
 module _ (F : Formula) (c : Clause) (k : Choice) (f : Fits (k .below) F) (r : Ready F c k) where
-  order-space-of : numbers-of (counter k) + numbers-of (results-of k (front F k)) ≤ added numbers (lines (choice-events order-form F c k))
+  order-cells-of : cells-of (counter k) + cells-of (results-of k (front F k)) ≤ added cells (lines (choice-events order-form F c k))
   unfolding choice-events lines for-each
-  order-space-of =
+  order-cells-of =
       let E = front F k in
       let es = order-events k (after F (lines-of (take-choice F c k))) in
-      let n : Event → ℕ = λ e. added numbers (lines-of e) in
+      let n : Event → ℕ = λ e. added cells (lines-of e) in
       omega (
         arith,
-        taken-space F c k,
-        numbers-sum (results-of k E),
-        sum-++ (gained numbers) (lines-of (take-choice F c k)) (for-each es lines-of),
-        sum-for-each (gained numbers) es lines-of,
+        taken-changes cells c k F .0,
+        cells-sum (counter k),
+        cells-sum (results-of k E),
+        sum-++ (gained cells) (lines-of (take-choice F c k)) (for-each es lines-of),
+        sum-for-each (gained cells) es lines-of,
         ap (sum-of n) (ap (order-events k) (after-choice F c k f r) ∙ order-events-are k E),
         sum-++ n (for-each E (replace k)) (literals-deleted k ∷ []),
         sum-for-each n E (replace k),
-        sum-for-each numbers E (results k),
-        sum-≤ (λ d. sum-of numbers (results k d)) (λ d. sum-of n (replace k d)) E (λ d _. result-space k d),
+        sum-for-each cells E (results k),
+        sum-≤ (λ d. sum-of cells (results k d)) (λ d. sum-of n (replace k d)) E (λ d _. result-cells k d),
       )
 
   front-proper-of : Proper-all F → Proper-all (front F k)
@@ -99,6 +89,10 @@ module _ (F : Formula) (c : Clause) (k : Choice) (f : Fits (k .below) F) (r : Re
 few-variables : {i : Input} → Accepted input-limits i → i .highest ≤ 8_000
 unfolding input-limits
 few-variables a = a .highest-few
+
+few-clauses : {i : Input} → Accepted input-limits i → i .clauses ≤ 20_000
+unfolding input-limits
+few-clauses a = a .clauses-few
 
 -- ---- a run
 module _ (i : Input) (a : Accepted input-limits i) (s : Settings) where
@@ -202,12 +196,7 @@ module _ (i : Input) (a : Accepted input-limits i) (s : Settings) where
     unfolding k used-after
     next-below-of = sym (used-++ (order-of s i) (i .highest) cs (c ∷ []))
 
-    -- ---- sizes
-    room-F : numbers-of F + added numbers (lines es) ≤ workspace-need i
-    unfolding F k es
-    room-F = steps i a s .choice cs ds c e
-
-    takeable-choice : Takeable (s .form) (workspace-need i) (standing-after-first s i cs) c (next-choice s i cs c)
+    takeable-choice : Takeable (s .form) (workspace-need i) (step-of i) (standing-after-first s i cs) c (next-choice s i cs c)
     unfolding F k es
     takeable-choice =
         let t = chosen-mem s i c next-in in
@@ -221,8 +210,9 @@ module _ (i : Input) (a : Accepted input-limits i) (s : Settings) where
           most = omega (arith, k-length);
           reach = λ x m. fit-up 8_000 (i .highest) x (few-variables a) (old-k x m);
           new-few = omega (arith, first-new, few-variables a, below-new-most (used-after (order-of s i) (i .highest) cs), used-most (order-of s i) (i .highest) cs arranged-first);
-          space = omega (arith, room-F, choice-space (s .form) F c k);
-          order-space = λ o. omega (arith, room-F, order-space-of F c k fits-k ready-k, ap (λ (form : Form). added numbers (lines (choice-events form F c k))) o);
+          space = choice-room s i run parted cs ds c e;
+          step-cells = omega (arith, choice-step s i run parted cs ds c e order-form, order-cells-of F c k fits-k ready-k);
+          touched-few = omega (arith, choice-touched s i run parted cs ds c e, a .formula-few, few-clauses a);
           before = before-order F c k fits-k ready-k;
           front-proper = front-proper-of F c k fits-k ready-k (λ d m. F-to d m .0);
         }

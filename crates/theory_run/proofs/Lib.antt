@@ -6,5 +6,4 @@ pub mod LogLength
 pub mod Sizes
 pub mod ChoicesSound
 pub mod LogSound
-pub mod Steps
 pub mod Taken

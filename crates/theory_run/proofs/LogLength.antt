@@ -1,4 +1,4 @@
--- The log is short: how much its lines add and delete, counted in numbers, and how long their text is.
+-- The log is short: how much its lines add and delete, counted in cells, and how long their text is.
 use mathlib.Core.Path.{_≡_, refl, sym, _∙_, ap}
 use mathlib.Core.List.{List, [], _∷_, _++_, append-assoc, List·Memᴰ, List·Memᴰ·head as here, List·Memᴰ·tail as there}
 use mathlib.Core.Option.{Option, some, none}
@@ -16,22 +16,23 @@ use Rattle.definition.specs.Clearing.{clash-lines, lowest-clash, pure-literal, 
 use Rattle.definition.specs.Counter.{last-new}
 use Rattle.definition.specs.Log.{clause-text, log-line-text, log-text}
 use Rattle.definition.specs.Reencoding.{lines-of, lines, Settings, choice-events, choices-events, unclashed, cleared, chosen, events, log}
-use Rattle.definition.specs.Calls.{workspace-need}
+use Rattle.theory_base.specs.Clauses.{Parted}
 use Rattle.theory_base.proofs.Digits.{digits-within}
 use Rattle.theory_base.proofs.Loops.{for-each-++, mem-for-each}
-use Rattle.theory_base.proofs.Sums.{sum-++, sum-≤, sum-most, sum-for-each, count-length}
+use Rattle.theory_base.proofs.Sums.{sum-++, sum-≤, sum-most, sum-least, sum-for-each}
 use Rattle.theory_base.proofs.Fitting.{Up-to}
 use Rattle.theory_base.proofs.Replay.{All-lines, lines-++}
 use Rattle.theory_room.proofs.Weights.{weight, weight-of-set, gained, added, deleted, balance}
 use Rattle.theory_room.specs.Choices.{clearing, order-of, events-of-first, standing-after-first, next-choice, used-after}
 use Rattle.theory_room.proofs.Cleared.{clearing-event, clearing-lines-to}
-use Rattle.theory_room.proofs.Additions.{numbers, clearing-adds}
+use Rattle.theory_room.proofs.Additions.{cells, clearing-adds}
+use Rattle.theory_room.proofs.Chosen.{chosen-few}
+use Rattle.theory_room.proofs.Compaction.{choice-step}
+use Rattle.theory_room.specs.Step.{step-of}
 use Rattle.theory_text.specs.Accepted.{Accepted}
 use Rattle.theory_room.proofs.Runs.{Run, choosing, events-are, weight-most, log-to, log-proper, top-most}
 use Rattle.theory_run.proofs.LogSound.{chosen-parted, accepted-run}
-use Rattle.theory_run.proofs.Steps.{steps}
 use Rattle.theory_run.specs.Sizes.{Short}
-use Rattle.theory_run.proofs.Variables.{chosen-few}
 use Rattle.theory_run.proofs.Choices.{at-choice}
 use Rattle.theory_run.proofs.Cleared.{unclashed-shorter}
 
@@ -61,31 +62,31 @@ pub clause-short : (c : Clause) → Up-to 70_000 c → length (clause-text c) �
 unfolding clause-text bytes
 clause-short c h = omega (arith, length-append (for-each c (λ l. literal-text l ++ bytes " ")) (bytes "0\n"), literals-short c h)
 
--- the numbers of a line, its 0 counted
-abbrev line-numbers : Line → ℕ
-line-numbers x = numbers (literals x)
+-- the cells of a line
+abbrev line-cells : Line → ℕ
+line-cells x = cells (literals x)
 
-numbers-length : (c : Clause) → numbers c ≡ length c + 1
+cells-least : (c : Clause) → length c + 1 ≤ cells c
 unfolding weight
-numbers-length c = omega (arith, count-length c)
+cells-least c = omega (arith, sum-least 3 (λ _. 3) (λ _. omega arith) c)
 
-line-short : (x : Line) → Up-to 70_000 (literals x) → length (log-line-text x) ≤ 7 * line-numbers x
+line-short : (x : Line) → Up-to 70_000 (literals x) → length (log-line-text x) ≤ 7 * line-cells x
 unfolding log-line-text literals bytes
-line-short (addition c) h = omega (arith, clause-short c h, numbers-length c)
-line-short (deletion c) h = omega (arith, length-append (bytes "d ") (clause-text c), clause-short c h, numbers-length c)
+line-short (addition c) h = omega (arith, clause-short c h, cells-least c)
+line-short (deletion c) h = omega (arith, length-append (bytes "d ") (clause-text c), clause-short c h, cells-least c)
 
-lines-short : (xs : List Line) → All-lines (Up-to 70_000) xs → length (log-text xs) ≤ 7 * sum-of line-numbers xs
+lines-short : (xs : List Line) → All-lines (Up-to 70_000) xs → length (log-text xs) ≤ 7 * sum-of line-cells xs
 unfolding log-text for-each sum-of
 lines-short [] h = omega arith
 lines-short (x ∷ xs) h = omega (arith, length-append (log-line-text x) (log-text xs), line-short x (h x (here refl)), lines-short xs (λ y m. h y (there m)))
 
-lines-counted : (xs : List Line) → length xs ≤ sum-of line-numbers xs
+lines-counted : (xs : List Line) → length xs ≤ sum-of line-cells xs
 unfolding sum-of
 lines-counted [] = omega arith
-lines-counted (x ∷ xs) = omega (arith, numbers-length (literals x), lines-counted xs)
+lines-counted (x ∷ xs) = omega (arith, cells-least (literals x), lines-counted xs)
 
 -- a line adds or deletes
-lines-change : (xs : List Line) → sum-of line-numbers xs ≡ added numbers xs + deleted numbers xs
+lines-change : (xs : List Line) → sum-of line-cells xs ≡ added cells xs + deleted cells xs
 unfolding sum-of literals
 lines-change [] = refl
 lines-change (addition c ∷ xs) = omega (arith, lines-change xs)
@@ -117,37 +118,39 @@ unfolding clearing clear-clashes clear-pure
 clearing-few f = omega (arith, length-append (clear-clashes f) (clear-pure (unclashed f)), clashes-few (length f) f, pure-few [] (unclashed f))
 
 -- events that each add at most b
-events-add-most : (b : ℕ) (es : List Event) → ((e : Event) → List·Memᴰ e es → added numbers (lines-of e) ≤ b) → added numbers (lines es) ≤ length es * b
+events-add-most : (b : ℕ) (es : List Event) → ((e : Event) → List·Memᴰ e es → added cells (lines-of e) ≤ b) → added cells (lines es) ≤ length es * b
 unfolding lines
 events-add-most b es h =
-    omega (arith, sum-for-each (gained numbers) es lines-of, sum-≤ (λ e. added numbers (lines-of e)) (λ _. b) es h, sum-most b (λ _. b) (λ _. omega arith) es)
+    omega (arith, sum-for-each (gained cells) es lines-of, sum-≤ (λ e. added cells (lines-of e)) (λ _. b) es h, sum-most b (λ _. b) (λ _. omega arith) es)
 
 -- ---- a run
 module _ (i : Input) (a : Accepted input-limits i) (s : Settings) where
   run : Run s i
   run = accepted-run s i a
 
-  clearing-added : added numbers (lines (clearing (i .formula))) ≤ 40_000 * 8_001
+  parted : Parted (chosen s i)
+  parted = chosen-parted s i (a .proper) (a .fits)
+
+  clearing-added : added cells (lines (clearing (i .formula))) ≤ 40_000 * 24_001
   unfolding input-limits lines
   clearing-added =
       let f = i .formula in
       let to = clearing-lines-to (i .highest) f (a .proper) (a .fits) in
-      let each : (e : Event) → List·Memᴰ e (clearing f) → added numbers (lines-of e) ≤ 8_001 =
+      let each : (e : Event) → List·Memᴰ e (clearing f) → added cells (lines-of e) ≤ 24_001 =
       λ e m. omega (arith, clearing-adds (i .highest) e (clearing-event f e m) (λ x j. to x (mem-for-each (clearing f) lines-of e x m j)), a .highest-few) in
-      omega (arith, events-add-most 8_001 (clearing f) each, clearing-few f, unclashed-shorter i a, a .clauses-few)
+      omega (arith, events-add-most 24_001 (clearing f) each, clearing-few f, unclashed-shorter i a, a .clauses-few)
 
-  -- the workspace holds what one choice adds
-  need-most : workspace-need i ≤ 1_300_000
-  unfolding workspace-need input-limits
-  need-most = omega (arith, a .highest-few, a .clauses-few, a .literals-few)
+  step-most : step-of i ≤ 382_520
+  unfolding input-limits
+  step-most = omega (arith, a .formula-few, a .clauses-few, a .literals-few)
 
   -- the events of the choices ds, taken after cs
   events-of-others : List Clause → List Clause → List Event
   events-of-others cs ds = choices-events (s .form) (order-of s i) (used-after (order-of s i) (i .highest) cs) (standing-after-first s i cs) ds
 
-  choices-added : (cs ds : List Clause) → chosen s i ≡ cs ++ ds → added numbers (lines (events-of-others cs ds)) ≤ length ds * 1_300_000
+  choices-added : (cs ds : List Clause) → chosen s i ≡ cs ++ ds → added cells (lines (events-of-others cs ds)) ≤ length ds * 382_520
   unfolding events-of-others choices-events
-  choices-added cs [] e = omega (arith, sum-++ (gained numbers) (lines []) (lines []), ap (added numbers) (lines-++ [] []))
+  choices-added cs [] e = omega (arith, sum-++ (gained cells) (lines []) (lines []), ap (added cells) (lines-++ [] []))
   choices-added cs (c ∷ ds) e =
       let F = standing-after-first s i cs in
       let k = next-choice s i cs c in
@@ -159,36 +162,36 @@ module _ (i : Input) (a : Accepted input-limits i) (s : Settings) where
       ∙ ap (λ (X : Formula). choices-events (s .form) (order-of s i) (used-after (order-of s i) (i .highest) (cs ++ (c ∷ []))) X ds) (sym (t .next-stands)) in
       omega (
         arith,
-        ap (added numbers) (lines-++ es rest),
-        sum-++ (gained numbers) (lines es) (lines rest),
-        steps i a s .choice cs ds c e,
-        need-most,
-        ap (λ (zs : List Event). added numbers (lines zs)) same,
+        ap (added cells) (lines-++ es rest),
+        sum-++ (gained cells) (lines es) (lines rest),
+        choice-step s i run parted cs ds c e (s .form),
+        step-most,
+        ap (λ (zs : List Event). added cells (lines zs)) same,
         choices-added (cs ++ (c ∷ [])) ds (e ∙ sym (append-assoc cs (c ∷ []) ds)),
       )
 
-  choosing-added : added numbers (lines (choosing s i)) ≤ length (chosen s i) * 1_300_000
+  choosing-added : added cells (lines (choosing s i)) ≤ length (chosen s i) * 382_520
   unfolding choosing events-of-others standing-after-first events-of-first choices-events used-after lines for-each after
   choosing-added =
       let n : i .highest + 0 ≡ i .highest = omega arith in
       omega (
         arith,
         choices-added [] (chosen s i) refl,
-        ap (λ (m : ℕ). added numbers (lines (choices-events (s .form) (order-of s i) m (cleared (i .formula)) (chosen s i)))) n,
+        ap (λ (m : ℕ). added cells (lines (choices-events (s .form) (order-of s i) m (cleared (i .formula)) (chosen s i)))) n,
       )
 
-  log-numbers : sum-of line-numbers (log s i) ≤ 4_900_000_000
+  log-cells : sum-of line-cells (log s i) ≤ 3_200_000_000
   unfolding log input-limits
-  log-numbers =
+  log-cells =
       let f = i .formula in
-      let few = chosen-few s i run (chosen-parted s i (a .proper) (a .fits)) .2 in
+      let few = chosen-few s i run parted .2 in
       omega (
         arith,
         lines-change (log s i),
-        balance numbers (weight-of-set 1 (λ _. 1)) (run .leads) (a .proper) (log-proper s i run),
-        weight-most 1 1 (λ _. 1) (λ _. omega arith) f,
-        ap (added numbers) (ap lines (events-are s i) ∙ lines-++ (clearing f) (choosing s i)),
-        sum-++ (gained numbers) (lines (clearing f)) (lines (choosing s i)),
+        balance cells (weight-of-set 1 (λ _. 3)) (run .leads) (a .proper) (log-proper s i run),
+        weight-most 1 3 (λ _. 3) (λ _. omega arith) f,
+        ap (added cells) (ap lines (events-are s i) ∙ lines-++ (clearing f) (choosing s i)),
+        sum-++ (gained cells) (lines (clearing f)) (lines (choosing s i)),
         clearing-added,
         choosing-added,
         a .highest-few,
@@ -198,13 +201,13 @@ module _ (i : Input) (a : Accepted input-limits i) (s : Settings) where
 
   log-lines : All-lines (Up-to 70_000) (log s i)
   unfolding input-limits
-  log-lines x m y j = omega (arith, log-to s i run x m .1 y j, chosen-few s i run (chosen-parted s i (a .proper) (a .fits)) .1, a .highest-few, top-most s i run)
+  log-lines x m y j = omega (arith, log-to s i run x m .1 y j, chosen-few s i run parted .1, a .highest-few, top-most s i run)
 
-  pub log-text-length : length (log-text (log s i)) ≤ 34_300_000_000
-  log-text-length = omega (arith, lines-short (log s i) log-lines, log-numbers)
+  pub log-text-length : length (log-text (log s i)) ≤ 22_400_000_000
+  log-text-length = omega (arith, lines-short (log s i) log-lines, log-cells)
 
-  pub log-length : length (log s i) ≤ 4_900_000_000
-  log-length = omega (arith, lines-counted (log s i), log-numbers)
+  pub log-length : length (log s i) ≤ 3_200_000_000
+  log-length = omega (arith, lines-counted (log s i), log-cells)
 
   -- any part of the log behind another
   pub parts-short : (xs es ys : List Event) → events s i ≡ xs ++ (es ++ ys) → Short (lines xs) (lines es)

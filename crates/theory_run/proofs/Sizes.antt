@@ -1,7 +1,7 @@
 -- The sizes of a run. Assumes that the formula was accepted.
-use mathlib.Core.Path.{_≡_, refl, ap}
+use mathlib.Core.Path.{_≡_, refl, _∙_, ap}
 use mathlib.Core.Bool.{Bool, false, not}
-use mathlib.Core.List.{[], _∷_, _++_, List·Memᴰ, List·Memᴰ·head as here, List·Memᴰ·tail as there}
+use mathlib.Core.List.{List, [], _∷_, _++_, append-assoc, List·Memᴰ, List·Memᴰ·head as here, List·Memᴰ·tail as there}
 use Prim.Native.Nat.{ℕ, _+_, _*_, _≤_}
 use native.Mathlib.Omega.{arith}
 use lib.IntN.{negℤ}
@@ -11,37 +11,31 @@ use Rattle.definition.specs.Literals.{Clause, Formula, literals-of, with-first,
 use Rattle.definition.specs.Text.{bytes, digits}
 use Rattle.definition.specs.Standing.{addition, deletion}
 use Rattle.definition.specs.Reading.{Input, input-limits}
-use Rattle.definition.specs.Events.{Clash}
+use Rattle.definition.specs.Events.{Event}
 use Rattle.definition.specs.Clearing.{resolvent, clash-lines, clear-clashes, clear-pure}
 use Rattle.definition.specs.Log.{clause-text, formula-text}
-use Rattle.definition.specs.Reencoding.{lines, Settings, choice-events, unclashed, result, highest-used}
+use Rattle.definition.specs.Reencoding.{lines, Settings, choice-events, unclashed, events, result, highest-used}
 use Rattle.definition.specs.Calls.{numbers-of}
 use Rattle.theory_base.proofs.Digits.{digits-within}
 use Rattle.theory_base.proofs.Sums.{sum-++, count-length}
 use Rattle.theory_base.proofs.Fitting.{Up-to, proper-fit}
 use Rattle.theory_text.specs.Accepted.{Accepted}
-use Rattle.theory_room.proofs.Weights.{weight, gained, added}
-use Rattle.theory_room.proofs.Additions.{numbers}
+use Rattle.theory_room.proofs.Room.{clearing-room, resolvent-step}
+use Rattle.theory_room.proofs.Chosen.{chosen-proper, chosen-few}
 use Rattle.theory_room.proofs.Runs.{choosing, top-most}
 use Rattle.theory_room.proofs.Limits.{result-fits, clauses-limit, literals-limit}
 use Rattle.theory_run.proofs.LogSound.{chosen-parted, accepted-run}
-use Rattle.theory_run.proofs.Steps.{steps, events-from-clashes}
-use Rattle.theory_room.specs.Choices.{standing-after-first, next-choice}
+use Rattle.theory_room.specs.Choices.{clearing, standing-after-first, next-choice}
 use Rattle.theory_run.specs.Choices.{events-up-to}
 use Rattle.theory_run.specs.Sizes.{Sizes}
 use Rattle.theory_run.proofs.Choices.{at-choice}
-use Rattle.theory_run.proofs.Variables.{highest-is, chosen-proper, chosen-few}
+use Rattle.theory_run.proofs.Variables.{highest-is}
 use Rattle.theory_run.proofs.LogLength.{clause-short, log-text-length, log-length, parts-short}
 
--- a resolvent that is added
-resolvent-added : (c : Clash) → opposed (resolvent c) ≡ false → length (resolvent c) + 1 ≤ added numbers (clash-lines c)
-unfolding clash-lines only-if sum-of weight
-resolvent-added c e =
-    let ds = deletion (with-first (c .v) (c .one)) ∷ deletion (with-first (negℤ (c .v)) (c .other)) ∷ [] in
-    omega (arith, sum-++ (gained numbers) (only-if (not (opposed (resolvent c))) (addition (resolvent c) ∷ [])) ds, ap one e, count-length (resolvent c))
-  where
-    one : Bool → ℕ
-    one b = added numbers (only-if (not b) (addition (resolvent c) ∷ []))
+-- the events, from the clashes on
+events-from-clashes : (s : Settings) (i : Input) → events s i ≡ clear-clashes (i .formula) ++ (clear-pure (unclashed (i .formula)) ++ choosing s i)
+unfolding events choosing
+events-from-clashes s i = append-assoc (clear-clashes (i .formula)) (clear-pure (unclashed (i .formula))) (choosing s i)
 
 -- the text of clauses
 clauses-short : (f : Formula) → ((d : Clause) → List·Memᴰ d f → Up-to 70_000 d) → length (for-each f clause-text) ≤ 7 * literals-of f + 2 * length f
@@ -68,7 +62,7 @@ formula-short n f p q h =
 
 module _ (i : Input) (a : Accepted input-limits i) (s : Settings) where
   pub sizes : Sizes s i
-  unfolding input-limits numbers-of lines for-each
+  unfolding input-limits numbers-of lines for-each clearing
   sizes =
       let f = i .formula in
       let r = accepted-run s i a in
@@ -92,7 +86,8 @@ module _ (i : Input) (a : Accepted input-limits i) (s : Settings) where
         chosen-reach = proper-fit (chosen-proper s i r parted);
         chosen-numbers = omega (arith, few .0, few .2);
         chosen-count = omega (arith, few .2);
-        clash-space = λ xs ys c e o. omega (arith, steps i a s .clash xs ys c e, resolvent-added c o);
+        clash-space = λ xs ys e. clearing-room s i r xs (ys ++ clear-pure (unclashed f)) (ap (λ (es : List Event). es ++ clear-pure (unclashed f)) e ∙ append-assoc xs ys (clear-pure (unclashed f)));
+        clash-cells = resolvent-step s i r;
         result-few = m;
         result-numbers = omega arith;
         formula-text-short = omega (arith, formula-short (highest-used s i) (result s i) (omega arith) m (λ d j x k. omega (arith, result-fits s i r d j x k .1)));

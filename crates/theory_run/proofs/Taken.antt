@@ -14,6 +14,7 @@ use Rattle.definition.specs.Reencoding.{lines-of, lines, Form, counter-form, or
 use Rattle.definition.specs.Calls.{workspace-need}
 use Rattle.theory_base.proofs.Replay.{lines-++}
 use Rattle.theory_text.specs.Accepted.{Accepted}
+use Rattle.theory_room.specs.Step.{step-of}
 use Rattle.theory_room.specs.Choices.{as-choice, used-after, order-of, standing-after-first, next-choice}
 use Rattle.theory_run.specs.Choices.{Takeable, All-takeable, finished, at-choice, taken-events}
 use Rattle.theory_run.proofs.Choices.{choices-taken}
@@ -48,7 +49,7 @@ taken-used order n (c ∷ cs) = taken-used order (last-new (as-choice n order c)
 
 -- ---- each at its turn
 
-takeable-more : {form : Form} {size more : ℕ} {F : Formula} {c : Clause} {k : Choice} → size ≤ more → Takeable form size F c k → Takeable form more F c k
+takeable-more : {form : Form} {size step more : ℕ} {F : Formula} {c : Clause} {k : Choice} → size ≤ more → Takeable form size step F c k → Takeable form more step F c k
 takeable-more w t = record {
   proper = t .proper;
   fits = t .fits;
@@ -58,13 +59,14 @@ takeable-more w t = record {
   reach = t .reach;
   new-few = t .new-few;
   space = omega (arith, t .space);
-  order-space = λ e. omega (arith, t .order-space e);
+  step-cells = t .step-cells;
+  touched-few = t .touched-few;
   before = t .before;
   front-proper = t .front-proper;
 }
 
 module _ (s : Settings) (i : Input) (a : Accepted input-limits i) (size : ℕ) (w : workspace-need i ≤ size) where
-  all-from : (cs ds : List Clause) → chosen s i ≡ cs ++ ds → All-takeable (s .form) size (used-after (order-of s i) (i .highest) cs) (standing-after-first s i cs) (map (order-of s i) ds)
+  all-from : (cs ds : List Clause) → chosen s i ≡ cs ++ ds → All-takeable (s .form) size (step-of i) (used-after (order-of s i) (i .highest) cs) (standing-after-first s i cs) (map (order-of s i) ds)
   all-from cs [] e = finished
   all-from cs (c ∷ ds) e =
       let k = next-choice s i cs c in
@@ -74,5 +76,5 @@ module _ (s : Settings) (i : Input) (a : Accepted input-limits i) (size : ℕ) (
       (rw (t .next-below, choice-lines-same (s .form) F (order-of s i c) c k, ← t .next-stands)
       (all-from (cs ++ (c ∷ [])) ds (e ∙ sym (append-assoc cs (c ∷ []) ds))))
 
-  pub all-takeable : All-takeable (s .form) size (i .highest) (cleared (i .formula)) (map (order-of s i) (chosen s i))
+  pub all-takeable : All-takeable (s .form) size (step-of i) (i .highest) (cleared (i .formula)) (map (order-of s i) (chosen s i))
   all-takeable = rw (choices-taken i a s .start-below, choices-taken i a s .start-stands) at (all-from [] (chosen s i) refl)

@@ -3,26 +3,29 @@ use mathlib.Core.Path.{_≡_}
 use mathlib.Core.List.{List, [], _∷_, _++_}
 use Prim.Native.Nat.{_+_, _≤_, ℕ}
 use lib.ListN.{length}
-use Rattle.definition.specs.Literals.{Clause, Formula}
+use Rattle.definition.specs.Lists.{count}
+use Rattle.definition.specs.Literals.{Clause, Formula, opposes}
 use Rattle.definition.specs.Reading.{Input}
 use Rattle.definition.specs.Standing.{after}
 use Rattle.definition.specs.Events.{Event, Choice, choice-of}
 use Rattle.definition.specs.Clearing.{clear-clashes, clear-pure}
 use Rattle.definition.specs.Counter.{counter, last-new, below-new}
-use Rattle.definition.specs.Reencoding.{lines, order-form, Settings, choice-events, unclashed, cleared, chosen, events, result, Form, choices-events}
-use Rattle.definition.specs.Calls.{workspace-need, numbers-of}
+use Rattle.definition.specs.Reencoding.{lines, Settings, choice-events, unclashed, cleared, chosen, events, result, Form, choices-events}
+use Rattle.definition.specs.Calls.{workspace-need}
 use Rattle.theory_base.specs.Clauses.{Proper-all, Fits, Fit-all}
+use Rattle.theory_base.specs.Cells.{cells-of}
 use Rattle.theory_counter.specs.Ready.{Ready}
 use Rattle.theory_counter.specs.Front.{front}
 use Rattle.theory_order.specs.Pass.{Before, added}
+use Rattle.theory_room.specs.Step.{step-of}
 use Rattle.theory_room.specs.Choices.{clearing, events-of-first, standing-after-first, next-choice, used-after, order-of}
 
 -- the events of the clearing and of the choices cs
 unfoldable pub events-up-to : Settings → Input → List Clause → List Event
 events-up-to s i cs = clearing (i .formula) ++ events-of-first s i cs
 
--- the clause c can be taken as the choice k where F stands, in a workspace of some size
-pub record Takeable (form : Form) (size : ℕ) (F : Formula) (c : Clause) (k : Choice) : Type 0 where
+-- the clause c can be taken as the choice k where F stands, in a workspace of some size where room is made for a step
+pub record Takeable (form : Form) (size step : ℕ) (F : Formula) (c : Clause) (k : Choice) : Type 0 where
   pub proper : Proper-all F
   pub fits : Fits (k .below) F
   pub ready : Ready F c k
@@ -30,19 +33,21 @@ pub record Takeable (form : Form) (size : ℕ) (F : Formula) (c : Clause) (k : C
   pub most : length (k .literals) ≤ 64
   pub reach : Fit-all 8_000 (k .literals)
   pub new-few : k .below + 64 ≤ 70_000
-  -- the counter clauses fit behind what stands
-  pub space : numbers-of F + numbers-of (counter k) ≤ size
-  -- and so do, in order form, the clauses that replace others
-  pub order-space : form ≡ order-form → numbers-of F + numbers-of (counter k) + numbers-of (added k (front F k)) ≤ size
+  -- what stands leaves room for a step
+  pub space : cells-of F + step ≤ size
+  -- into which the counter clauses fit, and with them the clauses that replace others in order form
+  pub step-cells : cells-of (counter k) + cells-of (added k (front F k)) ≤ step
+  -- so many are replaced at most
+  pub touched-few : count (opposes (k .literals)) (front F k) ≤ 20_000
   -- what stands before the counter clauses then
   pub before : Before (front F k) k
   pub front-proper : Proper-all (front F k)
 
 -- choices whose literals stand in the order in which they are taken: each can be taken at its turn, as some clause
-pub data All-takeable (form : Form) (size : ℕ) : ℕ → Formula → List Clause → Type 0 where
-  finished : {n : ℕ} {F : Formula} → All-takeable form size n F []
-  at-choice : {n : ℕ} {F : Formula} {l : Clause} {ls : List Clause} (c : Clause) → Takeable form size F c (choice-of l (below-new n)) →
-      All-takeable form size (last-new (choice-of l (below-new n))) (after F (lines (choice-events form F l (choice-of l (below-new n))))) ls → All-takeable form size n F (l ∷ ls)
+pub data All-takeable (form : Form) (size step : ℕ) : ℕ → Formula → List Clause → Type 0 where
+  finished : {n : ℕ} {F : Formula} → All-takeable form size step n F []
+  at-choice : {n : ℕ} {F : Formula} {l : Clause} {ls : List Clause} (c : Clause) → Takeable form size step F c (choice-of l (below-new n)) →
+      All-takeable form size step (last-new (choice-of l (below-new n))) (after F (lines (choice-events form F l (choice-of l (below-new n))))) ls → All-takeable form size step n F (l ∷ ls)
 
 -- their events, with the literals in the place of the clause
 abbrev pub taken-events : Form → ℕ → Formula → List Clause → List Event
@@ -50,7 +55,7 @@ taken-events form n F ls = choices-events form (λ l. l) n F ls
 
 -- the choice c, taken after the choices cs
 pub record At-choice (s : Settings) (i : Input) (cs : List Clause) (c : Clause) (F : Formula) (k : Choice) : Type 0 where
-  pub takeable : Takeable (s .form) (workspace-need i) F c k
+  pub takeable : Takeable (s .form) (workspace-need i) (step-of i) F c k
   -- its new variables are the next numbers above all used
   pub below : k .below ≡ below-new (used-after (order-of s i) (i .highest) cs)
   pub next-below : last-new k ≡ used-after (order-of s i) (i .highest) (cs ++ (c ∷ []))

@@ -1,10 +1,9 @@
 -- How long the log gets, how high its variables, and how much stands; proved as `sizes` in proofs/Sizes, for a formula that was accepted and any settings.
 use mathlib.Core.Path.{_≡_}
-use mathlib.Core.Bool.{false}
 use mathlib.Core.List.{List, [], _∷_, _++_}
 use Prim.Native.Nat.{_+_, _≤_, _<_, _^_}
 use lib.ListN.{length}
-use Rattle.definition.specs.Literals.{Clause, opposed}
+use Rattle.definition.specs.Literals.{Clause}
 use Rattle.definition.specs.Reading.{Input}
 use Rattle.definition.specs.Standing.{Line, after}
 use Rattle.definition.specs.Events.{Clash, Event, clash-cleared}
@@ -14,6 +13,8 @@ use Rattle.definition.specs.Log.{log-text, formula-text}
 use Rattle.definition.specs.Reencoding.{lines, Settings, choice-events, unclashed, chosen, events, log, result, highest-used}
 use Rattle.definition.specs.Calls.{workspace-need, numbers-of}
 use Rattle.theory_base.specs.Clauses.{Proper, Fit-all}
+use Rattle.theory_base.specs.Cells.{cells-of}
+use Rattle.theory_room.specs.Step.{step-of}
 use Rattle.theory_room.specs.Choices.{standing-after-first, next-choice, used-after, order-of}
 use Rattle.theory_run.specs.Choices.{events-up-to}
 
@@ -40,9 +41,10 @@ pub record Sizes (s : Settings) (i : Input) : Type 0 where
   pub chosen-reach : Fit-all (i .highest) (choice-literals (chosen s i))
   pub chosen-numbers : numbers-of (chosen s i) ≤ 9_600
   pub chosen-count : length (chosen s i) ≤ 1_600
-  -- a resolvent fits beside what stands
-  pub clash-space : (xs ys : List Event) (c : Clash) → clear-clashes (i .formula) ≡ xs ++ (clash-cleared c ∷ ys) → opposed (resolvent c) ≡ false →
-      numbers-of (after (i .formula) (lines xs)) + (length (resolvent c) + 1) ≤ workspace-need i
+  -- before each clash and after the last, what stands leaves room for a step
+  pub clash-space : (xs ys : List Event) → clear-clashes (i .formula) ≡ xs ++ ys → cells-of (after (i .formula) (lines xs)) + step-of i ≤ workspace-need i
+  -- into which a resolvent fits
+  pub clash-cells : (xs ys : List Event) (c : Clash) → clear-clashes (i .formula) ≡ xs ++ (clash-cleared c ∷ ys) → cells-of (resolvent c ∷ []) ≤ step-of i
   -- M, and the new formula's text
   pub result-few : length (result s i) ≤ 300_000
   pub result-numbers : numbers-of (result s i) ≤ 1_300_000

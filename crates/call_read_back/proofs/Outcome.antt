@@ -49,7 +49,7 @@ module _ (t : Bytes) (m : Code.Limits) (k : limits-of m ≡ read-back-limits) (a
     pub clauses-left : (l ≤ filled) × (filled - l ≤ 300_000)
     clauses-left = (omega (arith, few .1), omega (arith, few .0, few .1))
 
-    module _ (need : ℕ) (w : need ≡ 20 * l + 2 * c + 6 * v + 8_192) (store : List ℤ) where
+    module _ (need : ℕ) (w : need ≡ 40 * l + 4 * c + 12 * v + 8_192) (store : List ℤ) where
       need-is : workspace-need (found .input) ≡ need
       unfolding workspace-need
       need-is = omega (arith, found .variables, found .clauses, found .literals, read-highest read-back-limits t (found .input) (found .is))

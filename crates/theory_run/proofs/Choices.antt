@@ -12,7 +12,7 @@ use Rattle.definition.specs.Reading.{Input, input-limits}
 use Rattle.definition.specs.Events.{Choice, Event, clause-replaced, literals-deleted}
 use Rattle.definition.specs.Counter.{last-new, counter, take-choice}
 use Rattle.definition.specs.Order.{replacement-lines, replaced, replace, order-events}
-use Rattle.definition.specs.Reencoding.{lines-of, lines, Form, counter-form, order-form, Settings, choice-events, choices-events, cleared, chosen, events, log, result}
+use Rattle.definition.specs.Reencoding.{lines-of, lines, order-form, Settings, choice-events, choices-events, cleared, chosen, events, log, result}
 use Rattle.definition.specs.Calls.{workspace-need}
 use Rattle.theory_base.specs.Cells.{cells-of}
 use Rattle.theory_base.specs.Clauses.{Parted, Proper-all, Fits, Fit-all}
@@ -36,7 +36,7 @@ use Rattle.theory_room.proofs.Rises.{taken-changes}
 use Rattle.theory_room.proofs.Additions.{cells, cells-sum}
 use Rattle.theory_room.proofs.Chosen.{chosen-few}
 use Rattle.theory_room.specs.Step.{step-of}
-use Rattle.theory_room.proofs.Runs.{Run, choosing, events-are, chosen-mem, arranges, weight-least}
+use Rattle.theory_room.proofs.Runs.{Run, choosing, events-are, chosen-mem, arranges}
 use Rattle.theory_room.proofs.Compaction.{choices-split, first-to, choice-room, choice-step, choice-touched}
 use Rattle.theory_run.proofs.LogSound.{chosen-parted, chosen-ready, accepted-run}
 use Rattle.theory_run.proofs.ChoicesSound.{before-order, fits-below}

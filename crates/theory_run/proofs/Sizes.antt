@@ -1,23 +1,19 @@
 -- The sizes of a run. Assumes that the formula was accepted.
 use mathlib.Core.Path.{_≡_, refl, _∙_, ap}
-use mathlib.Core.Bool.{Bool, false, not}
 use mathlib.Core.List.{List, [], _∷_, _++_, append-assoc, List·Memᴰ, List·Memᴰ·head as here, List·Memᴰ·tail as there}
 use Prim.Native.Nat.{ℕ, _+_, _*_, _≤_}
 use native.Mathlib.Omega.{arith}
-use lib.IntN.{negℤ}
 use lib.ListN.{length, length-append}
-use Rattle.definition.specs.Lists.{sum-of, only-if, for-each}
-use Rattle.definition.specs.Literals.{Clause, Formula, literals-of, with-first, opposed}
+use Rattle.definition.specs.Lists.{sum-of, for-each}
+use Rattle.definition.specs.Literals.{Clause, Formula, literals-of}
 use Rattle.definition.specs.Text.{bytes, digits}
-use Rattle.definition.specs.Standing.{addition, deletion}
 use Rattle.definition.specs.Reading.{Input, input-limits}
 use Rattle.definition.specs.Events.{Event}
-use Rattle.definition.specs.Clearing.{resolvent, clash-lines, clear-clashes, clear-pure}
+use Rattle.definition.specs.Clearing.{clear-clashes, clear-pure}
 use Rattle.definition.specs.Log.{clause-text, formula-text}
 use Rattle.definition.specs.Reencoding.{lines, Settings, choice-events, unclashed, events, result, highest-used}
 use Rattle.definition.specs.Calls.{numbers-of}
 use Rattle.theory_base.proofs.Digits.{digits-within}
-use Rattle.theory_base.proofs.Sums.{sum-++, count-length}
 use Rattle.theory_base.proofs.Fitting.{Up-to, proper-fit}
 use Rattle.theory_text.specs.Accepted.{Accepted}
 use Rattle.theory_room.proofs.Room.{clearing-room, resolvent-step}

@@ -1,31 +1,25 @@
 -- H is V and the new variables of all choices. Assumes what a run keeps (`Run`).
 use mathlib.Core.Path.{_≡_, refl, _∙_, ap}
-use mathlib.Core.Logic.{⊎-elim}
-use mathlib.Core.List.{List, [], _∷_, _++_, map, List·Memᴰ, List·Memᴰ·head as here, List·Memᴰ·tail as there, List·Memᴰ·append-cases, List·Memᴰ·not-nil}
-use Prim.Native.Nat.{ℕ, _+_, _*_, _≤_, max}
+use mathlib.Core.List.{List, [], _∷_, _++_, map, List·Memᴰ, List·Memᴰ·head as here, List·Memᴰ·tail as there}
+use Prim.Native.Nat.{ℕ, _≤_, max}
 use native.Mathlib.Omega.{arith}
 use lib.IntN.{ℤ, natAbs}
-use lib.ListN.{length, length-append}
-use Rattle.definition.specs.Lists.{sum-of, for-each}
-use Rattle.definition.specs.Literals.{Clause, Formula, literals-of}
+use Rattle.definition.specs.Lists.{for-each}
+use Rattle.definition.specs.Literals.{Clause, Formula}
 use Rattle.definition.specs.Standing.{Line, addition, deletion, literals, highest-in, after}
 use Rattle.definition.specs.Reading.{Input}
 use Rattle.definition.specs.Events.{Choice}
 use Rattle.definition.specs.Counter.{last-new, counter, copies, take-choice}
 use Rattle.definition.specs.Order.{order-events}
-use Rattle.definition.specs.Alignment.{choice-literals}
 use Rattle.definition.specs.Reencoding.{lines-of, lines, Form, counter-form, order-form, Settings, choice-events, choices-events, cleared, chosen, log, highest-used}
-use Rattle.theory_base.proofs.Members.{proper-first}
-use Rattle.theory_base.specs.Clauses.{Disjoint, Parted}
-use Rattle.theory_base.proofs.Loops.{for-each-mem}
-use Rattle.theory_base.proofs.Fitting.{Proper-to, literal-between, cons-to, proper-length, highest-at, highest-le, highest-in-le}
+use Rattle.theory_base.proofs.Fitting.{highest-at, highest-le, highest-in-le}
 use Rattle.theory_base.proofs.Replay.{lines-++}
 use Rattle.theory_counter.specs.Ready.{Well-formed}
 use Rattle.theory_counter.proofs.Front.{taken-lines-are}
 use Rattle.theory_order.proofs.Found.{counter-stands}
-use Rattle.theory_room.specs.Choices.{clearing, new-variables, as-choice, order-of, used-after}
+use Rattle.theory_room.specs.Choices.{clearing, as-choice, order-of, used-after}
 use Rattle.theory_room.proofs.Lines.{Arranges, ordered-formed, others, used-least}
-use Rattle.theory_room.proofs.Runs.{Run, top, choosing, events-are, arranges, chosen-mem, log-to}
+use Rattle.theory_room.proofs.Runs.{Run, top, choosing, events-are, arranges, log-to}
 use Rattle.theory_counter.proofs.NewVariables.{last-new-above}
 
 -- ---- the highest new variable stands in a line

@@ -1,7 +1,7 @@
 -- Clauses found by literal. The store grows from the workspace's start, and nodes from its end: one for each literal of the store's clauses, deleted ones too, in the order in which they were entered.
 -- A node is two elements: where its clause is, and the number of the node before it with the same literal, 0 where there is none. A table has the number of each literal's last node.
 use mathlib.Core.Path.{_≡_, refl}
-use mathlib.Core.Bool.{Bool, true, false, not, _&&_, cond}
+use mathlib.Core.Bool.{Bool, false, not, _&&_, cond}
 use mathlib.Core.List.{List, [], _∷_}
 use Prim.Native.Nat.{ℕ, zero, suc, _+_, _-_, _*_, _≤_, _<_, _^_}
 use lib.Dec.{eqb}

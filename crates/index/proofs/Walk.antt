@@ -18,7 +18,7 @@ use Rattle.theory_base.proofs.Members.{same-eq, same-refl as literal-same}
 use Rattle.literals.specs.Literal.{negative, flip, header-literals}
 use Rattle.literals.proofs.Laws.{literals-flip}
 use Rattle.store.specs.Store.{Formed-from, Formed, stored-from, stored, header-at, size-at, clause-at, past, marked, Place}
-use Rattle.store.proofs.Laws.{place-start, place-end, place-formed, place-next, clause-length, prefix-next, past-within, marked-place}
+use Rattle.store.proofs.Laws.{by-entries, place-end, place-formed, clause-length, prefix-next, past-within, marked-place}
 use Rattle.index.specs.Index.{entered-from, entered, literals-from, literals-in, Same-entries}
 use Rattle.index.specs.Reading.{Entry-with}
 
@@ -95,17 +95,6 @@ entered-none l = refl
 pub literals-none : literals-in [] ≡ 0
 unfolding literals-from
 literals-none = refl
-
--- what holds at the start and passes from each entry to the next holds at every place
-pub by-entries : (s : List ℤ) (P : ℕ → Type 0) → P 0 → ((at : ℕ) → at < length s → Place s at → P at → P (past s at)) → (q : ℕ) → Place s q → P q
-by-entries s P start step q e = go q 0 (place-start (place-formed e)) (omega arith) (omega arith) start
-  where
-    go : (n at : ℕ) → Place s at → at ≤ q → q ≤ at + n → P at → P q
-    go zero at p l m x = let z : at ≡ q = omega arith in subst P z x
-    go (suc n) at p l m x =
-        by-order at q l (λ z. subst P z x)
-        (λ h. let i : at < length s = omega (arith, e .inside) in
-        go n (past s at) (place-next s at i p) (past-within p e h) (omega arith) (step at i p x))
 
 -- ---- the same entries
 

@@ -65,6 +65,7 @@ pub fn enter(work: &mut [i32], newest: &mut [u32], at: usize, next: usize)
     ensures indexed { λ _. ⌜ Indexed (now (work .exit)) next (now (newest .exit)) ⌝ }
     ensures kept { λ _. ⌜ take next (now (work .exit)) ≡ take next (now (work .entry)) ⌝ }
     ensures nodes { λ _. ⌜ nodes-in (now (newest .exit)) ≡ nodes-in (now (newest .entry)) + (next - (at + 1)) ⌝ }
+    ensures below { λ _. ⌜ take (length (now (work .entry)) - 2 * nodes-in (now (newest .exit))) (now (work .exit)) ≡ take (length (now (work .entry)) - 2 * nodes-in (now (newest .exit))) (now (work .entry)) ⌝ }
 {
     let mut i = at + 1;
     while i < next {

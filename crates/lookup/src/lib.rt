@@ -1,14 +1,14 @@
 // Clauses looked up by a literal in the index: one that stands, the first with some literals, those with a negated literal of a choice in list order.
 ghost use mathlib.Core.Path.{_≡_};
-ghost use Prim.Native.Nat.{_+_, _≤_, _<_};
+ghost use Prim.Native.Nat.{_≤_};
 ghost use lib.IntN.{natAbs, pos};
-ghost use lib.ListN.{length, take, drop, getD};
+ghost use lib.ListN.{length, take, getD};
 ghost use Rattle.definition.specs.Clearing.{times};
 ghost use Rattle.store.specs.Store.{stored, place-of};
 ghost use Rattle.tables.specs.Sizes.{log-reach};
 ghost use Rattle.index.specs.Index.{Indexed};
 ghost use Rattle.index.specs.Reading.{Found-with};
-ghost use Rattle.lookup.specs.Lookup.{Deleted-by, touched-places, Gatherable};
+ghost use Rattle.lookup.specs.Lookup.{Deleted-by};
 use store::Found;
 
 // The place of the last standing clause that holds a literal, if there is one.
@@ -52,37 +52,4 @@ pub fn delete_clause(work: &mut [i32], newest: &[u32], end: usize, clause: &[i32
         Found::At(at) => store::mark_deleted(work, at),
         Found::Nothing => {}
     }
-}
-
-// ---- the clauses with a negated literal of a choice: a cursor for each literal, all moved towards the list's start
-
-// The node, or the first older one, whose clause stands and is before a place; 0 where there is none.
-fn standing_before(work: &[i32], node: usize, before: usize) -> usize
-{
-    let mut t = node;
-    while 0 < t {
-        let at = index::place_at(work, t);
-        if at < before {
-            if !literals::is_negative(work[at]) {
-                return t;
-            }
-        }
-        t = index::older(work, t);
-    }
-    0
-}
-
-// Writes the places of the standing clauses before `start` that hold a negated literal of a choice to the end of a list, in list order; the result is where they begin.
-pub fn gather(
-    work: &[i32],
-    newest: &[u32],
-    end: usize,
-    start: usize,
-    choice: &[i32],
-    list: &mut [u32],
-) -> usize
-    requires { ⌜ Gatherable (now work) end (now newest) start (now choice) (now list) ⌝ }
-    ensures { λ r. ⌜ drop r (now (list .exit)) ≡ touched-places (now (choice .entry)) (take start (now (work .entry))) ⌝ }
-{
-    0
 }

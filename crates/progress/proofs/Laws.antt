@@ -22,10 +22,11 @@ use Rattle.text.proofs.Output.{put-none, put-then, put-same, put-length}
 use Rattle.tables.specs.Entries.{most, tallied-all}
 use Rattle.tables.specs.Counts.{Counts}
 use Rattle.tables.proofs.Counting.{counted-table}
-use Rattle.store.specs.Store.{Formed, stored, Counted, Compacted}
+use Rattle.store.specs.Store.{Formed, stored, Counted}
 use Rattle.store.proofs.Laws.{few-stored}
+use Rattle.index.specs.Index.{Made-room}
 use Rattle.progress.specs.declared.Progress.{Progress}
-use Rattle.progress.specs.Progress.{Written, Log-room, standing, Good, Runs, Slid-down}
+use Rattle.progress.specs.Progress.{Written, Log-room, standing, Good, Runs}
 
 -- ---- the lines of events, and their text
 
@@ -195,10 +196,7 @@ good-still {es = es} {work = work} {p = p} g r =
     let e : after (standing work p) (lines []) ≡ standing work p = ap (after (standing work p)) lines-none in
     good-rest [] es g r (rw e (g .proper)) (rw e (g .fits))
 
--- the standing clauses slid down
-pub slid-down : (work part : List ℤ) {p q : Progress} {n : ℕ} → p .end ≤ length work → length part ≡ length (take (p .end) work) → Compacted (take (p .end) work) n part → q .end ≡ n → q .at ≡ p .at → q .lines ≡ p .lines
-    → Slid-down work p (part ++ drop (p .end) work) q
-slid-down work part {p} {q} {n} b s k d e f = record {
-  runs = λ log. runs-nothing log p q (part-size work part (p .end) b s) (rw d (part-holds work part (p .end) b s n (omega (arith, k .within, part-length work part (p .end) b s)) (k .formed) (k .same))) e f;
-  end-is = d ∙ k .size;
-}
+-- room made: the store may have moved
+pub made-runs : {cells end : ℕ} {work new : List ℤ} {newest : List ℕ} {p q : Progress} → p .end ≡ end → Made-room cells work end new (q .end) newest → q .at ≡ p .at → q .lines ≡ p .lines → (log : Bytes) → Runs [] work log p new log q
+made-runs {work = work} {p = p} {q = q} a m e f log =
+    runs-nothing log p q (m .size) (record { inside = omega (arith, m .indexed .room); formed = m .indexed .formed; stands = m .stands ∙ ap (λ (n : ℕ). stored (take n work)) (sym a) }) e f

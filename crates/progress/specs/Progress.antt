@@ -1,6 +1,6 @@
 -- How far a run is, and what a phase of it does.
 use mathlib.Core.Path.{_≡_}
-use mathlib.Core.List.{List, []}
+use mathlib.Core.List.{List}
 use Prim.Native.Nat.{ℕ, _+_, _≤_, _<_, _^_}
 use lib.IntN.{ℤ}
 use lib.ListN.{length, take}

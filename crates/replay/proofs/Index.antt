@@ -12,7 +12,6 @@ use lib.Seq.{take-append-le, take-all, take-take, take-length, length-take-le}
 use borrow.Author.Tests.{eqb-true, eqb-false}
 use Rattle.definition.specs.Literals.{Clause, same-set}
 use Rattle.theory_base.proofs.Tests.{of-true, by-test}
-use Rattle.theory_base.proofs.Loops.{by-order}
 use Rattle.theory_base.proofs.Members.{same-set-same}
 use Rattle.theory_base.specs.Clauses.{Within}
 use Rattle.theory_base.proofs.Slices.{drop-step, drop-end}
@@ -20,7 +19,7 @@ use Rattle.literals.specs.Literal.{index-of, header-literals}
 use Rattle.store.specs.Store.{Formed-from, Formed, header-at, size-at, deleted-at, clause-at, past, Place, begins-with, place-from, place-of}
 use Rattle.store.specs.declared.Found.{Found}
 use Rattle.store.specs.declared.Found.the-variants.{At, Nothing}
-use Rattle.store.proofs.Laws.{place-start, place-end, place-formed, place-next, clause-length, prefix-next, past-within}
+use Rattle.store.proofs.Laws.{by-entries, place-end, clause-length, prefix-next}
 use Rattle.store.proofs.Finding.{matches-deleted, matches-stands}
 use Rattle.replay.specs.Index.{last-index, keys, lowest-index, greatest-index, key-of, key-at, last-from, last-with, Indexed}
 
@@ -95,19 +94,6 @@ key-same c d e =
     let l : lowest-index c ≡ lowest-index d = omega (arith, lowest-subset c d (m .1), lowest-subset d c (m .0)) in
     let t : greatest-index c ≡ greatest-index d = omega (arith, greatest-subset c d (m .1), greatest-subset d c (m .0)) in
     key-is d (lowest-index c) (greatest-index c) l t
-
--- ---- the entries one by one
-
--- what holds at the start and passes from each entry to the next holds at every place
-pub by-entries : (s : List ℤ) (P : ℕ → Type 0) → P 0 → ((at : ℕ) → at < length s → Place s at → P at → P (past s at)) → (q : ℕ) → Place s q → P q
-by-entries s P start step q e = go q 0 (place-start (place-formed e)) (omega arith) (omega arith) start
-  where
-    go : (n at : ℕ) → Place s at → at ≤ q → q ≤ at + n → P at → P q
-    go zero at p l m x = let z : at ≡ q = omega arith in subst P z x
-    go (suc n) at p l m x =
-        by-order at q l (λ z. subst P z x)
-        (λ h. let i : at < length s = omega (arith, e .inside) in
-        go n (past s at) (place-next s at i p) (past-within p e h) (omega arith) (step at i p x))
 
 -- ---- the last entry with a key
 
@@ -218,20 +204,6 @@ module _ (c : Clause) (s : List ℤ) (at : ℕ) (h : at < length s) (p : Place s
     where
       no : same-set c (clause-at s at) ≡ true → begins-with c (drop at s) ≡ false
       no m = absurd (eqb-false (key-at s at) (key-of c) e (sym (key-same c (clause-at s at) m)))
-
--- the best match with this entry
-module _ (c : Clause) (s : List ℤ) (at : ℕ) (h : at < length s) (best : Found) where
-  better-by : (b : Bool) → b ≡ begins-with c (drop at s) → cond b (At at) best ≡ cond (begins-with c (drop at s)) (At at) best
-  better-by b e = ap (λ (t : Bool). cond t (At at) best) e
-
-  pub better-deleted : deleted-at s at ≡ true → best ≡ cond (begins-with c (drop at s)) (At at) best
-  better-deleted d = better-by false (matches-deleted s at h c d)
-
-  pub better-here : deleted-at s at ≡ false → (r : Bool) → r ≡ same-set c (clause-at s at) → r ≡ true → At at ≡ cond (begins-with c (drop at s)) (At at) best
-  better-here d r e t = better-by true (sym t ∙ e ∙ matches-stands s at h c d)
-
-  pub better-not : deleted-at s at ≡ false → (r : Bool) → r ≡ same-set c (clause-at s at) → r ≡ false → best ≡ cond (begins-with c (drop at s)) (At at) best
-  better-not d r e t = better-by false (sym t ∙ e ∙ matches-stands s at h c d)
 
 -- ---- from the last entry with the clause's key on
 

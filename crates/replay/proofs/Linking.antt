@@ -18,9 +18,9 @@ use Rattle.theory_base.proofs.Loops.{by-order}
 use Rattle.literals.specs.Literal.{largest, header-of, flip, header-literals}
 use Rattle.literals.proofs.Laws.{literals-flip, literals-header}
 use Rattle.store.specs.Store.{Formed-from, Formed, header-at, size-at, clause-at, past, marked, Place}
-use Rattle.store.proofs.Laws.{place-within, place-end, place-formed, marked-place, formed-next, kept-clause, past-within}
+use Rattle.store.proofs.Laws.{by-entries, place-within, place-end, place-formed, marked-place, formed-next, kept-clause, past-within}
 use Rattle.replay.specs.Index.{keys, key-of, key-at, last-from, last-with, Indexed}
-use Rattle.replay.proofs.Index.{key-within, by-entries, last-next, last-within}
+use Rattle.replay.proofs.Index.{key-within, last-next, last-within}
 
 -- ---- a clause of a part marked as deleted
 

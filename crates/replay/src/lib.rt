@@ -101,22 +101,6 @@ fn index_all(work: &mut [i32], heads: &mut [usize], store: usize, end: usize, li
     }
 }
 
-// The clause at a place if it stands and has the same set of literals, else the best match so far.
-fn better(store: &[i32], at: usize, clause: &[i32], best: store::Found) -> store::Found
-    requires { ⌜ (at < length (now store)) × Formed (drop at (now store)) ⌝ }
-    ensures { λ r. ⌜ r ≡ cond (begins-with (now (clause .entry)) (drop at (now (store .entry)))) (At at) best ⌝ }
-{
-    if literals::is_negative(store[at]) {
-        return best;
-    }
-    let next = store::next_at(store, at);
-    let first = at + 1;
-    if store::same_set(clause, &store[first..next]) {
-        return store::Found::At(at);
-    }
-    best
-}
-
 // The place of the first standing clause with the same set of literals, by the links of its key.
 fn find_linked(store: &[i32], links: &[i32], heads: &[usize], clause: &[i32]) -> store::Found
     requires { ⌜ Formed (now store) × (length (now store) ≤ length (now links)) × (length (now heads) ≡ keys) × Indexed (now store) (length (now store)) (now links) (now heads) ⌝ }
@@ -126,7 +110,7 @@ fn find_linked(store: &[i32], links: &[i32], heads: &[usize], clause: &[i32]) ->
     let mut p = heads[key_of(clause)];
     while 0 < p {
         let at = p - 1;
-        best = better(store, at, clause, best);
+        best = store::better(store, at, clause, best);
         p = literals::header_length(links[at]);
     }
     best

@@ -13,10 +13,11 @@ use Rattle.definition.specs.Standing.{stands, take-out}
 use Rattle.theory_base.proofs.Tests.{differ}
 use Rattle.literals.specs.Literal.{header-literals}
 use Rattle.store.specs.Store.{Formed-from, Formed, stored-from, stored, size-at, deleted-at, clause-at, past, marked, Place, begins-with, place-from, place-of, Deleted}
+use Rattle.store.specs.declared.Found.{Found}
 use Rattle.store.specs.declared.Found.the-variants.{At, Nothing}
 use Rattle.theory_base.proofs.Slices.{drop-step, drop-end}
 use Rattle.theory_base.proofs.Removal.{stands-past, take-out-past, take-out-none, stands-head, take-out-head}
-use Rattle.store.proofs.Laws.{drop-past, past-is, place-within, place-formed, stored-around, marked-place, marked-stored}
+use Rattle.store.proofs.Laws.{by-entries, place-end, drop-past, past-is, place-within, place-formed, stored-around, marked-place, marked-stored}
 
 place-skip : (c : Clause) (k at : ℕ) (s : List ℤ) → place-from c k at s ≡ place-from c 0 (at + k) (drop k s)
 unfolding place-from
@@ -165,3 +166,32 @@ deleted-hit c s t p f e d =
 
 pub deleted-miss : (c s : List ℤ) → Formed s → place-of c s ≡ Nothing → Deleted c s false s
 deleted-miss c s f e = let r = miss c s e in record { found = sym r; formed = f; left = sym (take-out-none c (stored s) r) }
+
+-- the best match with this entry
+module _ (c : Clause) (s : List ℤ) (at : ℕ) (h : at < length s) (best : Found) where
+  better-by : (b : Bool) → b ≡ begins-with c (drop at s) → cond b (At at) best ≡ cond (begins-with c (drop at s)) (At at) best
+  better-by b e = ap (λ (t : Bool). cond t (At at) best) e
+
+  pub better-deleted : deleted-at s at ≡ true → best ≡ cond (begins-with c (drop at s)) (At at) best
+  better-deleted d = better-by false (matches-deleted s at h c d)
+
+  pub better-here : deleted-at s at ≡ false → (r : Bool) → r ≡ same-set c (clause-at s at) → r ≡ true → At at ≡ cond (begins-with c (drop at s)) (At at) best
+  better-here d r e t = better-by true (sym t ∙ e ∙ matches-stands s at h c d)
+
+  pub better-not : deleted-at s at ≡ false → (r : Bool) → r ≡ same-set c (clause-at s at) → r ≡ false → best ≡ cond (begins-with c (drop at s)) (At at) best
+  better-not d r e t = better-by false (sym t ∙ e ∙ matches-stands s at h c d)
+
+-- ---- a match that no other comes before is found
+
+module _ (c : Clause) (s : List ℤ) (f : Formed s) where
+  unmatched-before : (p : ℕ) → Place s p → ((q : ℕ) → q < p → Place s q → begins-with c (drop q s) ≡ false) → place-from c 0 p (drop p s) ≡ place-of c s
+  unmatched-before p e g = by-entries s (λ (at : ℕ). at ≤ p → place-from c 0 at (drop at s) ≡ place-of c s) (λ _. refl) step p e (omega arith)
+    where
+      step : (at : ℕ) → at < length s → Place s at → (at ≤ p → place-from c 0 at (drop at s) ≡ place-of c s) → past s at ≤ p → place-from c 0 (past s at) (drop (past s at) s) ≡ place-of c s
+      step at h a r m = place-miss s at h c (g at (omega arith) a) ∙ r (omega arith)
+
+  pub first-match : (p : ℕ) → Place s p → p < length s → begins-with c (drop p s) ≡ true → ((q : ℕ) → q < p → Place s q → begins-with c (drop q s) ≡ false) → place-of c s ≡ At p
+  first-match p e h b g = sym (unmatched-before p e g) ∙ sym (place-hit s p h c b)
+
+  pub no-match : ((q : ℕ) → q < length s → Place s q → begins-with c (drop q s) ≡ false) → place-of c s ≡ Nothing
+  no-match g = sym (unmatched-before (length s) (place-end f) g) ∙ sym (place-nowhere c s (length s) (omega arith))

@@ -12,6 +12,7 @@ use lib.Seq.{drop-append-le, getD-take, drop-drop, take-add, take-all, take-appe
 use borrow.Author.Tests.{leb-true, le-leb}
 use Rattle.definition.specs.Literals.{Clause, Formula}
 use Rattle.theory_base.proofs.Tests.{differ}
+use Rattle.theory_base.proofs.Loops.{by-order}
 use Rattle.literals.specs.Literal.{largest, negative, header-of, flip, header-literals}
 use Rattle.literals.proofs.Laws.{flip-negative, literals-flip, literals-header}
 use Rattle.store.specs.Store.{Formed-from, Formed, stored-from, stored, entry, header-at, size-at, deleted-at, clause-at, past, marked, Place, fits-in, end-after, with-entry}
@@ -245,7 +246,7 @@ module _ (s : List ℤ) (at : ℕ) (c : Clause) (h : length c ≤ largest) (b : 
   heads : header-at s at ∷ drop (at + 1) s ≡ entry c ++ b
   heads = sym (drop-step s at (pos 0) within) ∙ e
 
-  entry-header : header-at s at ≡ header-of (length c)
+  pub entry-header : header-at s at ≡ header-of (length c)
   entry-header = cc heads
 
   pub entry-size : size-at s at ≡ length c
@@ -355,3 +356,16 @@ past-within {s} {x} {y} p q h =
     let n : length (take y s) ≡ y = length-take-le y s (q .inside) in
     let r = formed-next (take y s) x (omega arith) (place-prefix q p (omega arith) .rest) .0 in
     omega (arith, r, n, ap header-literals (prefix-header s y x h (q .inside)))
+
+-- ---- the entries one by one
+
+-- what holds at the start and passes from each entry to the next holds at every place
+pub by-entries : (s : List ℤ) (P : ℕ → Type 0) → P 0 → ((at : ℕ) → at < length s → Place s at → P at → P (past s at)) → (q : ℕ) → Place s q → P q
+by-entries s P start step q e = go q 0 (place-start (place-formed e)) (omega arith) (omega arith) start
+  where
+    go : (n at : ℕ) → Place s at → at ≤ q → q ≤ at + n → P at → P q
+    go zero at p l m x = let z : at ≡ q = omega arith in subst P z x
+    go (suc n) at p l m x =
+        by-order at q l (λ z. subst P z x)
+        (λ h. let i : at < length s = omega (arith, e .inside) in
+        go n (past s at) (place-next s at i p) (past-within p e h) (omega arith) (step at i p x))

@@ -8,6 +8,7 @@ ghost use Rattle.definition.specs.Lists.{all};
 ghost use Rattle.definition.specs.Literals.{holds as holds-literal, same-set as same-literals};
 ghost use Rattle.definition.specs.Calls.{numbers-of};
 ghost use Rattle.tables.specs.Entries.{tallied-all};
+ghost use Rattle.store.specs.declared.Found.the-variants.{At};
 ghost use Rattle.store.specs.Store.{Formed, stored, past, marked, tallied-at, begins-with, place-of, Deleted, end-after, with-entry, slid, slid-to, filled-by as filled, Compacted};
 ghost use Rattle.store.specs.Marks.{Marks};
 
@@ -203,6 +204,22 @@ pub fn find_same_set(store: &[i32], clause: &[i32]) -> Found
     let mut marks = [0u32; tables::LOG_SIZE];
     tables::set_entries(&mut marks, clause, 1);
     find_marked(store, &marks, clause)
+}
+
+// The clause at a place if it stands and has the same set of literals, else the best match so far.
+pub fn better(store: &[i32], at: usize, clause: &[i32], best: Found) -> Found
+    requires { ⌜ (at < length (now store)) × Formed (drop at (now store)) ⌝ }
+    ensures { λ r. ⌜ r ≡ cond (begins-with (now (clause .entry)) (drop at (now (store .entry)))) (At at) best ⌝ }
+{
+    if literals::is_negative(store[at]) {
+        return best;
+    }
+    let next = next_at(store, at);
+    let first = at + 1;
+    if same_set(clause, &store[first..next]) {
+        return Found::At(at);
+    }
+    best
 }
 
 // Marks the clause at a place as deleted.

@@ -139,6 +139,14 @@ pub numbers-++ : (f g : Formula) → numbers-of (f ++ g) ≡ numbers-of f + numb
 numbers-++ [] g = omega (arith, numbers-none)
 numbers-++ (c ∷ f) g = omega (arith, numbers-first c (f ++ g), numbers-first c f, numbers-++ f g)
 
+pub literals-none : literals-of [] ≡ 0
+unfolding literals-of sum-of
+literals-none = refl
+
+pub literals-first : (c : Clause) (f : Formula) → literals-of (c ∷ f) ≡ length c + literals-of f
+unfolding literals-of sum-of
+literals-first c f = refl
+
 -- a clause fills at least an element
 pub numbers-least : (f : Formula) → length f ≤ numbers-of f
 unfolding numbers-of

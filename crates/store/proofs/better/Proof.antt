@@ -7,11 +7,11 @@ use denote.Ref.{now}
 use Rattle.definition.specs.Literals.{same-set}
 use Rattle.literals.specs.Literal.{negative}
 use Rattle.literals.proofs.Laws.{answered}
 use Rattle.store.specs.Store.{header-at, size-at}
 use Rattle.store.proofs.Laws.{formed-next}
-use Rattle.replay.proofs.Index.{better-deleted, better-here, better-not}
-use Rattle.replay.proofs.better.Statement.{statement}
-use Rattle.replay.proofs.better.Tie as tie
+use Rattle.store.proofs.Finding.{better-deleted, better-here, better-not}
+use Rattle.store.proofs.better.Statement.{statement}
+use Rattle.store.proofs.better.Tie as tie
 
 mul-is-negative : tie.Need-mul-is-negative
 mul-is-negative c = search needs

@@ -272,6 +272,40 @@ pub fn clash_chain(clashes: i32) -> Vec<u8> {
     formula_text(clashes + 2 * own, &clauses)
 }
 
+/// A clause of all variables, and the negation of each as a clause: it loses a literal with each clash, until it is empty.
+pub fn unit_chain(variables: i32) -> Vec<u8> {
+    let units = (1..=variables).map(|variable| vec![-variable]);
+    let clauses: Vec<Vec<i32>> = [(1..=variables).collect()]
+        .into_iter()
+        .chain(units)
+        .collect();
+    formula_text(variables, &clauses)
+}
+
+/// So many choices of the size, and so many literals more in wide clauses. These have, of each choice, negated literals of
+/// which no two are neighbours, none the first or the last: l2, l4 and so on, or l3, l5 and so on, by turns. So each choice
+/// replaces all of them, and they get nearly twice as long.
+pub fn wide_over_choices(size: usize, count: usize, literals: usize) -> Vec<u8> {
+    let mut formula = clauses_apart(size, count);
+    let choices = formula.clauses.clone();
+    let mut left = literals;
+    for turn in 0.. {
+        let inner = |(place, choice): (usize, &Vec<i32>)| {
+            let first = 1 + (turn + place) % 2;
+            let inner = choice[first..choice.len() - 1].iter().step_by(2);
+            inner.map(|literal| -literal).collect::<Vec<i32>>()
+        };
+        let mut wide: Vec<i32> = choices.iter().enumerate().flat_map(inner).collect();
+        wide.truncate(left);
+        left -= wide.len();
+        if wide.is_empty() {
+            break;
+        }
+        formula.clauses.push(wide);
+    }
+    formula_text(formula.variables, &formula.clauses)
+}
+
 /// So many clashes all over 8,000 variables, of two clauses of three literals each.
 pub fn clashes_apart(clashes: usize) -> Vec<u8> {
     let distance = 8_000 / clashes as i32;

@@ -8,6 +8,7 @@ use model::generator::{
 };
 use model::reading::Formula;
 use model::texts::formula_text;
+use model::valleys::Valley;
 use std::collections::BTreeSet;
 
 /// A text that is read as session F: literals are repeated, and two clauses put in that are left out.
@@ -272,13 +273,11 @@ pub fn clash_chain(clashes: i32) -> Vec<u8> {
     formula_text(clashes + 2 * own, &clauses)
 }
 
-/// A clause of all variables, and the negation of each as a clause: it loses a literal with each clash, until it is empty.
+/// A clause of all variables negated, and each variable as a clause: the first loses a literal with each clash, until it
+/// is empty.
 pub fn unit_chain(variables: i32) -> Vec<u8> {
-    let units = (1..=variables).map(|variable| vec![-variable]);
-    let clauses: Vec<Vec<i32>> = [(1..=variables).collect()]
-        .into_iter()
-        .chain(units)
-        .collect();
+    let mut clauses: Vec<Vec<i32>> = vec![(1..=variables).map(|variable| -variable).collect()];
+    clauses.extend((1..=variables).map(|variable| vec![variable]));
     formula_text(variables, &clauses)
 }
 
@@ -302,6 +301,17 @@ pub fn wide_over_choices(size: usize, count: usize, literals: usize) -> Vec<u8> 
             break;
         }
         formula.clauses.push(wide);
+    }
+    formula_text(formula.variables, &formula.clauses)
+}
+
+/// The valley shuffled, and so many wide clauses: each forbids that every trap holds one lure of its own.
+pub fn wide_over_valley(random: &mut Random, valley: &Valley, wide: usize) -> Vec<u8> {
+    let mut formula = valley.shuffled_formula(random);
+    for _ in 0..wide {
+        let lure = |trap: usize| trap * valley.lures + random.below(valley.lures) + 1;
+        let clause = (0..valley.traps).map(lure).map(|held| -(held as i32));
+        formula.clauses.push(clause.collect());
     }
     formula_text(formula.variables, &formula.clauses)
 }

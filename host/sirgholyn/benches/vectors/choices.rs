@@ -10,10 +10,15 @@ pub struct Choice {
     pub literals: Vec<i32>,
 }
 
+/// Whether a clause that stands is a choice.
+pub fn is_choice(clauses: &Clauses, clause: &[i32]) -> bool {
+    (5..=64).contains(&clause.len()) && clauses.is_unique(clause)
+}
+
 /// The choices in list order.
 pub fn found(clauses: &Clauses) -> Vec<Choice> {
     let standing = clauses.standing();
-    let choices = standing.filter(|(_, clause)| clauses.is_choice(clause));
+    let choices = standing.filter(|(_, clause)| is_choice(clauses, clause));
     choices
         .map(|(place, clause)| Choice {
             place,

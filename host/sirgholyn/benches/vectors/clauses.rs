@@ -1,7 +1,5 @@
 //! The clauses of a run in list order, found by place and by literal.
 
-use super::clearing::CHOICE_SIZES;
-
 /// Where a literal's entry is in a table by literal.
 pub fn index(literal: i32) -> usize {
     2 * literal.unsigned_abs() as usize + usize::from(literal < 0)
@@ -98,10 +96,5 @@ impl Clauses {
     /// Whether the clause, which stands, is not empty and shares no literal with another.
     pub fn is_unique(&self, clause: &[i32]) -> bool {
         !clause.is_empty() && clause.iter().all(|&literal| self.count(literal) == 1)
-    }
-
-    /// Whether the clause, which stands, is a choice.
-    pub fn is_choice(&self, clause: &[i32]) -> bool {
-        CHOICE_SIZES.contains(&clause.len()) && self.is_unique(clause)
     }
 }

@@ -1,11 +1,8 @@
 //! Clashes, then pure literals.
 
+use super::choices::is_choice;
 use super::clauses::{entries, index, Clauses};
 use super::Run;
-use std::ops::RangeInclusive;
-
-/// How many literals a choice has.
-pub const CHOICE_SIZES: RangeInclusive<usize> = 5..=64;
 
 /// For each variable whether it and its negation are both in unique literal clauses.
 fn clashing(clauses: &Clauses, variables: i32) -> Vec<bool> {
@@ -30,26 +27,25 @@ pub fn clear_clashes(run: &mut Run, variables: i32) {
         if !clashes[variable as usize] {
             continue;
         }
-        let only_with = |literal| run.clauses.last_with(literal).next();
-        let (Some((place_a, a)), Some((place_b, b))) = (only_with(variable), only_with(-variable))
-        else {
-            continue;
-        };
-        let mark = |is_in_a: &mut [bool], mark| {
-            a.iter().for_each(|&literal| is_in_a[index(literal)] = mark);
-        };
-        mark(&mut is_in_a, true);
-        let opposes_a = |&&literal: &&i32| literal != -variable && is_in_a[index(-literal)];
-        let is_opposed = b.iter().any(|literal| opposes_a(&literal));
-        mark(&mut is_in_a, false);
+        let (place_a, a) = run.clauses.last_with(variable).next().expect("A");
+        let (place_b, b) = run.clauses.last_with(-variable).next().expect("B");
+        let others_of_a = a.iter().copied().filter(|&literal| literal != variable);
+        let others_of_b = b.iter().copied().filter(|&literal| literal != -variable);
+
+        for literal in others_of_a.clone() {
+            is_in_a[index(literal)] = true;
+        }
+        let is_opposed = others_of_b.clone().any(|literal| is_in_a[index(-literal)]);
+        for literal in others_of_a.clone() {
+            is_in_a[index(literal)] = false;
+        }
         if is_opposed {
-            for literal in a.iter().chain(b) {
+            for literal in others_of_a.chain(others_of_b) {
                 clashes[literal.unsigned_abs() as usize] = false;
             }
         } else {
             let mut resolvent = Vec::with_capacity(a.len() + b.len() - 2);
-            resolvent.extend(a.iter().filter(|&&literal| literal != variable));
-            resolvent.extend(b.iter().filter(|&&literal| literal != -variable));
+            resolvent.extend(others_of_a.chain(others_of_b));
             run.add(resolvent);
         }
         run.delete_first(place_a, variable);
@@ -63,7 +59,7 @@ pub fn delete_pure(run: &mut Run) {
         let Some(clause) = run.clauses.get(place) else {
             continue;
         };
-        if !run.clauses.is_unique(clause) || run.clauses.is_choice(clause) {
+        if !run.clauses.is_unique(clause) || is_choice(&run.clauses, clause) {
             continue;
         }
         let mut literals = clause.iter().copied();

@@ -36,7 +36,7 @@ pub fn read(text: &[u8]) -> Result<Formula, u8> {
             if literals > MOST_LITERALS {
                 return Err(9);
             }
-            clauses.push(reader.clause.as_slice().to_vec());
+            clauses.push(reader.clause.clone());
         }
     }
     if reader.word().is_some() {

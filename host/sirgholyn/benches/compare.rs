@@ -12,6 +12,7 @@ mod vectors;
 
 use measure::{measure_once, spent, Spent};
 use model::generator::{largest_with, text_of, Random};
+use model::reading::{read_formula, INPUT_LIMITS};
 use model::valleys::Valley;
 use sirgholyn::{calls, Arrangement, Form, ReencodeRoom};
 use std::hint::black_box;
@@ -30,9 +31,7 @@ fn main() {
         .collect();
     let words: Vec<&str> = words.iter().map(String::as_str).collect();
     match words.as_slice() {
-        ["--reencode", who, file, form, log, formula] => {
-            reencode_once(who, file, form, log, formula)
-        }
+        ["--reencode", who, file, form, sizes @ ..] => reencode_once(who, file, form, sizes),
         ["--measure", printed, command @ ..] => measure_once(printed, command),
         ["--short"] => compare(&valleys(&[75, 150])),
         ["--long"] => compare_long(),
@@ -50,14 +49,14 @@ fn named(form: &str) -> Form {
 
 // ---- one run, in a process of its own
 
-/// One reencoding of a file, the library's with room for texts of the given lengths.
-fn reencode_once(who: &str, file: &str, form: &str, log: &str, formula: &str) {
+/// One reencoding of a file, the library's on buffers of these sizes.
+fn reencode_once(who: &str, file: &str, form: &str, sizes: &[&str]) {
     let text = fs::read(file).unwrap();
     let (form, wish) = (named(form), Arrangement::Alignment);
     if who == "sirgholyn" {
-        let mut work = vec![0; 40 * 60_000 + 4 * 20_000 + 12 * 8_000 + 8_192];
-        let mut log = vec![0; log.parse().unwrap()];
-        let mut formula = vec![0; formula.parse().unwrap()];
+        let sizes: Vec<usize> = sizes.iter().map(|size| size.parse().unwrap()).collect();
+        let mut work = vec![0; sizes[0]];
+        let (mut log, mut formula) = (vec![0; sizes[1]], vec![0; sizes[2]]);
         calls::reencode(&text, form, wish, &mut work, &mut log, &mut formula).unwrap();
     } else {
         black_box(vectors::reencode(&text, form, wish).ok().unwrap());
@@ -204,25 +203,20 @@ fn in_folder(work: impl FnOnce(&Path)) {
     fs::remove_dir_all(&folder).unwrap();
 }
 
-/// The lengths of log and formula. Library and vectors have the same bytes.
-fn lengths(text: &[u8], form: Form) -> (usize, usize) {
-    let other = vectors::reencode(text, form, Arrangement::Alignment)
-        .ok()
-        .unwrap();
-    let (log, formula) = (other.log.len(), other.formula.len());
-    let room = ReencodeRoom {
-        work: None,
-        log: Some(log),
-        formula: Some(formula),
-    };
-    let new = sirgholyn::reencode(text, form, Arrangement::Alignment, room).unwrap();
+/// The sizes of the least buffers: workspace, log and formula. Library and vectors have the same bytes.
+fn least_sizes(text: &[u8], form: Form) -> [usize; 3] {
+    let wish = Arrangement::Alignment;
+    let other = vectors::reencode(text, form, wish).ok().unwrap();
+    let work = read_formula(text, &INPUT_LIMITS)
+        .unwrap()
+        .workspace_needed();
+    let sizes = [work as usize, other.log.len(), other.formula.len()];
+    let [work, log, formula] = sizes.map(Some);
+    let room = ReencodeRoom { work, log, formula };
+    let new = sirgholyn::reencode(text, form, wish, room).unwrap();
     assert!(new.log == other.log && new.formula == other.formula);
-    let counts = [
-        new.tally.choices,
-        new.tally.highest,
-        new.tally.clauses,
-        new.tally.lines,
-    ];
+    let tally = new.tally;
+    let counts = [tally.choices, tally.highest, tally.clauses, tally.lines];
     let others = [
         other.choices,
         other.highest as usize,
@@ -230,7 +224,7 @@ fn lengths(text: &[u8], form: Form) -> (usize, usize) {
         other.lines,
     ];
     assert_eq!(counts, others.map(|count| count as u64));
-    (log, formula)
+    sizes
 }
 
 fn measure_row(folder: &Path, input: &Input, form: &'static str, counted: bool) -> Row {
@@ -239,9 +233,9 @@ fn measure_row(folder: &Path, input: &Input, form: &'static str, counted: bool) 
     let path = |name: &str| folder.join(name).to_string_lossy().into_owned();
     let file = path("formula.cnf");
     fs::write(&file, &input.text).unwrap();
-    let (log, formula) = lengths(&input.text, named(form));
+    let sizes = least_sizes(&input.text, named(form));
+    let [work, log, formula] = sizes.map(|size| size.to_string());
     let own = env::current_exe().unwrap().to_string_lossy().into_owned();
-    let (log_room, formula_room) = (log.to_string(), formula.to_string());
     let words = |who| match who {
         "cadical" => words(&[
             "cadical",
@@ -262,21 +256,13 @@ fn measure_row(folder: &Path, input: &Input, form: &'static str, counted: bool) 
             &format!("-dimacs={}", path("minisat.cnf")),
             &file,
         ]),
-        _ => words(&[
-            &own,
-            "--reencode",
-            who,
-            &file,
-            form,
-            &log_room,
-            &formula_room,
-        ]),
+        _ => words(&[&own, "--reencode", who, &file, form, &work, &log, &formula]),
     };
     Row {
         family: input.family,
         name: name.clone(),
         form,
-        log_megabytes: log as f64 / 1e6,
+        log_megabytes: sizes[1] as f64 / 1e6,
         by: WHO.map(|who| measure(folder, &words(who), counted)),
     }
 }

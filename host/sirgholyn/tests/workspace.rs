@@ -2,6 +2,8 @@
 //! times over, and those that need much of it at once.
 
 mod common;
+#[path = "../benches/vectors/mod.rs"]
+mod vectors;
 
 use common::formulas::{
     any_kind_joined, clash_chain, clashes_apart, clashing, unit_chain, wide_over_choices,
@@ -94,6 +96,36 @@ fn choices() {
         ] {
             expect_enough(&text_of(&formula), way);
         }
+    }
+}
+
+/// Long logs, compared with those of the implementation with vectors: the workspace is filled many times over.
+#[test]
+fn long_logs() {
+    for (text, form, megabytes) in [
+        (unit_chain(3_000), Form::Counter, 50..55),
+        (wide_over_choices(5, 500, 15_000), Form::Order, 120..130),
+    ] {
+        let way = (form, Arrangement::Alignment);
+        let formula = read_formula(&text, &INPUT_LIMITS).unwrap();
+        let new = vectors::reencode(&text, way.0, way.1).ok().unwrap();
+        assert!(megabytes.contains(&(new.log.len() / 1_000_000)));
+        let expected = model::Reencoded {
+            choices: new.choices,
+            highest: new.highest,
+            clauses: new.clauses,
+            lines: new.lines,
+            log: new.log,
+            formula: new.formula,
+        };
+        let room = Room {
+            work: work_for(&formula),
+            log: expected.log.len(),
+            formula: expected.formula.len(),
+        };
+        let work = &mut vec![-7; room.work];
+        let number = expect_reencoded(&Ok(expected), &text, way, work, room);
+        assert_eq!(number, 0);
     }
 }
 

@@ -254,7 +254,7 @@ def _form_number(form: str) -> int:
 
 def _reading_workspace(text: bytes, literals: int, clauses: int, variables: int) -> int:
     """At least as many entries as the rule for reading asks for, under these limits."""
-    return 20 * min(_words(text), literals) + 2 * clauses + 6 * variables + 8_192
+    return 40 * min(_words(text), literals) + 4 * clauses + 12 * variables + 8_192
 
 
 def _words(text: bytes) -> int:

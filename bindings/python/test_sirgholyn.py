@@ -177,7 +177,7 @@ class Refusals(Case):
 
     def test_caller(self):
         new = reencode(F)
-        work = 20 * 17 + 2 * 7 + 6 * 6 + 8_192
+        work = 40 * 17 + 4 * 7 + 12 * 6 + 8_192
         exact = dict(work=work, log_room=len(new.log), formula_room=len(new.formula))
         self.assertEqual(reencode(F, **exact), new)
         for number, name in ((11, "work"), (12, "log_room"), (13, "formula_room")):
@@ -192,7 +192,7 @@ class Refusals(Case):
             short = dict(exact, **{name: exact[name] - 1})
             self.assert_refused(number, walk_back, F, new.log, H_ANSWER, **short)
 
-        work = 20 * 19 + 2 * 8 + 6 * 10 + 8_192
+        work = 40 * 19 + 4 * 8 + 12 * 10 + 8_192
         self.assertEqual(read_back(G, work=work), read_back(G))
         self.assert_refused(11, read_back, G, work=work - 1)
 

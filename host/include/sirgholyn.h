@@ -118,7 +118,7 @@ enum sirgholyn_number {
 /* The 32-bit entries of workspace that are enough, with one fewer number 11; for reading back too.
  * By the L literals that are kept, and the C and V of the header. */
 #define SIRGHOLYN_WORK(L, C, V) \
-    ((size_t)20 * (L) + (size_t)2 * (C) + (size_t)6 * (V) + (size_t)8192)
+    ((size_t)40 * (L) + (size_t)4 * (C) + (size_t)12 * (V) + (size_t)8192)
 
 /* The counts of a reencoding by their index in the tally, and how many there are. */
 enum sirgholyn_reencode_count {

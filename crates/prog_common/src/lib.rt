@@ -109,10 +109,10 @@ fn print_reencoded(
     }
 }
 
-// Reencodes the formula on standard input, with the workspace of a formula at document 01's limits.
+// Reencodes the formula on standard input, with the workspace of a formula at a quarter of document 01's limits.
 pub fn reencode_input(is_log: bool) {
     let mut text = [0u8; 524288];
-    let mut work = [0i32; 1296192];
+    let mut work = [0i32; 652192];
     let mut log = [0u8; 524288];
     let mut formula = [0u8; 262144];
     print_reencoded(is_log, &mut text, &mut work, &mut log, &mut formula);

@@ -61,10 +61,10 @@ fn print_outcomes() {
     print_outcome(b"p cnf 1 1\n1 0 1 0\n");
 }
 
-// Prints the result for a formula with one unique literal clause of a size.
+// Prints the result for a formula with one unique literal clause of a size, up to 65: with that 17,296 entries are asked for.
 fn print_size(size: u8) {
     let mut text = [0u8; 2048];
-    let mut work = [0i32; 16384];
+    let mut work = [0i32; 17296];
     let mut log = [0u8; 8192];
     let mut formula = [0u8; 8192];
     let n = texts::put_unique(&mut text, size);

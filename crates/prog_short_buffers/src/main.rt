@@ -75,13 +75,13 @@ fn print_walk_back(formula: &[u8], log: &[u8], work: &mut [i32], out: &mut [u8])
     io::write_all(STDOUT_FILENO, b"\n");
 }
 
-// Session F: 8,582 entries, 371 bytes and 77 bytes; session H: 740 entries and 21 bytes.
+// Session F: 8,972 entries, 371 bytes and 77 bytes; session H: 740 entries and 21 bytes.
 fn main() {
     let text = b"p cnf 6 7\n1 2 3 4 5 0\n-1 -2 0\n-1 6 0\n-2 6 0\n-3 6 0\n-4 -6 0\n-5 -6 0\n";
-    let mut work = [0i32; 8582];
+    let mut work = [0i32; 8972];
     let mut log = [0u8; 371];
     let mut formula = [0u8; 77];
-    let mut short_work = [0i32; 8581];
+    let mut short_work = [0i32; 8971];
     let mut short_log = [0u8; 370];
     let mut short_formula = [0u8; 76];
     print_reencoding(text, &mut short_work, &mut log, &mut formula);

@@ -1,5 +1,5 @@
-//! A plain model of document 01 (choice clauses, counters and the way back) and of M-100, M-112 and M-130 in
-//! document 02.
+//! A plain model of document 01 (choice clauses, counters and the way back) and of M-100, M-112, M-130 and
+//! M-152 in document 02.
 //!
 //! Three calls: [`reencode`], [`read_back`] and [`walk_back`]. Each gives its
 //! result or the number of its refusal.

@@ -54,9 +54,9 @@ impl Formula {
 
     /// The 32-bit entries that reencoding and reading back ask for.
     pub fn workspace_needed(&self) -> u64 {
-        20 * self.literal_count()
-            + 2 * self.header_clauses() as u64
-            + 6 * self.variables as u64
+        40 * self.literal_count()
+            + 4 * self.header_clauses() as u64
+            + 12 * self.variables as u64
             + 8_192
     }
 }

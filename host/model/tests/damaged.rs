@@ -35,7 +35,7 @@ fn damaged_formulas() {
             text = damage(&mut random, &text);
         }
         let (form, arrangement) = one_way(&mut random);
-        let workspace = 8_192 + random.below(2_000) as u64;
+        let workspace = 8_192 + random.below(4_000) as u64;
         let (log_room, formula_room) = (random.below(1_000), random.below(400));
         match reencode(&text, form, arrangement, workspace, log_room, formula_room) {
             Ok(result) => {

@@ -38,8 +38,8 @@ fn workspace_of_a_free_choice_of_64() {
         };
         let whole = encode(1 << 40).unwrap();
         assert_eq!((whole.choices, whole.highest), (1, 127));
-        assert_eq!(encode(9_858), Ok(whole));
-        assert_eq!(encode(9_857), Err(11));
+        assert_eq!(encode(11_524), Ok(whole));
+        assert_eq!(encode(11_523), Err(11));
     }
 }
 
@@ -162,7 +162,7 @@ fn twenty_thousand_clauses_left_out() {
         let (form, arrangement) = (Form::Counter, Arrangement::AsListed);
         reencode(text.as_bytes(), form, arrangement, workspace, 0, 100).map(|result| result.formula)
     };
-    let needed = 2 * 20_000 + 6 + 8_192;
+    let needed = 4 * 20_000 + 12 + 8_192;
     assert_eq!(encode("", needed), Ok(b"p cnf 1 0\n".to_vec()));
     assert_eq!(encode("", needed - 1), Err(11));
     assert_eq!(encode("1 -1 0\n", needed), Err(8));

@@ -439,7 +439,7 @@ fn copies_of_pairs_are_all_deleted() {
 
 #[test]
 fn short_workspace_and_buffers_of_reencoding() {
-    let needed = 20 * 17 + 2 * 7 + 6 * 6 + 8_192;
+    let needed = 40 * 17 + 4 * 7 + 12 * 6 + 8_192;
     for form in [Form::Counter, Form::Order] {
         let whole = encode(F, form);
         let (log, formula) = (whole.log.len(), whole.formula.len());
@@ -459,7 +459,7 @@ fn short_workspace_and_buffers_of_reencoding() {
         assert_eq!(call(needed, log, formula - 1), Err(13));
     }
     let g = encode(F, Form::Order);
-    let needed = 20 * 19 + 2 * 8 + 6 * 10 + 8_192;
+    let needed = 40 * 19 + 4 * 8 + 12 * 10 + 8_192;
     assert!(read_back(&g.formula, needed).is_ok());
     assert_eq!(read_back(&g.formula, needed - 1), Err(11));
 }
@@ -610,7 +610,7 @@ fn log_lines_keep_their_strictness() {
 #[test]
 fn workspace_of_session_e_joined() {
     let text = JOINED_E.as_bytes();
-    let needed = 20 * 4 + 2 * 3 + 6 * 3 + 8_192;
+    let needed = 40 * 4 + 4 * 3 + 12 * 3 + 8_192;
     let encode = |workspace| {
         let (form, arrangement) = (Form::Counter, Arrangement::AsListed);
         reencode(text, form, arrangement, workspace, PLENTY, PLENTY)

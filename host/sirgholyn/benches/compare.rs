@@ -1,18 +1,21 @@
-//! The library beside the model, cadical's and minisat's preprocessing, in one run: instructions, seconds,
-//! peak memory, and growth from size to size. Prints the table of docs/BENCHMARKS.md.
+//! The library beside an ordinary implementation with vectors and cadical's and minisat's preprocessing, in one run:
+//! instructions, seconds, peak memory, and growth from size to size. Prints the tables of docs/BENCHMARKS.md.
 //!
-//! `cargo bench --offline --bench compare [-- --short]`. Instructions are counted by valgrind's callgrind
+//! `cargo bench --offline --bench compare [-- --short | -- --long]`. Instructions are counted by valgrind's callgrind
 //! where it is installed, for runs of at most a second; they are those of the whole process.
 
 #[path = "../tests/common/formulas.rs"]
 #[allow(dead_code)]
 mod formulas;
 mod measure;
+mod vectors;
 
 use measure::{measure_once, spent, Spent};
 use model::generator::{largest_with, text_of, Random};
+use model::reading::{read_formula, INPUT_LIMITS};
 use model::valleys::Valley;
-use sirgholyn::{calls, Arrangement, Form};
+use sirgholyn::{calls, Arrangement, Form, ReencodeRoom};
+use std::hint::black_box;
 use std::path::Path;
 use std::process::{Command, Stdio};
 use std::{env, fs};
@@ -28,51 +31,35 @@ fn main() {
         .collect();
     let words: Vec<&str> = words.iter().map(String::as_str).collect();
     match words.as_slice() {
-        ["--reencode", who, file, form, log, formula] => {
-            reencode_once(who, file, form, log, formula)
-        }
+        ["--reencode", who, file, form, sizes @ ..] => reencode_once(who, file, form, sizes),
         ["--measure", printed, command @ ..] => measure_once(printed, command),
-        ["--short"] => compare(&[75, 150], false),
-        [] => compare(&[75, 150, 300, 600], true),
-        _ => eprintln!("wanted: nothing, or --short"),
+        ["--short"] => compare(&valleys(&[75, 150])),
+        ["--long"] => compare_long(),
+        [] => compare(&[valleys(&[75, 150, 300, 600]), others()].concat()),
+        _ => eprintln!("wanted: nothing, --short or --long"),
+    }
+}
+
+fn named(form: &str) -> Form {
+    match form {
+        "order" => Form::Order,
+        _ => Form::Counter,
     }
 }
 
 // ---- one run, in a process of its own
 
-/// One reencoding of a file, with room for texts of the given lengths.
-fn reencode_once(who: &str, file: &str, form: &str, log: &str, formula: &str) {
+/// One reencoding of a file, the library's on buffers of these sizes.
+fn reencode_once(who: &str, file: &str, form: &str, sizes: &[&str]) {
     let text = fs::read(file).unwrap();
-    let (log, formula): (usize, usize) = (log.parse().unwrap(), formula.parse().unwrap());
-    let order = form == "order";
-    let work = 20 * 60_000 + 2 * 20_000 + 6 * 8_000 + 8_192;
-    if who == "library" {
-        let form = if order { Form::Order } else { Form::Counter };
-        let (mut work, mut log, mut formula) = (vec![0; work], vec![0; log], vec![0; formula]);
-        calls::reencode(
-            &text,
-            form,
-            Arrangement::Alignment,
-            &mut work,
-            &mut log,
-            &mut formula,
-        )
-        .unwrap();
+    let (form, wish) = (named(form), Arrangement::Alignment);
+    if who == "sirgholyn" {
+        let sizes: Vec<usize> = sizes.iter().map(|size| size.parse().unwrap()).collect();
+        let mut work = vec![0; sizes[0]];
+        let (mut log, mut formula) = (vec![0; sizes[1]], vec![0; sizes[2]]);
+        calls::reencode(&text, form, wish, &mut work, &mut log, &mut formula).unwrap();
     } else {
-        let form = if order {
-            model::Form::Order
-        } else {
-            model::Form::Counter
-        };
-        model::reencode(
-            &text,
-            form,
-            model::Arrangement::Alignment,
-            work as u64,
-            log,
-            formula,
-        )
-        .unwrap();
+        black_box(vectors::reencode(&text, form, wish).ok().unwrap());
     }
 }
 
@@ -84,15 +71,15 @@ struct Measured {
     peak_megabytes: f64,
 }
 
-/// The median of some runs, and the instructions of one.
-fn measure(folder: &Path, command: &[String]) -> Measured {
+/// The median of some runs, and, if they are wanted, the instructions of one.
+fn measure(folder: &Path, command: &[String], counted: bool) -> Measured {
     let mut runs: Vec<Spent> = (0..RUNS).map(|_| spent(command, "/dev/null")).collect();
     runs.sort_by(|one, other| one.seconds.total_cmp(&other.seconds));
     let Spent {
         seconds,
         peak_megabytes,
     } = runs.swap_remove(RUNS / 2);
-    let instructions = if seconds <= LONGEST_COUNTED {
+    let instructions = if counted && seconds <= LONGEST_COUNTED {
         count(folder, command)
     } else {
         None
@@ -123,172 +110,237 @@ fn count(folder: &Path, command: &[String]) -> Option<u64> {
     line.trim().parse().ok()
 }
 
+/// What is measured for each row, in the order of its columns.
+const WHO: [&str; 4] = ["sirgholyn", "vectors", "cadical", "minisat"];
+
 struct Row {
     family: &'static str,
     name: String,
     form: &'static str,
     log_megabytes: f64,
-    library: Measured,
-    model: Measured,
-    cadical: Measured,
-    minisat: Measured,
+    by: [Measured; WHO.len()],
 }
 
-fn compare(valleys: &[usize], with_largest: bool) {
+#[derive(Clone)]
+struct Input {
+    /// Formulas of one family are of growing size, if there are several.
+    family: &'static str,
+    name: String,
+    text: Vec<u8>,
+}
+
+fn input(family: &'static str, name: String, text: Vec<u8>) -> Input {
+    Input { family, name, text }
+}
+
+fn valleys(sizes: &[usize]) -> Vec<Input> {
+    let valley = |&traps: &usize| {
+        let valley = Valley::random(&mut Random::new(1), traps, 12, traps * 13 / 5);
+        let text = text_of(&valley.formula());
+        input("valleys", format!("valley, {traps} traps"), text)
+    };
+    sizes.iter().map(valley).collect()
+}
+
+fn others() -> Vec<Input> {
+    let mut valley = Valley::random(&mut Random::new(1), 300, 12, 780);
+    valley.free = (0..300).map(|trap| (trap, 11)).collect();
+    let name = "valley, 300 traps, a free lure each".into();
+    let mut inputs = vec![
+        input("free lures", name, text_of(&valley.formula())),
+        input("k = 5", "largest, k = 5".into(), largest_with(5)),
+        input("k = 64", "largest, k = 64".into(), largest_with(64)),
+    ];
+    for clashes in [650, 1_300, 2_600] {
+        let name = format!("{clashes} clashes in a chain");
+        let text = formulas::clash_chain(clashes);
+        inputs.push(input("clashes in a chain", name, text));
+    }
+    for clashes in [300, 600, 1_200] {
+        let name = format!("{clashes} clashes apart");
+        let text = formulas::clashes_apart(clashes);
+        inputs.push(input("clashes apart", name, text));
+    }
+    inputs
+}
+
+fn compare(inputs: &[Input]) {
+    let mut rows = Vec::new();
+    in_folder(|folder| {
+        for form in ["counter", "order"] {
+            for input in inputs {
+                rows.push(measure_row(folder, input, form, true));
+            }
+        }
+    });
+    print_instructions(&rows);
+    println!();
+    print_seconds(&rows);
+}
+
+/// The longest logs: a clause of 8,000 literals that loses one with each clash, and 1,600 choices each of which replaces
+/// all of the wide clauses. They take some gigabytes, and seconds only are told.
+fn compare_long() {
+    let chain = formulas::unit_chain(8_000);
+    let wide = formulas::wide_over_choices(5, 1_600, 52_000);
+    let mut rows = Vec::new();
+    in_folder(|folder| {
+        for (name, text, form) in [
+            ("unit chain of 8,000", chain, "counter"),
+            ("1,600 choices of 5 under wide clauses", wide, "order"),
+        ] {
+            let input = input("long", name.into(), text);
+            rows.push(measure_row(folder, &input, form, false));
+        }
+    });
+    print_seconds(&rows);
+}
+
+fn in_folder(work: impl FnOnce(&Path)) {
     let folder = env::temp_dir().join(format!("sirgholyn-bench-{}", std::process::id()));
     fs::create_dir(&folder).unwrap();
-    let mut texts: Vec<(&'static str, String, Vec<u8>)> = Vec::new();
-    for &traps in valleys {
-        let valley = Valley::random(&mut Random::new(1), traps, 12, traps * 13 / 5);
-        texts.push((
-            "valley",
-            format!("valley, {traps} traps"),
-            text_of(&valley.formula()),
-        ));
-    }
-    if with_largest {
-        let mut valley = Valley::random(&mut Random::new(1), 300, 12, 780);
-        valley.free = (0..300).map(|trap| (trap, 11)).collect();
-        texts.push((
-            "valley with free lures",
-            "valley, 300 traps, a free lure each".into(),
-            text_of(&valley.formula()),
-        ));
-        texts.push(("largest", "largest, k = 5".into(), largest_with(5)));
-        texts.push(("largest", "largest, k = 64".into(), largest_with(64)));
-        for clashes in [650, 1_300, 2_600] {
-            texts.push((
-                "clashes",
-                format!("{clashes} clashes in a chain"),
-                formulas::clash_chain(clashes),
-            ));
-        }
-        for clashes in [300, 600, 1_200] {
-            texts.push((
-                "clashes apart",
-                format!("{clashes} clashes apart"),
-                formulas::clashes_apart(clashes),
-            ));
-        }
-    }
-    let mut rows = Vec::new();
-    for form in ["counter", "order"] {
-        for (family, name, text) in &texts {
-            eprintln!("{name}, {form} form");
-            rows.push(measure_row(&folder, family, name, text, form));
-        }
-    }
+    work(&folder);
     fs::remove_dir_all(&folder).unwrap();
-    print_rows(&rows);
 }
 
-fn measure_row(
-    folder: &Path,
-    family: &'static str,
-    name: &str,
-    text: &[u8],
-    form: &'static str,
-) -> Row {
+/// The sizes of the least buffers: workspace, log and formula. Library and vectors have the same bytes.
+fn least_sizes(text: &[u8], form: Form) -> [usize; 3] {
+    let wish = Arrangement::Alignment;
+    let other = vectors::reencode(text, form, wish).ok().unwrap();
+    let work = read_formula(text, &INPUT_LIMITS)
+        .unwrap()
+        .workspace_needed();
+    let sizes = [work as usize, other.log.len(), other.formula.len()];
+    let [work, log, formula] = sizes.map(Some);
+    let room = ReencodeRoom { work, log, formula };
+    let new = sirgholyn::reencode(text, form, wish, room).unwrap();
+    assert!(new.log == other.log && new.formula == other.formula);
+    let tally = new.tally;
+    let counts = [tally.choices, tally.highest, tally.clauses, tally.lines];
+    let others = [
+        other.choices,
+        other.highest as usize,
+        other.clauses,
+        other.lines,
+    ];
+    assert_eq!(counts, others.map(|count| count as u64));
+    sizes
+}
+
+fn measure_row(folder: &Path, input: &Input, form: &'static str, counted: bool) -> Row {
+    let name = &input.name;
+    eprintln!("{name}, {form} form");
     let path = |name: &str| folder.join(name).to_string_lossy().into_owned();
     let file = path("formula.cnf");
-    fs::write(&file, text).unwrap();
-    let named = if form == "order" {
-        Form::Order
-    } else {
-        Form::Counter
-    };
-    let new = sirgholyn::reencode(text, named, Arrangement::Alignment, Default::default()).unwrap();
+    fs::write(&file, &input.text).unwrap();
+    let sizes = least_sizes(&input.text, named(form));
+    let [work, log, formula] = sizes.map(|size| size.to_string());
     let own = env::current_exe().unwrap().to_string_lossy().into_owned();
-    let by = |who: &str| {
-        let (log, formula) = (new.log.len().to_string(), new.formula.len().to_string());
-        let words = [&own, "--reencode", who, &file, form, &log, &formula];
-        measure(folder, &words.map(str::to_string))
-    };
-    let words = |words: &[&str]| {
-        words
-            .iter()
-            .map(|word| word.to_string())
-            .collect::<Vec<String>>()
+    let words = |who| match who {
+        "cadical" => words(&[
+            "cadical",
+            "-q",
+            "-f",
+            "-c",
+            "0",
+            "-o",
+            &path("new.cnf"),
+            "-e",
+            &path("stack"),
+            &file,
+        ]),
+        "minisat" => words(&[
+            "minisat",
+            "-verb=0",
+            "-pre",
+            &format!("-dimacs={}", path("minisat.cnf")),
+            &file,
+        ]),
+        _ => words(&[&own, "--reencode", who, &file, form, &work, &log, &formula]),
     };
     Row {
-        family,
-        name: name.to_string(),
+        family: input.family,
+        name: name.clone(),
         form,
-        log_megabytes: new.log.len() as f64 / 1e6,
-        library: by("library"),
-        model: by("model"),
-        cadical: measure(
-            folder,
-            &words(&[
-                "cadical",
-                "-q",
-                "-f",
-                "-c",
-                "0",
-                "-o",
-                &path("new.cnf"),
-                "-e",
-                &path("stack"),
-                &file,
-            ]),
-        ),
-        minisat: measure(
-            folder,
-            &words(&[
-                "minisat",
-                "-verb=0",
-                "-pre",
-                &format!("-dimacs={}", path("minisat.cnf")),
-                &file,
-            ]),
-        ),
+        log_megabytes: sizes[1] as f64 / 1e6,
+        by: WHO.map(|who| measure(folder, &words(who), counted)),
     }
 }
 
-// ---- the table
+fn words(words: &[&str]) -> Vec<String> {
+    words.iter().map(|word| word.to_string()).collect()
+}
 
-fn print_rows(rows: &[Row]) {
-    println!("Instructions of the whole process (callgrind), median processor seconds of {RUNS} runs, peak memory. A ratio is the");
-    println!("library's instructions (where one is not counted: seconds) over the other's. Growth is to the row before.");
+// ---- the tables
+
+fn print_head(first: &[&str]) {
+    println!("| {} |", first.join(" | "));
+    println!("|{}", "---|".repeat(first.len()));
+}
+
+fn print_instructions(rows: &[Row]) {
+    println!("Instructions of the whole process (callgrind). Growth is to the row before. A ratio is the library's");
+    println!("instructions (where one is not counted: seconds) over the other's.");
     println!();
-    println!("| formula | form | log MB | instructions | s | MB | growth | / model | / cadical | / minisat |");
-    println!("|---|---|---|---|---|---|---|---|---|---|");
+    print_head(&[
+        "formula",
+        "form",
+        "log MB",
+        "sirgholyn",
+        "growth",
+        "vectors",
+        "growth",
+        "cadical",
+        "minisat",
+        "/ vectors",
+        "/ cadical",
+        "/ minisat",
+    ]);
     let mut before: Option<&Row> = None;
     for row in rows {
-        let same_family =
+        let smaller =
             before.filter(|before| before.family == row.family && before.form == row.form);
-        let growth = same_family
-            .filter(|_| row.family != "largest")
-            .map(|before| ratio(&row.library, &before.library));
+        let growth = |who: usize| {
+            let growth = smaller.map(|smaller| ratio(&row.by[who], &smaller.by[who]));
+            growth.unwrap_or_default()
+        };
+        let [library, vectors, cadical, minisat] = &row.by;
         println!(
-            "| {} | {} | {:.2} | {} | {:.3} | {:.0} | {} | {} | {} | {} |",
+            "| {} | {} | {:.2} | {} | {} | {} | {} | {} | {} | {} | {} | {} |",
             row.name,
             row.form,
             row.log_megabytes,
-            row.library
-                .instructions
-                .map_or("not counted".into(), in_millions),
-            row.library.seconds,
-            row.library.peak_megabytes,
-            growth.unwrap_or_default(),
-            ratio(&row.library, &row.model),
-            ratio(&row.library, &row.cadical),
-            ratio(&row.library, &row.minisat),
+            in_millions(library),
+            growth(0),
+            in_millions(vectors),
+            growth(1),
+            in_millions(cadical),
+            in_millions(minisat),
+            ratio(library, vectors),
+            ratio(library, cadical),
+            ratio(library, minisat),
         );
         before = Some(row);
     }
+}
+
+fn print_seconds(rows: &[Row]) {
+    println!("Median processor seconds of {RUNS} runs, and peak memory in MB.");
     println!();
-    println!("| formula | form | model s, MB | cadical s, MB | minisat s, MB |");
-    println!("|---|---|---|---|---|");
+    print_head(&[&["formula", "form", "log MB"][..], &WHO].concat());
     for row in rows {
-        let shown = |other: &Measured| format!("{:.3}, {:.0}", other.seconds, other.peak_megabytes);
-        let others = [shown(&row.model), shown(&row.cadical), shown(&row.minisat)];
-        println!("| {} | {} | {} |", row.name, row.form, others.join(" | "));
+        let shown = |by: &Measured| format!("{:.3}, {:.0}", by.seconds, by.peak_megabytes);
+        let (name, form, log) = (&row.name, row.form, row.log_megabytes);
+        let by = row.by.each_ref().map(shown).join(" | ");
+        println!("| {name} | {form} | {log:.2} | {by} |");
     }
 }
 
-fn in_millions(instructions: u64) -> String {
-    format!("{:.1} M", instructions as f64 / 1e6)
+fn in_millions(measured: &Measured) -> String {
+    match measured.instructions {
+        Some(instructions) => format!("{:.1} M", instructions as f64 / 1e6),
+        None => "not counted".into(),
+    }
 }
 
 fn ratio(one: &Measured, other: &Measured) -> String {

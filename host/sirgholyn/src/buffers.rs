@@ -188,7 +188,7 @@ pub fn read_back(text: &[u8], store: Option<usize>) -> Result<ReadBack, Error> {
 /// At least as many entries as the rule for reading asks for.
 fn reading_workspace(text: &[u8], limits: &Limits) -> usize {
     let literals = words(text).min(limits.literals);
-    20 * literals + 2 * limits.clauses + 6 * limits.variables + 8_192
+    40 * literals + 4 * limits.clauses + 12 * limits.variables + 8_192
 }
 
 /// The words of a text: at least as many as its numbers.

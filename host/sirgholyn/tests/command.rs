@@ -253,7 +253,7 @@ fn refusals_are_the_exit_status() {
     expect_failure(&run_with(&["solve", "-"], b"p cnf 1 1\n2 0\n"), 4, writer);
     expect_failure(&run_with(&["read-back", "-"], b"p cnf 1 1\n1"), 7, writer);
     let caller = "the caller can mend it";
-    expect_failure(&run(&["reencode", &input, "--work", "8581"]), 11, caller);
+    expect_failure(&run(&["reencode", &input, "--work", "8971"]), 11, caller);
     expect_failure(&run(&["reencode", &input, "--log-room", "10"]), 12, caller);
     expect_failure(
         &run(&["reencode", &input, "--formula-room", "0"]),
@@ -309,7 +309,7 @@ fn refusals_are_the_exit_status() {
         44,
         "refused 44: ",
     );
-    assert_eq!(run(&["reencode", &input, "--work", "8582"]).status, 0);
+    assert_eq!(run(&["reencode", &input, "--work", "8972"]).status, 0);
 }
 
 /// A refused text: the line, the byte and the word where the fault was found.

@@ -28,7 +28,7 @@ const TEXTS: [&[u8]; 10] = [
     COPIES.as_bytes(),
 ];
 const ROOM: Room = Room {
-    work: 60_000,
+    work: 112_000,
     log: 4_000,
     formula: 4_000,
 };

@@ -29,7 +29,7 @@ fn reencode(text: &str) -> u32 {
 }
 
 fn read_back(text: &str) -> u32 {
-    compare_read_back(text.as_bytes(), 22_000_000)
+    compare_read_back(text.as_bytes(), 43_000_000)
 }
 
 /// Walks back over no line, from an answer that makes 1 true.
@@ -147,7 +147,7 @@ fn workspace_by_what_is_kept() {
     let exact = |text: &str, literals: usize| {
         let header = text.lines().next().unwrap().split(' ');
         let numbers: Vec<usize> = header.skip(2).map(|word| word.parse().unwrap()).collect();
-        let work = 20 * literals + 2 * numbers[1] + 6 * numbers[0] + 8_192;
+        let work = 40 * literals + 4 * numbers[1] + 12 * numbers[0] + 8_192;
         let text = text.as_bytes();
         for (entries, number) in [(work, 0), (work - 1, 11)] {
             if numbers[0] <= 8_000 {
@@ -337,7 +337,7 @@ fn tally_of(formula: &Formula, form: Form, arrangement: Arrangement) -> Tally {
     let room = Room::exact(formula, &run_model(formula, form, arrangement));
     let literals = formula.clauses.iter().map(Vec::len).sum::<usize>();
     let (clauses, variables) = (formula.clauses.len(), formula.variables as usize);
-    let by_the_rule = 20 * literals + 2 * clauses + 6 * variables + 8_192;
+    let by_the_rule = 40 * literals + 4 * clauses + 12 * variables + 8_192;
     assert_eq!(room.work, by_the_rule);
     assert_eq!(compare_reencode(&text, form, arrangement, room), 0);
     let exact = ReencodeRoom {
@@ -438,7 +438,7 @@ fn sizes_joined_by_a_clash() {
 #[test]
 fn a_choice_of_64() {
     // L 64, 4,096 and 8,128; C 1, 2,017 and 4,033
-    for (copies, work, lines) in [(0, 9_858, 253), (1, 94_530, 2_269), (2, 179_202, 4_285)] {
+    for (copies, work, lines) in [(0, 11_524, 253), (1, 180_868, 2_269), (2, 350_212, 4_285)] {
         let formula = with_pairs(64, 1, copies);
         let text = text_of(&formula);
         for (form, arrangement) in WAYS {

@@ -10,7 +10,7 @@ slice-aggregate-print-reencoded : tie.Need-slice-aggregate-print-reencoded
 slice-aggregate-print-reencoded c = sym (length-replicate {A = ℕ} 524288 0)
 
 slice-aggregate-print-reencoded-2 : tie.Need-slice-aggregate-print-reencoded-2
-slice-aggregate-print-reencoded-2 c = sym (length-replicate {A = ℤ} 1296192 (pos 0))
+slice-aggregate-print-reencoded-2 c = sym (length-replicate {A = ℤ} 652192 (pos 0))
 
 slice-aggregate-print-reencoded-3 : tie.Need-slice-aggregate-print-reencoded-3
 slice-aggregate-print-reencoded-3 c = sym (length-replicate {A = ℕ} 524288 0)

@@ -167,10 +167,15 @@ pub fn pairs() -> Vec<Row> {
     calls.into_iter().map(Row::of).collect()
 }
 
-/// Calls with just enough workspace, and with one entry less.
+/// Calls with just enough workspace, and with one entry less, by formulas with many literals, clauses or variables.
 pub fn workspaces() -> Vec<[Row; 2]> {
     let mut pairs = Vec::new();
-    for text in [JOINED_E, "p cnf 2 2\n1 -1 0\n2 2 2 0\n"] {
+    for text in [
+        JOINED_E,
+        "p cnf 2 2\n1 -1 0\n2 2 2 0\n",
+        "p cnf 2 5\n1 2 0\n2 0\n2 0\n2 -1 0\n2 1 0\n",
+        "p cnf 9 1\n1 -9 0\n",
+    ] {
         let (text, log) = (text.as_bytes(), "1 2 0\n");
         let formula = read_formula(text, &INPUT_LIMITS).expect("in order");
         let lines = read_kept_lines(log.as_bytes(), 1).expect("in order");

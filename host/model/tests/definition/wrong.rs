@@ -62,8 +62,8 @@ fn change_byte(text: &mut [u8]) {
     text[place] = b'1';
 }
 
-/// Rows in which a repeated literal or a clause left out counts: the outcomes with just enough workspace and
-/// with one entry less, exchanged.
+/// Rows by another workspace rule, or in which a repeated literal or a clause left out counts: the outcomes with just
+/// enough workspace and with one entry less, exchanged.
 pub fn miscounted() -> Vec<Row> {
     let mut rows = Vec::new();
     for [enough, short] in workspaces() {

@@ -8,6 +8,7 @@ use model::generator::{
 };
 use model::reading::Formula;
 use model::texts::formula_text;
+use model::valleys::Valley;
 use std::collections::BTreeSet;
 
 /// A text that is read as session F: literals are repeated, and two clauses put in that are left out.
@@ -270,6 +271,49 @@ pub fn clash_chain(clashes: i32) -> Vec<u8> {
         clauses.push(vec![-literal]);
     }
     formula_text(clashes + 2 * own, &clauses)
+}
+
+/// A clause of all variables negated, and each variable as a clause: the first loses a literal with each clash, until it
+/// is empty.
+pub fn unit_chain(variables: i32) -> Vec<u8> {
+    let mut clauses: Vec<Vec<i32>> = vec![(1..=variables).map(|variable| -variable).collect()];
+    clauses.extend((1..=variables).map(|variable| vec![variable]));
+    formula_text(variables, &clauses)
+}
+
+/// So many choices of the size, and so many literals more in wide clauses. These have, of each choice, negated literals of
+/// which no two are neighbours, none the first or the last: l2, l4 and so on, or l3, l5 and so on, by turns. So each choice
+/// replaces all of them, and they get nearly twice as long.
+pub fn wide_over_choices(size: usize, count: usize, literals: usize) -> Vec<u8> {
+    let mut formula = clauses_apart(size, count);
+    let choices = formula.clauses.clone();
+    let mut left = literals;
+    for turn in 0.. {
+        let inner = |(place, choice): (usize, &Vec<i32>)| {
+            let first = 1 + (turn + place) % 2;
+            let inner = choice[first..choice.len() - 1].iter().step_by(2);
+            inner.map(|literal| -literal).collect::<Vec<i32>>()
+        };
+        let mut wide: Vec<i32> = choices.iter().enumerate().flat_map(inner).collect();
+        wide.truncate(left);
+        left -= wide.len();
+        if wide.is_empty() {
+            break;
+        }
+        formula.clauses.push(wide);
+    }
+    formula_text(formula.variables, &formula.clauses)
+}
+
+/// The valley shuffled, and so many wide clauses: each forbids that every trap holds one lure of its own.
+pub fn wide_over_valley(random: &mut Random, valley: &Valley, wide: usize) -> Vec<u8> {
+    let mut formula = valley.shuffled_formula(random);
+    for _ in 0..wide {
+        let lure = |trap: usize| trap * valley.lures + random.below(valley.lures) + 1;
+        let clause = (0..valley.traps).map(lure).map(|held| -(held as i32));
+        formula.clauses.push(clause.collect());
+    }
+    formula_text(formula.variables, &formula.clauses)
 }
 
 /// So many clashes all over 8,000 variables, of two clauses of three literals each.

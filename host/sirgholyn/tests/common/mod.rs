@@ -113,11 +113,22 @@ pub fn compare_reencode(text: &[u8], form: Form, arrangement: Arrangement, room:
         room.formula,
     );
     let mut work = vec![-7; room.work];
+    expect_reencoded(&expected, text, (form, arrangement), &mut work, room)
+}
+
+/// Reencodes by library on the workspace, and compares with what the model gives; the answer is the number.
+pub fn expect_reencoded(
+    expected: &Result<model::Reencoded, u8>,
+    text: &[u8],
+    (form, arrangement): (Form, Arrangement),
+    work: &mut [i32],
+    room: Room,
+) -> u32 {
     let mut log = vec![0xA5; room.log];
     let mut formula = vec![0x5A; room.formula];
-    let found = calls::reencode(text, form, arrangement, &mut work, &mut log, &mut formula);
+    let found = calls::reencode(text, form, arrangement, work, &mut log, &mut formula);
     let seen = || format!("{} {form:?} {arrangement:?} {room:?}", shown(text));
-    match (&expected, found) {
+    match (expected, found) {
         (Ok(expected), Ok(tally)) => {
             let expected_tally = calls::Tally {
                 choices: expected.choices as u64,

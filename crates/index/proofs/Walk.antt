@@ -18,7 +18,7 @@ use Rattle.theory_base.proofs.Members.{same-eq, same-refl as literal-same}
 use Rattle.literals.specs.Literal.{negative, flip, header-literals}
 use Rattle.literals.proofs.Laws.{literals-flip}
 use Rattle.store.specs.Store.{Formed-from, Formed, stored-from, stored, header-at, size-at, clause-at, past, marked, Place}
-use Rattle.store.proofs.Laws.{by-entries, place-end, place-formed, clause-length, prefix-next, past-within, marked-place}
+use Rattle.store.proofs.Laws.{by-entries, place-start, place-end, place-formed, place-next, clause-length, prefix-next, past-within, marked-place}
 use Rattle.index.specs.Index.{entered-from, entered, literals-from, literals-in, Same-entries}
 use Rattle.index.specs.Reading.{Entry-with}
 

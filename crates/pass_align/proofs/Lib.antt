@@ -1,8 +1,10 @@
+pub mod Forest
 pub mod Renaming
 pub mod Numbers
 pub mod Sorting
 pub mod Owners
 pub mod Groups
+pub mod Joining
 pub mod Repeated
 pub mod SortingAll
 pub mod Alignment

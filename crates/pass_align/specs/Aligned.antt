@@ -1,17 +1,18 @@
 -- What the tables say, and what alignment needs and gives.
 use mathlib.Core.Path.{_≡_}
-use mathlib.Core.List.{List, map}
+use mathlib.Core.List.{List, map, List·Memᴰ}
 use Prim.Native.Nat.{ℕ, _≤_, _<_, _^_}
+use lib.Dec.{T}
 use lib.IntN.{ℤ, natAbs}
 use lib.ListN.{length, getD}
 use Rattle.definition.specs.Literals.{Clause, Formula}
-use Rattle.definition.specs.Alignment.{Chain}
+use Rattle.definition.specs.Alignment.{linked, Chain}
 use Rattle.theory_base.specs.Clauses.{Proper-all, Fits, Parted}
 use Rattle.store.specs.Store.{Formed, stored}
 use Rattle.tables.specs.Sizes.{input-reach, input-size}
 use Rattle.tables.specs.Entries.{entry-of}
 use Rattle.theory_alignment.specs.Groups.{apart}
-use Rattle.pass_align.specs.Tables.{linked-by}
+use Rattle.pass_align.specs.Tables.{linked-by, Forest, root-of, group-of}
 
 -- ---- what alignment reads
 
@@ -37,6 +38,22 @@ Owned cs t = (a b : ℤ) → natAbs a ≤ input-reach → natAbs b ≤ input-rea
 -- each literal is a group of its own
 abbrev pub Separate : List ℕ → Type 0
 Separate groups = (length groups ≡ input-size) × ((k : ℕ) → k < length groups → getD groups k 0 ≡ k)
+
+-- literals of one group are joined by a chain
+pub record Grouping (F : Formula) (cs : List Clause) (groups : List ℕ) : Type 0 where
+  pub size : length groups ≡ input-size
+  pub forest : Forest groups
+  pub chained : (a b : ℤ) → natAbs a ≤ input-reach → natAbs b ≤ input-reach → group-of groups a ≡ group-of groups b → Chain F cs a b
+
+-- all that is linked to a is in its group
+abbrev pub Met : Formula → List Clause → List ℕ → ℤ → Type 0
+Met F cs groups a = (b : ℤ) → T (linked F cs a b) → group-of groups a ≡ group-of groups b
+
+-- all links of the literals ls are joined, and nothing but links: what was in one group is, and literals of one group are joined by a chain still
+pub record Joined (s : List ℤ) (owners : List ℕ) (ls : Clause) (old new : List ℕ) : Type 0 where
+  pub forest : Forest new
+  pub coarser : (j k : ℕ) → root-of old j ≡ root-of old k → root-of new j ≡ root-of new k
+  pub grouping : (cs : List Clause) → Owned cs owners → Grouping (stored s) cs old → Grouping (stored s) cs new × ((a : ℤ) → List·Memᴰ a ls → Met (stored s) cs new a)
 
 -- two literals have one entry exactly if a chain joins them; entries are places of the table
 pub record Grouped (F : Formula) (cs : List Clause) (groups : List ℕ) : Type 0 where

@@ -7,3 +7,4 @@ pub mod Premise
 pub mod Refusals
 pub mod Aligning
 pub mod Marks
+pub mod ByLiteral

@@ -1,36 +1,36 @@
 -- Adding the resolvent of a clash: the parts copied from the workspace are the two clauses without the variable. Assumes nothing.
-use mathlib.Core.Path.{_≡_, sym, ap, ap₂, _∙_}
+use mathlib.Core.Path.{_≡_, sym, ap, ap₂, subst, _∙_}
 use mathlib.Core.Bool.{Bool, true, false, not, cond}
-use mathlib.Core.List.{List, [], _∷_, _++_, List·Memᴰ}
-use Prim.Native.Nat.{ℕ, _+_, _-_, _≤_, _<_, _^_}
+use mathlib.Core.List.{List, [], _∷_, _++_, append-assoc, List·Memᴰ}
+use Prim.Native.Nat.{ℕ, suc, _+_, _-_, _*_, _≤_, _<_}
 use native.Mathlib.Omega.{arith}
 use lib.IntN.{ℤ, pos, negℤ}
 use lib.ListN.{length, take, drop, length-append}
-use lib.Seq.{length-take-le, sets, length-sets}
+use lib.Seq.{length-take-le, drop-at, getD-set-same, sets, sets-eq, length-sets}
 use Rattle.definition.specs.Lists.{only-if, those}
-use Rattle.definition.specs.Literals.{Clause, same, without, opposed}
+use Rattle.definition.specs.Literals.{Clause, Formula, same, without, opposed}
 use Rattle.definition.specs.Text.{Bytes}
-use Rattle.definition.specs.Standing.{addition}
 use Rattle.definition.specs.Events.{Clash}
 use Rattle.definition.specs.Clearing.{resolvent}
 use Rattle.theory_base.proofs.Members.{proper-unopposed}
-use Rattle.theory_base.proofs.Tests.{by-test}
-use Rattle.theory_base.proofs.Clauses.{numbers-none, numbers-first}
-use Rattle.definition.specs.Calls.{numbers-of}
+use Rattle.theory_base.proofs.Clauses.{numbers-none, numbers-first, literals-none, literals-first}
+use Rattle.theory_base.proofs.Slices.{sets-first, sets-before}
 use Rattle.theory_base.proofs.Fitting.{proper-fits, proper-length}
 use Rattle.theory_soundness.proofs.Times.{unique-at}
 use Rattle.theory_clearing.proofs.Clash.{Is-clash}
 use Rattle.theory_clearing.proofs.Clashes.{clash-at-some}
-use Rattle.literals.specs.Literal.{header-literals}
+use Rattle.literals.specs.Literal.{largest, header-of, header-literals}
 use Rattle.literals.proofs.Laws.{signed-small}
-use Rattle.store.specs.Store.{stored, entry, clause-at, past}
-use Rattle.store.proofs.Laws.{formed-next, prefix-header, prefix-clause, part-there}
+use Rattle.store.specs.Store.{stored, entry, header-at, clause-at, past}
+use Rattle.store.proofs.Laws.{formed-next, prefix-header, prefix-clause, part-there, entry-clause}
 use Rattle.progress.specs.declared.Progress.{Progress}
-use Rattle.progress.specs.Progress.{Written}
-use Rattle.progress.specs.Growth.{Grown}
-use Rattle.progress.proofs.Growing.{grown-none, added-grown}
+use Rattle.progress.specs.Growth.{entries, Grown, Entry-there}
+use Rattle.progress.proofs.Growing.{grown-none}
 use Rattle.tables.specs.Sizes.{input-reach}
-use Rattle.pass_clashes.specs.Clashes.{Stands-at, clash-there}
+use Rattle.index.specs.Index.{nodes, Indexed}
+use Rattle.index.specs.Reading.{Stands-at}
+use Rattle.index.proofs.Laws.{indexed-sets}
+use Rattle.pass_clashes.specs.Clashes.{clash-there}
 use Rattle.pass_clashes.specs.Resolving.{joined, Joinable, added-by, Resolvable, Parents}
 
 -- ---- a clause of the store, as a part of the workspace
@@ -51,6 +51,32 @@ module _ (work : List ℤ) (end at : ℕ) {n : ℕ} (p : Stands-at (take end wor
   part-clause : take (n - (at + 1)) (drop (at + 1) work) ≡ clause-at (take end work) at
   part-clause = part-there work at n e ∙ sym (prefix-clause work end at inside-end l (omega (arith, part-inside, e)))
 
+-- ---- an entry written behind the store
+module _ (work : List ℤ) (end : ℕ) (c : Clause) (b : end + length (entry c) ≤ length work) where
+  header-there : header-at (sets work end (entry c)) end ≡ header-of (length c)
+  header-there =
+      ap (λ (s : List ℤ). header-at s end) (sym (sets-first c work end (header-of (length c))))
+      ∙ getD-set-same (sets work (suc end) c) end (header-of (length c)) (pos 0) (omega (arith, length-sets work (suc end) c))
+
+  clause-there : length c ≤ largest → clause-at (sets work end (entry c)) end ≡ c
+  clause-there h =
+      let rest = drop (end + length (entry c)) work in
+      entry-clause (sets work end (entry c)) end c h rest
+      (ap (drop end) (sets-eq (entry c) work end b ∙ append-assoc (take end work) (entry c) rest) ∙ drop-at (take end work) (entry c ++ rest) end (length-take-le end work (omega arith)))
+
+-- what grew has the same store before it
+grown-before : {f : Formula} {w v u : List ℤ} {m n : List ℕ} {x y : Bytes} {p q : Progress} → length v ≡ length w → take (p .end) v ≡ take (p .end) w → Grown f v m x p u n y q → Grown f w m x p u n y q
+grown-before {f} l e g = record {
+  size = g .size ∙ l;
+  next = g .next;
+  filled = g .filled ∙ ap (λ (s : List ℤ). s ++ entries f) e;
+  formed = g .formed;
+  stands = g .stands;
+  written = g .written;
+  indexed = g .indexed;
+  nodes-are = g .nodes-are;
+}
+
 -- ---- the clauses of a clash
 
 -- a clause is not longer without a literal
@@ -64,7 +90,7 @@ without-length l (x ∷ c) = go (same l x) (without-length l c)
     go true h = omega arith
     go false h = omega arith
 
-module _ {work : List ℤ} {p : Progress} {v x y : ℕ} (r : Resolvable work p v x y) where
+module _ {work : List ℤ} {newest : List ℕ} {p : Progress} {v x y : ℕ} (r : Resolvable work newest p v x y) where
   abbrev s : List ℤ
   s = take (p .end) work
 
@@ -119,15 +145,18 @@ module _ {work : List ℤ} {p : Progress} {v x y : ℕ} (r : Resolvable work p v
   other-inside : {e : ℕ} → e ≡ past work y → (y + 1 ≤ e) × (e ≤ p .end) × (e ≤ length work)
   other-inside i = let k = part-inside work (p .end) y (r .clash .other-stands) (r .good .inside) i in (k .0, k .1, omega (arith, k .1, r .good .inside))
 
-  -- the store has room for what is added
-  pub added-room : p .end + numbers-of (added-by c) ≤ length work
-  unfolding only-if
-  added-room = by-test (opposed (resolvent c)) (λ e. rw e (omega (arith, numbers-none, r .good .inside))) (λ e. rw e (omega (arith, numbers-first (resolvent c) [], numbers-none, r .space e)))
+  -- by what `is_tautology` answers
+  pub opposed-as : {b t : Bool} → t ≡ opposed (resolvent c) → t ≡ b → opposed (resolvent c) ≡ b
+  opposed-as e k = sym e ∙ k
+
+  -- room for the entry of the resolvent and its nodes
+  entry-room : opposed (resolvent c) ≡ false → p .end + (length (resolvent c) + 1) + 2 * (nodes newest + length (resolvent c)) ≤ length work
+  entry-room o = omega (arith, r .space o, numbers-first (resolvent c) [], numbers-none, literals-first (resolvent c) [], literals-none)
 
   -- nothing is added
-  pub none-grown : (log : Bytes) → opposed (resolvent c) ≡ true → Grown (added-by c) work log p work log p
+  pub none-grown : (log : Bytes) → opposed (resolvent c) ≡ true → Grown (added-by c) work newest log p work newest log p
   unfolding only-if
-  none-grown log e = rw e (grown-none work log p)
+  none-grown log e = rw e (grown-none work newest log p (r .indexed))
 
   -- by the places past the two clauses
   module _ {e f : ℕ} (i : e ≡ past work x) (j : f ≡ past work y) where
@@ -157,16 +186,34 @@ module _ {work : List ℤ} {p : Progress} {v x y : ℕ} (r : Resolvable work p v
         (ap₂ without (signed-small true v (omega (arith, variable-small))) other-part)
 
     pub parts-joinable : opposed (resolvent c) ≡ false → Joinable work (p .end) a na b nb v
-    parts-joinable o = record { one = omega (arith, one-inside i); other = omega (arith, other-inside j); space = omega (arith, r .space o, ap length joined-is) }
+    parts-joinable o = record { one = omega (arith, one-inside i); other = omega (arith, other-inside j); space = omega (arith, entry-room o, ap length joined-is) }
 
+    -- the entry is written
     module _ (o : opposed (resolvent c) ≡ false) {n : ℕ} {new : List ℤ} (d : n ≡ p .end + (length (joined work a na b nb v) + 1)) (w : new ≡ sets work (p .end) (entry (joined work a na b nb v))) where
-      same-size : length new ≡ length work
-      same-size = ap length w ∙ length-sets work (p .end) (entry (joined work a na b nb v))
+      next-is : n ≡ p .end + (length (resolvent c) + 1)
+      next-is = omega (arith, d, ap length joined-is)
 
-      pub added-within : (p .end < n) × (n ≤ length new) × (length new < 2 ^ 31)
-      added-within = (omega (arith, d), omega (arith, d, parts-joinable o .space, same-size), omega (arith, same-size, r .good .small))
+      new-is : new ≡ sets work (p .end) (entry (resolvent c))
+      new-is = w ∙ ap (λ (x : Clause). sets work (p .end) (entry x)) joined-is
 
-      pub resolvent-grown : {log new-log : Bytes} {q : Progress} → Written (addition (take (n - (p .end + 1)) (drop (p .end + 1) new)) ∷ []) log p new-log q → q .end ≡ n → Grown (added-by c) work log p new new-log q
+      entry-fits : p .end + length (entry (resolvent c)) ≤ length work
+      entry-fits = omega (arith, entry-room o)
+
+      pub still-indexed : Indexed new (p .end) newest
+      still-indexed = rw new-is (indexed-sets (r .indexed) (p .end) (entry (resolvent c)) (omega arith) (omega (arith, entry-room o)))
+
+      pub entry-there : Entry-there new (p .end) n
+      entry-there = record {
+        longer = omega (arith, next-is);
+        header = ap (λ (s : List ℤ). header-at s (p .end)) new-is ∙ header-there work (p .end) (resolvent c) entry-fits ∙ ap header-of (omega (arith, next-is));
+      }
+
+      pub nodes-room : n + 2 * (nodes newest + (n - (p .end + 1))) ≤ length new
+      nodes-room = omega (arith, next-is, entry-room o, ap length new-is, length-sets work (p .end) (entry (resolvent c)))
+
+      pub resolvent-grown : {log new-log : Bytes} {more : List ℤ} {later : List ℕ} {q : Progress} → Grown (clause-at new (p .end) ∷ []) new newest log p more later new-log q → Grown (added-by c) work newest log p more later new-log q
       unfolding only-if
-      resolvent-grown t e =
-          rw o (added-grown (resolvent c) (omega (arith, resolvent-short)) (r .space o) (omega (arith, d, ap length joined-is)) (w ∙ ap (λ (x : Clause). sets work (p .end) (entry x)) joined-is) t e)
+      resolvent-grown {log} {new-log} {more} {later} {q} g =
+          let e : clause-at new (p .end) ≡ resolvent c = ap (λ (s : List ℤ). clause-at s (p .end)) new-is ∙ clause-there work (p .end) (resolvent c) entry-fits (omega (arith, resolvent-short)) in
+          rw o (grown-before (ap length new-is ∙ length-sets work (p .end) (entry (resolvent c))) (ap (take (p .end)) new-is ∙ sets-before (entry (resolvent c)) work (p .end) (p .end) (omega arith))
+          (subst (λ (d : Clause). Grown (d ∷ []) new newest log p more later new-log q) e g))

@@ -24,7 +24,10 @@ use Rattle.store.proofs.Laws.{place-within, place-formed, place-prefix, prefix-
 use Rattle.progress.specs.declared.Progress.{Progress}
 use Rattle.progress.specs.Progress.{Written, Log-room}
 use Rattle.progress.proofs.Laws.{written-then, room-rest}
-use Rattle.pass_clashes.specs.Clashes.{Stands-at, clash-there}
+use Rattle.index.specs.Index.{Same-entries}
+use Rattle.index.specs.Reading.{Stands-at}
+use Rattle.index.proofs.Walk.{marked-same, same-trans}
+use Rattle.pass_clashes.specs.Clashes.{clash-there}
 use Rattle.pass_clashes.specs.Resolving.{parent-lines, Parents, Parents-gone}
 
 -- ---- two places
@@ -136,6 +139,9 @@ module _ {s : List ℤ} {v x y : ℕ} (p : Parents s v x y) where
       ∙ ap (λ (c : Clause). take-out (with-first n c) (stored mid)) (second-stays .clause)
       ∙ ap (take-out (with-first n (clause-at s y))) (sym (removed-take-out first-removed))
 
+  both-same : Same-entries s (marked mid y)
+  both-same = same-trans (marked-same (p .one-stands .place) (p .one-stands .inside)) (marked-same (second-standing .place) (second-standing .inside))
+
   both-formed : Formed (marked mid y)
   both-formed = place-formed (marked-place mid y (second-standing .inside) (second-standing .place))
 
@@ -150,6 +156,7 @@ module _ {s : List ℤ} {v x y : ℕ} (p : Parents s v x y) where
       record {
         formed = rw e both-formed;
         stands = ap stored e ∙ both-after;
+        same-entries = rw e both-same;
         written = written-then (subst (λ (z : ℤ). Written (deletion (with-first z (clause-at s x)) ∷ []) f i g j) el w₁) (subst (λ (z : Clause). Written (deletion z ∷ []) g j h k) c w₂);
         kept = d₂ ∙ d₁;
       }

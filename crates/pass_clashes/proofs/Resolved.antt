@@ -28,12 +28,15 @@ use Rattle.progress.specs.declared.Progress.{Progress}
 use Rattle.progress.specs.Progress.{Log-room, Runs}
 use Rattle.progress.specs.Growth.{entries, Grown}
 use Rattle.progress.proofs.Laws.{lines-one, written-then, room-rest, Holds, runs-lines}
-use Rattle.progress.proofs.Growing.{grown-filled, grown-holds}
-use Rattle.pass_clashes.specs.Clashes.{Stands-at, clash-there}
+use Rattle.progress.proofs.Growing.{grown-holds}
+use Rattle.index.specs.Index.{Indexed}
+use Rattle.index.specs.Reading.{Stands-at}
+use Rattle.index.proofs.Laws.{indexed-part}
+use Rattle.pass_clashes.specs.Clashes.{clash-there}
 use Rattle.pass_clashes.specs.Marking.{Unmarked}
 use Rattle.pass_clashes.specs.Resolving.{added-by, parent-lines, Resolvable, Parents, Parents-gone, Ended}
 use Rattle.pass_clashes.proofs.Marking.{neither}
-use Rattle.pass_clashes.proofs.Adding.{is-clash, parents, added-room}
+use Rattle.pass_clashes.proofs.Adding.{is-clash, parents}
 
 -- a clause keeps its place in a longer store
 longer-standing : (t : List ℤ) (end at : ℕ) → end ≤ length t → Formed t → Stands-at (take end t) at → Stands-at t at × (clause-at t at ≡ clause-at (take end t) at)
@@ -63,7 +66,7 @@ clash-parts c = lines-one (clash-cleared c) ∙ go (opposed (resolvent c))
     go true = refl
     go false = refl
 
-module _ {work : List ℤ} {p : Progress} {v x y : ℕ} (r : Resolvable work p v x y) where
+module _ {work : List ℤ} {newest : List ℕ} {p : Progress} {v x y : ℕ} (r : Resolvable work newest p v x y) where
   abbrev s : List ℤ
   s = take (p .end) work
 
@@ -84,12 +87,12 @@ module _ {work : List ℤ} {p : Progress} {v x y : ℕ} (r : Resolvable work p v
       (λ j. without-mem (negℤ (pos v)) (c .other) (negℤ (pos v)) j .1 refl)
       (List·Memᴰ·append-cases (without (pos v) (c .one)) i)
 
-  module _ {new : List ℤ} {log mid-log : Bytes} {q : Progress} (d : Grown (added-by c) work log p new mid-log q) where
+  module _ {new : List ℤ} {later : List ℕ} {log mid-log : Bytes} {q : Progress} (d : Grown (added-by c) work newest log p new later mid-log q) where
     abbrev t : List ℤ
     t = take (q .end) new
 
     there : Holds (stored s ++ added-by c) new (q .end)
-    there = grown-holds d (added-room r) (r .good .formed)
+    there = grown-holds d (r .good .formed)
 
     pub end-inside : q .end ≤ length new
     end-inside = there .inside
@@ -100,7 +103,7 @@ module _ {work : List ℤ} {p : Progress} {v x y : ℕ} (r : Resolvable work p v
     kept : (at : ℕ) → Stands-at s at → Stands-at t at × (clause-at t at ≡ clause-at s at)
     kept at k =
         let n : length s ≡ p .end = length-take-le (p .end) work (r .good .inside) in
-        let e : take (p .end) t ≡ s = ap (take (p .end)) (grown-filled d (added-room r)) ∙ take-at s (entries (added-by c)) (p .end) n in
+        let e : take (p .end) t ≡ s = ap (take (p .end)) (d .filled) ∙ take-at s (entries (added-by c)) (p .end) n in
         subst (λ (z : List ℤ). Stands-at t at × (clause-at t at ≡ clause-at z at)) e (longer-standing t (p .end) at (omega (arith, size, d .next)) (there .formed) (rw e k))
 
     one-kept : Stands-at t x × (clause-at t x ≡ c .one)
@@ -141,6 +144,9 @@ module _ {work : List ℤ} {p : Progress} {v x y : ℕ} (r : Resolvable work p v
         (record { inside = omega (arith, o, n, size, g .kept); formed = rw k (g .formed); stands = ap stored k })
         (h .stands ∙ ap (λ (f : Formula). after f (parent-lines c)) (there .stands ∙ sym (after-additions (stored s) (added-by c))) ∙ sym (after-++ (stored s) (map addition (added-by c)) (parent-lines c)) ∙ ap (after (stored s)) (sym l))
         (rw l (written-then (d .written) (h .written)))
+
+    pub resolved-indexed : {u : List ℤ} {new-log : Bytes} {w : Progress} → Parents-gone (clash-there t v x y) t mid-log q u new-log w → Indexed (u ++ drop (q .end) new) (w .end) later
+    resolved-indexed {u} g = subst (λ (k : ℕ). Indexed (u ++ drop (q .end) new) k later) (sym (g .kept)) (indexed-part (d .indexed) (g .same-entries))
 
 -- ---- the marks of the clashes that end
 module _ (c : Clash) (m new : List ℕ) where

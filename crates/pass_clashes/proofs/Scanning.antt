@@ -7,7 +7,7 @@ use Prim.Native.Nat.{ℕ, _+_, _*_, _/_, _≤_, _<_}
 use native.Mathlib.Omega.{arith}
 use lib.Dec.{ltb}
 use lib.IntN.{ℤ, natAbs}
-use lib.ListN.{length, take}
+use lib.ListN.{length, take, replicate}
 use borrow.Author.Tests.{ltb-true, ltb-false}
 use Rattle.definition.specs.Literals.{Formula}
 use Rattle.definition.specs.Text.{Bytes}
@@ -15,7 +15,7 @@ use Rattle.definition.specs.Standing.{after}
 use Rattle.definition.specs.Events.{Clash, Event, clash-cleared}
 use Rattle.definition.specs.Clearing.{clash-at, clash-lines, clear-clashes}
 use Rattle.definition.specs.Reencoding.{lines, lines-of}
-use Rattle.definition.specs.Calls.{numbers-of}
+use Rattle.theory_base.specs.Cells.{cells-of}
 use Rattle.theory_base.specs.Clauses.{Proper-all, Fits}
 use Rattle.theory_base.proofs.Tests.{by-test, second-fails}
 use Rattle.theory_base.proofs.Replay.{after-++, lines-++}
@@ -26,7 +26,8 @@ use Rattle.theory_clearing.proofs.Clashing.{clashes-some, clashes-after, clear-
 use Rattle.marks.specs.Marks.{input-words, marked, lowest-from}
 use Rattle.marks.specs.declared.Lowest.the-variants.{At, Nothing}
 use Rattle.marks.proofs.Laws.{lowest-marked, none-past}
-use Rattle.tables.specs.Sizes.{input-reach}
+use Rattle.tables.specs.Sizes.{input-reach, input-size}
+use Rattle.index.specs.Index.{Indexed, Roomy}
 use Rattle.progress.specs.declared.Progress.{Progress}
 use Rattle.progress.specs.Progress.{standing, Runs}
 use Rattle.progress.proofs.Laws.{lines-none, lines-one, runs-nothing, runs-join, good-first, good-rest}
@@ -37,19 +38,17 @@ use Rattle.pass_clashes.specs.Scan.{Clash-ready, Searching, Scanned, tur
 use Rattle.pass_clashes.specs.declared.Scan.{Scan}
 
 -- ---- what the other events need where the first ran
-ready-rest : (xs ys : List Event) {work new : List ℤ} {log new-log : Bytes} {p r : Progress} → Clash-ready (xs ++ ys) work p → Runs xs work log p new new-log r
-    → Proper-all (after (standing work p) (lines xs)) → Fits input-reach (after (standing work p) (lines xs)) → Clash-ready ys new r
-ready-rest xs ys {work} {new} {p = p} {r = r} k g a b = record {
+ready-rest : (xs ys : List Event) {step : ℕ} {work new : List ℤ} {log new-log : Bytes} {p r : Progress} → Clash-ready step (xs ++ ys) work p → Runs xs work log p new new-log r
+    → Proper-all (after (standing work p) (lines xs)) → Fits input-reach (after (standing work p) (lines xs)) → Clash-ready step ys new r
+ready-rest xs ys {work = work} {new = new} {p = p} {r = r} k g a b = record {
   good = good-rest xs ys (k .good) g a b;
-  space = λ us vs c e o.
-      omega (
-        arith,
-        g .size,
-        ap numbers-of (after-more us),
-        k .space (xs ++ us) vs c (ap (λ (es : List Event). xs ++ es) e ∙ sym (append-assoc xs us (clash-cleared c ∷ vs))) o,
-      );
+  space = λ us vs e. omega (arith, g .size, ap (λ (F : Formula). cells-of F) (after-more us), k .space (xs ++ us) vs (rest-as us vs e));
+  cells = λ us vs c e o. k .cells (xs ++ us) vs c (rest-as us (clash-cleared c ∷ vs) e) o;
 }
   where
+    rest-as : (us vs : List Event) → ys ≡ us ++ vs → xs ++ ys ≡ (xs ++ us) ++ vs
+    rest-as us vs e = ap (λ (es : List Event). xs ++ es) e ∙ sym (append-assoc xs us vs)
+
     after-more : (us : List Event) → after (standing new r) (lines us) ≡ after (standing work p) (lines (xs ++ us))
     after-more us = ap (λ (F : Formula). after F (lines us)) (g .stands) ∙ sym (after-++ (standing work p) (lines xs) (lines us)) ∙ ap (after (standing work p)) (sym (lines-++ xs us))
 
@@ -63,12 +62,16 @@ unfolding lines-of
 after-clash F c = ap (after F) (lines-one (clash-cleared c))
 
 -- ---- the lowest mark
-module _ {work : List ℤ} {m : List ℕ} {z : Scan} (s : Searching work m z) where
+module _ {step : ℕ} {work : List ℤ} {newest table m : List ℕ} {z : Scan} (s : Searching step work newest table m z) where
   abbrev F : Formula
   F = standing work (z .progress)
 
   stays : (log : Bytes) → Runs [] work log (z .progress) work log (z .progress)
   stays log = runs-nothing log (z .progress) (z .progress) refl (record { inside = s .ready .good .inside; formed = s .ready .good .formed; stands = refl }) refl refl
+
+  -- what stands leaves so much room
+  pub step-room : cells-of F + step ≤ length work
+  step-room = rw (after-none F) at (s .ready .space [] (clear-clashes F) refl)
 
   -- no variable below the lowest mark is marked
   none-below : (v : ℕ) → ((k : ℕ) → 32 * z .word ≤ k → k < v → marked m k ≡ false) → (k : ℕ) → k < v → marked m k ≡ false
@@ -79,8 +82,9 @@ module _ {work : List ℤ} {m : List ℕ} {z : Scan} (s : Searching work m z) wh
     none-marked : (k : ℕ) → marked m k ≡ false
     none-marked k = none-below (k + 1) (λ i a _. lowest-marked m (32 * z .word) .none-marked e i a) k (omega arith)
 
-    pub scanned-none : (log : Bytes) → Scanned work log m z work log m (record { progress = z .progress; word = length m })
-    scanned-none log = record { events = []; runs = stays log; rest = refl; searching = record { ready = s .ready; exact = s .exact; passed = λ k _. none-marked k; size = s .size } }
+    pub scanned-none : (log : Bytes) → Scanned step work log z work newest table log m (record { progress = z .progress; word = length m })
+    scanned-none log =
+        record { events = []; runs = stays log; rest = refl; searching = record { ready = s .ready; indexed = s .indexed; zeros = s .zeros; exact = s .exact; passed = λ k _. none-marked k; size = s .size } }
 
   pub none-fewer : z .word < length m → turns-left work (record { progress = z .progress; word = length m }) < turns-left work z
   none-fewer h = omega (arith, s .size)
@@ -102,13 +106,13 @@ module _ {work : List ℤ} {m : List ℕ} {z : Scan} (s : Searching work m z) wh
         let r = clash-at-some F v (c .0) (c .1) in
         omega (arith, s .ready .good .fits (c .0 .one) (r .1 .one-stands) (c .0 .v) (r .1 .one-holds) .1, ap natAbs (r .0))
 
-    -- the store slid down, and the clauses found
+    -- room made, and the clauses found
     module _ {mid : List ℤ} {log : Bytes} {q : Progress} (k : Runs [] work log (z .progress) mid log q) where
       same : standing mid q ≡ F
       same = k .stands ∙ after-none F
 
-      pub slid-clashes : clashes (standing mid q) v ≡ true
-      slid-clashes = ap (λ (G : Formula). clashes G v) same ∙ lowest-clashes
+      pub there-clashes : clashes (standing mid q) v ≡ true
+      there-clashes = ap (λ (G : Formula). clashes G v) same ∙ lowest-clashes
 
       module _ {x y : ℕ} (h : Clashing (take (q .end) mid) v x y) where
         abbrev c : Clash
@@ -126,16 +130,17 @@ module _ {work : List ℤ} {m : List ℕ} {z : Scan} (s : Searching work m z) wh
         left-are : clear-clashes F ≡ clash-cleared c ∷ others
         left-are = clear-clashes-at F (s .ready .good .proper) v c clash-here (λ n l. sym (s .exact n) ∙ below n l)
 
-        slid-ready : Clash-ready (clash-cleared c ∷ others) mid q
-        slid-ready =
-            ready-rest [] (clash-cleared c ∷ others) (subst (λ (es : List Event). Clash-ready es work (z .progress)) left-are (s .ready)) k
+        there-ready : Clash-ready step (clash-cleared c ∷ others) mid q
+        there-ready =
+            ready-rest [] (clash-cleared c ∷ others) (subst (λ (es : List Event). Clash-ready step es work (z .progress)) left-are (s .ready)) k
             (rw (after-none F) (s .ready .good .proper)) (rw (after-none F) (s .ready .good .fits))
 
-        pub resolvable : q .end ≡ numbers-of F → Resolvable mid q v x y
-        resolvable n = record {
-          good = good-first (clash-cleared c ∷ []) others (slid-ready .good);
+        pub resolvable : {later : List ℕ} → Indexed mid (q .end) later → Roomy step mid (q .end) later → Resolvable mid later q v x y
+        resolvable i r = record {
+          good = good-first (clash-cleared c ∷ []) others (there-ready .good);
           clash = h;
-          space = λ o. omega (arith, n, ap numbers-of (after-none (standing mid q) ∙ same), slid-ready .space [] others c refl o);
+          indexed = i;
+          space = λ o. omega (arith, r, there-ready .cells [] others c refl o);
         }
 
         module _ {new : List ℤ} {new-log : Bytes} {w : Progress} (g : Runs (clash-cleared c ∷ []) mid log q new new-log w) where
@@ -148,7 +153,7 @@ module _ {work : List ℤ} {m : List ℕ} {z : Scan} (s : Searching work m z) wh
           pub clash-fewer : turns-left new (record { progress = w; word = v / 32 }) < turns-left work z
           clash-fewer = omega (arith, ap length stands-then, after-shorter F c (s .ready .good .proper) is-clash, lowest .0)
 
-          module _ (new-m : List ℕ) (u : Ended c m new-m) (l : length new-m ≡ length m) where
+          module _ {later zeros : List ℕ} (new-m : List ℕ) (u : Ended c m new-m) (l : length new-m ≡ length m) (i : Indexed new (w .end) later) (n : zeros ≡ replicate input-size 0) where
             exact-then : Marks-clashes (standing new w) new-m
             exact-then n =
                 u n ∙ ap (λ (b : Bool). not (ends c n) && b) (s .exact n) ∙ sym (clashes-after F c (s .ready .good .proper) is-clash n)
@@ -157,7 +162,7 @@ module _ {work : List ℤ} {m : List ℕ} {z : Scan} (s : Searching work m z) wh
             passed-then : (n : ℕ) → n < 32 * (v / 32) → marked new-m n ≡ false
             passed-then n i = u n ∙ sym (second-fails (not (ends c n)) (marked m n) (below n (omega arith)))
 
-            pub scanned-clash : Scanned work log m z new new-log new-m (record { progress = w; word = v / 32 })
+            pub scanned-clash : Scanned step work log z new later zeros new-log new-m (record { progress = w; word = v / 32 })
             scanned-clash =
                 let e : clash-cleared c ∷ clear-clashes (standing new w) ≡ clear-clashes F = ap (λ (G : Formula). clash-cleared c ∷ clear-clashes G) stands-then ∙ sym left-are in
                 record {
@@ -166,8 +171,10 @@ module _ {work : List ℤ} {m : List ℕ} {z : Scan} (s : Searching work m z) wh
                   rest = e;
                   searching = record {
                     ready =
-                        ready-rest (clash-cleared c ∷ []) (clear-clashes (standing new w)) (subst (λ (es : List Event). Clash-ready es work (z .progress)) (sym e) (s .ready)) all
+                        ready-rest (clash-cleared c ∷ []) (clear-clashes (standing new w)) (subst (λ (es : List Event). Clash-ready step es work (z .progress)) (sym e) (s .ready)) all
                         (rw (after-clash F c) (after-proper F c (s .ready .good .proper) is-clash)) (rw (after-clash F c) (after-fits F c (s .ready .good .proper) is-clash input-reach (s .ready .good .fits)));
+                    indexed = i;
+                    zeros = n;
                     exact = exact-then;
                     passed = passed-then;
                     size = l ∙ s .size;
@@ -175,13 +182,13 @@ module _ {work : List ℤ} {m : List ℕ} {z : Scan} (s : Searching work m z) wh
                 }
 
 -- ---- the loop
-pub scanned-start : {work : List ℤ} {p : Progress} (log : Bytes) (m : List ℕ) → Clash-ready (clear-clashes (standing work p)) work p → Marks-clashes (standing work p) m → length m ≡ input-words →
-    Scanned work log m (record { progress = p; word = 0 }) work log m (record { progress = p; word = 0 })
-scanned-start {work} {p} log m r e l =
-    let s : Searching work m (record { progress = p; word = 0 }) = record { ready = r; exact = e; passed = λ v h. absurd (omega arith); size = l } in
+pub scanned-start : {step : ℕ} {work : List ℤ} {newest table m : List ℕ} {p : Progress} (log : Bytes) → Clash-ready step (clear-clashes (standing work p)) work p → Indexed work (p .end) newest → table ≡ replicate input-size 0 →
+    Marks-clashes (standing work p) m → length m ≡ input-words → Scanned step work log (record { progress = p; word = 0 }) work newest table log m (record { progress = p; word = 0 })
+scanned-start {step} {work} {newest} {table} {m} {p} log r i n e l =
+    let s : Searching step work newest table m (record { progress = p; word = 0 }) = record { ready = r; indexed = i; zeros = n; exact = e; passed = λ v h. absurd (omega arith); size = l } in
     record { events = []; runs = stays s log; rest = refl; searching = s }
 
-pub scanned-then : {a b c : List ℤ} {l m n : Bytes} {i j k : List ℕ} {x y z : Scan} → Scanned a l i x b m j y → Scanned b m j y c n k z → Scanned a l i x c n k z
+pub scanned-then : {step : ℕ} {a b c : List ℤ} {l m n : Bytes} {f g h i j k : List ℕ} {x y z : Scan} → Scanned step a l x b f g m h y → Scanned step b m y c i j n k z → Scanned step a l x c i j n k z
 scanned-then {c = c} {z = z} s t = record {
   events = s .events ++ t .events;
   runs = runs-join (s .runs) (t .runs);
@@ -189,12 +196,12 @@ scanned-then {c = c} {z = z} s t = record {
   searching = t .searching;
 }
 
-pub scanned-end : {work new : List ℤ} {log new-log : Bytes} {m new-m : List ℕ} {y z : Scan} → Scanned work log m y new new-log new-m z → length new-m ≤ z .word →
+pub scanned-end : {step : ℕ} {work new : List ℤ} {log new-log : Bytes} {newest table m : List ℕ} {y z : Scan} → Scanned step work log y new newest table new-log m z → length m ≤ z .word →
     Runs (clear-clashes (standing work (y .progress))) work log (y .progress) new new-log (z .progress)
-scanned-end {work} {new} {log} {new-log} {m} {new-m} {y} {z} s h =
+scanned-end {work = work} {new = new} {log = log} {new-log = new-log} {m = m} {y = y} {z = z} s h =
     let e : s .events ≡ clear-clashes (standing work (y .progress)) =
     sym (append-nil (s .events)) ∙ ap (λ (es : List Event). s .events ++ es) (sym (clear-clashes-none (standing new (z .progress)) none)) ∙ s .rest in
     subst (λ (es : List Event). Runs es work log (y .progress) new new-log (z .progress)) e (s .runs)
   where
     none : (v : ℕ) → clashes (standing new (z .progress)) v ≡ false
-    none v = sym (s .searching .exact v) ∙ none-below (s .searching) (v + 1) (λ k a _. none-past new-m k (omega arith)) v (omega arith)
+    none v = sym (s .searching .exact v) ∙ none-below (s .searching) (v + 1) (λ k a _. none-past m k (omega arith)) v (omega arith)

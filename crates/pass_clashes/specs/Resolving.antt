@@ -13,6 +13,7 @@ use Rattle.definition.specs.Standing.{Line, deletion, after}
 use Rattle.definition.specs.Events.{Clash, clash-cleared}
 use Rattle.definition.specs.Clearing.{times, resolvent}
 use Rattle.theory_base.specs.Clauses.{Proper, Fit-all}
+use Rattle.theory_base.specs.Cells.{cells-of}
 use Rattle.theory_clearing.specs.Clashing.{ends}
 use Rattle.literals.specs.Literal.{signed-of}
 use Rattle.store.specs.Store.{Formed, stored, clause-at}
@@ -21,7 +22,9 @@ use Rattle.progress.specs.declared.Progress.{Progress}
 use Rattle.progress.specs.Progress.{Written, Good}
 use Rattle.tables.specs.Sizes.{input-reach}
 use Rattle.tables.specs.Counts.{pure-in}
-use Rattle.pass_clashes.specs.Clashes.{Stands-at, clash-there, Clashing}
+use Rattle.index.specs.Index.{Indexed, Same-entries, Roomy}
+use Rattle.index.specs.Reading.{Stands-at}
+use Rattle.pass_clashes.specs.Clashes.{clash-there, Clashing}
 
 -- l is not the literal that is left out, and its negation is counted
 abbrev pub opposite-in : List ℕ → ℤ → ℤ → Bool
@@ -55,10 +58,11 @@ abbrev pub parent-lines : Clash → List Line
 parent-lines c = deletion (with-first (c .v) (c .one)) ∷ deletion (with-first (negℤ (c .v)) (c .other)) ∷ []
 
 -- what clearing the clash of v at x and y needs
-pub record Resolvable (work : List ℤ) (p : Progress) (v x y : ℕ) : Type 0 where
+pub record Resolvable (work : List ℤ) (newest : List ℕ) (p : Progress) (v x y : ℕ) : Type 0 where
   pub good : Good input-reach (clash-cleared (clash-there (take (p .end) work) v x y) ∷ []) work p
   pub clash : Clashing (take (p .end) work) v x y
-  pub space : opposed (resolvent (clash-there (take (p .end) work) v x y)) ≡ false → p .end + (length (resolvent (clash-there (take (p .end) work) v x y)) + 1) ≤ length work
+  pub indexed : Indexed work (p .end) newest
+  pub space : opposed (resolvent (clash-there (take (p .end) work) v x y)) ≡ false → Roomy (cells-of (resolvent (clash-there (take (p .end) work) v x y) ∷ [])) work (p .end) newest
 
 -- v stands once, in the clause at x, and -v once, in the one at y
 pub record Parents (s : List ℤ) (v x y : ℕ) : Type 0 where
@@ -74,10 +78,11 @@ pub record Parents (s : List ℤ) (v x y : ℕ) : Type 0 where
   pub other-proper : Proper (clause-at s y)
   pub other-fits : Fit-all input-reach (clause-at s y)
 
--- the clauses of the clash c are deleted
+-- the clauses of the clash c are deleted, and nothing else changed
 pub record Parents-gone (c : Clash) (s : List ℤ) (log : Bytes) (p : Progress) (new : List ℤ) (new-log : Bytes) (r : Progress) : Type 0 where
   pub formed : Formed new
   pub stands : stored new ≡ after (stored s) (parent-lines c)
+  pub same-entries : Same-entries s new
   pub written : Written (parent-lines c) log p new-log r
   pub kept : r .end ≡ p .end
 

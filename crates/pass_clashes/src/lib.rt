@@ -1,4 +1,4 @@
-// Clearing clashes: a variable stands in one unique literal clause and its negation in another. One pass over the store marks the variables that clash; from then on marks are only cleared, and the lowest is next.
+// Clearing clashes: a variable stands in one unique literal clause and its negation in another. One pass over the store marks the variables that clash; from then on marks are only cleared, and the lowest is next; its two clauses are looked up in the index.
 ghost use mathlib.Core.Path.{_≡_};
 ghost use mathlib.Core.Bool.{true, false};
 ghost use mathlib.Core.List.{[], _∷_};
@@ -10,7 +10,7 @@ ghost use lib.Seq.{sets};
 ghost use Rattle.definition.specs.Lists.{any};
 ghost use Rattle.definition.specs.Literals.{without, opposed};
 ghost use Rattle.definition.specs.Events.{clash-cleared};
-ghost use Rattle.definition.specs.Clearing.{times, clear-clashes, resolvent};
+ghost use Rattle.definition.specs.Clearing.{clear-clashes, resolvent};
 ghost use Rattle.theory_base.specs.Clauses.{Proper-all, Fit-all};
 ghost use Rattle.theory_clearing.specs.Clashing.{clashes};
 ghost use Rattle.literals.specs.Literal.{signed-of};
@@ -18,10 +18,11 @@ ghost use Rattle.tables.specs.Sizes.{input-reach, input-size};
 ghost use Rattle.tables.specs.Entries.{entry-of, tallied, with-entries};
 ghost use Rattle.marks.specs.Marks.{input-words};
 ghost use Rattle.store.specs.Store.{Formed, stored, entry, clause-at, Counted};
+ghost use Rattle.index.specs.Index.{Indexed};
 ghost use Rattle.progress.specs.Progress.{Log-room, standing, Good, Runs};
 ghost use Rattle.progress.specs.Growth.{Grown};
 ghost use Rattle.pass_clashes.specs.Marking.{both, Marked-both, Unmarked, unique-part, Marks-clashes};
-ghost use Rattle.pass_clashes.specs.Clashes.{holds-at, Found-with, clash-there, Clashing};
+ghost use Rattle.pass_clashes.specs.Clashes.{clash-there, Clashing};
 ghost use Rattle.pass_clashes.specs.Resolving.{opposite-in, part-without, Copied, joined, Joinable, added-by, parent-lines, Resolvable, Parents, Parents-gone, Ended};
 ghost use Rattle.pass_clashes.specs.Scan.{Clash-ready, Searching, Scanned, turns-left};
 use marks::Lowest;
@@ -126,34 +127,6 @@ fn unmark_variables(marks: &mut [u32], clause: &[i32])
 
 // ---- the clauses of a clash
 
-// Whether the clause at a place stands and holds a literal.
-fn is_with(store: &[i32], at: usize, l: i32) -> bool
-    requires { ⌜ (at < length (now store)) × Formed (drop at (now store)) ⌝ }
-    ensures { λ r. ⌜ r ≡ holds-at l (now (store .entry)) at ⌝ }
-{
-    if literals::is_negative(store[at]) {
-        return false;
-    }
-    let next = store::next_at(store, at);
-    let first = at + 1;
-    store::holds(&store[first..next], l)
-}
-
-// The place of the first standing clause that holds a literal, if there is one.
-fn place_with(store: &[i32], l: i32) -> usize
-    requires { ⌜ Formed (now store) ⌝ }
-    ensures { λ r. ⌜ (1 ≤ times l (stored (now (store .entry))) → Found-with l (now (store .entry)) r) ⌝ }
-{
-    let mut at = 0;
-    while at < store.len() {
-        if is_with(store, at, l) {
-            return at;
-        }
-        at = store::next_at(store, at);
-    }
-    at
-}
-
 // Where the two clauses of a clash are.
 pub struct Places {
     pub one: usize,
@@ -161,13 +134,13 @@ pub struct Places {
 }
 
 // The places of the clauses of a variable's clash.
-fn find_clash(store: &[i32], v: u32) -> Places
-    requires { ⌜ Formed (now store) × (v ≤ input-reach) ⌝ }
-    ensures { λ r. ⌜ (clashes (stored (now (store .entry))) v ≡ true → Clashing (now (store .entry)) v (r .one) (r .other)) ⌝ }
+fn find_clash(work: &[i32], newest: &[u32], end: usize, v: u32) -> Places
+    requires { ⌜ Indexed (now work) end (now newest) × (v ≤ input-reach) ⌝ }
+    ensures { λ r. ⌜ (clashes (stored (take end (now (work .entry)))) v ≡ true → Clashing (take end (now (work .entry))) v (r .one) (r .other)) ⌝ }
 {
     Places {
-        one: place_with(store, literals::signed(false, v)),
-        other: place_with(store, literals::signed(true, v)),
+        one: lookup::place_with(work, newest, end, literals::signed(false, v)),
+        other: lookup::place_with(work, newest, end, literals::signed(true, v)),
     }
 }
 
@@ -197,13 +170,16 @@ fn any_opposite(table: &[u32], gone: i32, clause: &[i32]) -> bool
     false
 }
 
-// Whether a clause, without -v, has a literal whose negation is in another clause.
-fn is_opposed(one: &[i32], v: u32, other: &[i32]) -> bool
-    ensures { λ r. ⌜ r ≡ any (opposite-in (tallied (replicate input-size 0) (now (one .entry))) (signed-of true v)) (now (other .entry)) ⌝ }
+// Whether a clause, without -v, has a literal whose negation is in another clause. The table of zeros is lent.
+fn is_opposed(table: &mut [u32], one: &[i32], v: u32, other: &[i32]) -> bool
+    requires { ⌜ now table ≡ replicate input-size 0 ⌝ }
+    ensures answer { λ r. ⌜ r ≡ any (opposite-in (tallied (replicate input-size 0) (now (one .entry))) (signed-of true v)) (now (other .entry)) ⌝ }
+    ensures table { λ _. ⌜ now (table .exit) ≡ replicate input-size 0 ⌝ }
 {
-    let mut table = [0u32; tables::INPUT_SIZE];
-    tables::count_clause(&mut table, one);
-    any_opposite(&table, literals::signed(true, v), other)
+    tables::count_clause(table, one);
+    let is_there = any_opposite(table, literals::signed(true, v), other);
+    tables::set_entries(table, one, 0);
+    is_there
 }
 
 // Copies an element down the list unless it is the literal left out; the result is the place past it.
@@ -264,15 +240,16 @@ fn append_resolvent(
 }
 
 // Whether the resolvent of the clauses at x and y has a literal and its negation.
-fn is_tautology(store: &[i32], v: u32, x: usize, y: usize) -> bool
-    requires { ⌜ Parents (now store) v x y × (length (now store) < 2 ^ 31) ⌝ }
-    ensures { λ r. ⌜ r ≡ opposed (resolvent (clash-there (now (store .entry)) v x y)) ⌝ }
+fn is_tautology(table: &mut [u32], store: &[i32], v: u32, x: usize, y: usize) -> bool
+    requires { ⌜ Parents (now store) v x y × (length (now store) < 2 ^ 31) × (now table ≡ replicate input-size 0) ⌝ }
+    ensures answer { λ r. ⌜ r ≡ opposed (resolvent (clash-there (now (store .entry)) v x y)) ⌝ }
+    ensures table { λ _. ⌜ now (table .exit) ≡ replicate input-size 0 ⌝ }
 {
     let a = x + 1;
     let b = y + 1;
     let past_a = store::next_at(store, x);
     let past_b = store::next_at(store, y);
-    is_opposed(&store[a..past_a], v, &store[b..past_b])
+    is_opposed(table, &store[a..past_a], v, &store[b..past_b])
 }
 
 // ---- one clash
@@ -280,15 +257,16 @@ fn is_tautology(store: &[i32], v: u32, x: usize, y: usize) -> bool
 // Adds the resolvent of the clauses at x and y, which is no tautology, and records it.
 fn add_resolvent(
     work: &mut [i32],
+    newest: &mut [u32],
     log: &mut [u8],
     p: Progress,
     v: u32,
     x: usize,
     y: usize,
 ) -> Progress
-    requires { ⌜ Resolvable (now work) p v x y ⌝ }
+    requires { ⌜ Resolvable (now work) (now newest) p v x y ⌝ }
     requires { ⌜ opposed (resolvent (clash-there (take (p .end) (now work)) v x y)) ≡ false ⌝ }
-    ensures { λ r. ⌜ Grown (added-by (clash-there (take (p .end) (now (work .entry))) v x y)) (now (work .entry)) (now (log .entry)) p (now (work .exit)) (now (log .exit)) r ⌝ }
+    ensures { λ r. ⌜ Grown (added-by (clash-there (take (p .end) (now (work .entry))) v x y)) (now (work .entry)) (now (newest .entry)) (now (log .entry)) p (now (work .exit)) (now (newest .exit)) (now (log .exit)) r ⌝ }
 {
     let a = x + 1;
     let b = y + 1;
@@ -296,7 +274,7 @@ fn add_resolvent(
     let past_b = store::next_at(work, y);
     let end = p.end;
     let next = append_resolvent(work, end, a, past_a - a, b, past_b - b, v);
-    progress::record_added(work, log, p, next)
+    progress::record_added(work, newest, log, p, next)
 }
 
 // Deletes the two clauses of a clash: that with v at x, that with -v at y.
@@ -329,6 +307,8 @@ fn unmark_entry(marks: &mut [u32], store: &[i32], at: usize)
 // Clears the clash of v whose clauses are at x and y, and the marks of the clashes that end with it: that of v; where the resolvent is not added, those of all variables of the two clauses.
 fn resolve(
     work: &mut [i32],
+    newest: &mut [u32],
+    table: &mut [u32],
     log: &mut [u8],
     marks: &mut [u32],
     p: Progress,
@@ -336,18 +316,20 @@ fn resolve(
     x: usize,
     y: usize,
 ) -> Progress
-    requires { ⌜ Resolvable (now work) p v x y ⌝ }
+    requires { ⌜ Resolvable (now work) (now newest) p v x y × (now table ≡ replicate input-size 0) ⌝ }
     ensures runs { λ r. ⌜ Runs (clash-cleared (clash-there (take (p .end) (now (work .entry))) v x y) ∷ []) (now (work .entry)) (now (log .entry)) p (now (work .exit)) (now (log .exit)) r ⌝ }
     ensures ended { λ _. ⌜ Ended (clash-there (take (p .end) (now (work .entry))) v x y) (now (marks .entry)) (now (marks .exit)) ⌝ }
+    ensures indexed { λ r. ⌜ Indexed (now (work .exit)) (r .end) (now (newest .exit)) ⌝ }
+    ensures table { λ _. ⌜ now (table .exit) ≡ replicate input-size 0 ⌝ }
 {
     let end = p.end;
-    if is_tautology(&work[..end], v, x, y) {
+    if is_tautology(table, &work[..end], v, x, y) {
         unmark_entry(marks, &work[..end], x);
         unmark_entry(marks, &work[..end], y);
         return delete_parents(&mut work[..end], log, p, v, x, y);
     }
     marks::clear(marks, v);
-    let q = add_resolvent(work, log, p, v, x, y);
+    let q = add_resolvent(work, newest, log, p, v, x, y);
     let grown = q.end;
     delete_parents(&mut work[..grown], log, q, v, x, y)
 }
@@ -361,18 +343,26 @@ pub struct Scan {
 }
 
 // Clears the clash of the lowest mark, if there is one.
-fn clear_next(work: &mut [i32], log: &mut [u8], marks: &mut [u32], s: Scan) -> Scan
-    requires { ⌜ Searching (now work) (now marks) s × (s .word < length (now marks)) ⌝ }
-    ensures scanned { λ r. ⌜ Scanned (now (work .entry)) (now (log .entry)) (now (marks .entry)) s (now (work .exit)) (now (log .exit)) (now (marks .exit)) r ⌝ }
+fn clear_next(
+    work: &mut [i32],
+    newest: &mut [u32],
+    table: &mut [u32],
+    log: &mut [u8],
+    marks: &mut [u32],
+    s: Scan,
+    step: usize,
+) -> Scan
+    requires { ⌜ Searching step (now work) (now newest) (now table) (now marks) s × (s .word < length (now marks)) ⌝ }
+    ensures scanned { λ r. ⌜ Scanned step (now (work .entry)) (now (log .entry)) s (now (work .exit)) (now (newest .exit)) (now (table .exit)) (now (log .exit)) (now (marks .exit)) r ⌝ }
     ensures fewer { λ r. ⌜ turns-left (now (work .exit)) r < turns-left (now (work .entry)) s ⌝ }
 {
     let before = s.progress;
     match marks::lowest_from(marks, s.word) {
         Lowest::At(v) => {
-            let p = progress::slide_down(work, before);
+            let p = progress::make_room(work, newest, before, step);
             let end = p.end;
-            let at = find_clash(&work[..end], v);
-            let q = resolve(work, log, marks, p, v, at.one, at.other);
+            let at = find_clash(work, newest, end, v);
+            let q = resolve(work, newest, table, log, marks, p, v, at.one, at.other);
             Scan {
                 progress: q,
                 word: marks::word_of(v),
@@ -386,27 +376,46 @@ fn clear_next(work: &mut [i32], log: &mut [u8], marks: &mut [u32], s: Scan) -> S
 }
 
 // Clears the clashes of the marked variables, the lowest first.
-fn clear_marked(work: &mut [i32], log: &mut [u8], marks: &mut [u32], p: Progress) -> Progress
-    requires { ⌜ Clash-ready (clear-clashes (standing (now work) p)) (now work) p ⌝ }
+fn clear_marked(
+    work: &mut [i32],
+    newest: &mut [u32],
+    table: &mut [u32],
+    log: &mut [u8],
+    marks: &mut [u32],
+    p: Progress,
+    step: usize,
+) -> Progress
+    requires { ⌜ Clash-ready step (clear-clashes (standing (now work) p)) (now work) p × Indexed (now work) (p .end) (now newest) × (now table ≡ replicate input-size 0) ⌝ }
     requires { ⌜ Marks-clashes (standing (now work) p) (now marks) × (length (now marks) ≡ input-words) ⌝ }
-    ensures { λ r. ⌜ Runs (clear-clashes (standing (now (work .entry)) p)) (now (work .entry)) (now (log .entry)) p (now (work .exit)) (now (log .exit)) r ⌝ }
+    ensures runs { λ r. ⌜ Runs (clear-clashes (standing (now (work .entry)) p)) (now (work .entry)) (now (log .entry)) p (now (work .exit)) (now (log .exit)) r ⌝ }
+    ensures indexed { λ r. ⌜ Indexed (now (work .exit)) (r .end) (now (newest .exit)) ⌝ }
+    ensures table { λ _. ⌜ now (table .exit) ≡ replicate input-size 0 ⌝ }
 {
     let mut s = Scan {
         progress: p,
         word: 0,
     };
     while s.word < marks.len() {
-        s = clear_next(work, log, marks, s);
+        s = clear_next(work, newest, table, log, marks, s, step);
     }
     s.progress
 }
 
-// Clears all clashes of the store, the lowest variable first.
-pub fn clear_clashes(work: &mut [i32], log: &mut [u8], p: Progress) -> Progress
-    requires { ⌜ Clash-ready (clear-clashes (standing (now work) p)) (now work) p ⌝ }
-    ensures { λ r. ⌜ Runs (clear-clashes (standing (now (work .entry)) p)) (now (work .entry)) (now (log .entry)) p (now (work .exit)) (now (log .exit)) r ⌝ }
+// Clears all clashes of the store, the lowest variable first. There is room for what stands and so many elements more; a table of zeros is lent.
+pub fn clear_clashes(
+    work: &mut [i32],
+    newest: &mut [u32],
+    table: &mut [u32],
+    log: &mut [u8],
+    p: Progress,
+    step: usize,
+) -> Progress
+    requires { ⌜ Clash-ready step (clear-clashes (standing (now work) p)) (now work) p × Indexed (now work) (p .end) (now newest) × (now table ≡ replicate input-size 0) ⌝ }
+    ensures runs { λ r. ⌜ Runs (clear-clashes (standing (now (work .entry)) p)) (now (work .entry)) (now (log .entry)) p (now (work .exit)) (now (log .exit)) r ⌝ }
+    ensures indexed { λ r. ⌜ Indexed (now (work .exit)) (r .end) (now (newest .exit)) ⌝ }
+    ensures table { λ _. ⌜ now (table .exit) ≡ replicate input-size 0 ⌝ }
 {
     let mut marks = [0u32; marks::INPUT_WORDS];
     mark_clashes(&mut marks, work, p);
-    clear_marked(work, log, &mut marks, p)
+    clear_marked(work, newest, table, log, &mut marks, p, step)
 }

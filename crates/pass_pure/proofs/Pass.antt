@@ -28,6 +28,9 @@ use Rattle.tables.specs.Entries.{tallied-all}
 use Rattle.tables.specs.Counts.{Counts}
 use Rattle.store.specs.Store.{Formed, stored, deleted-at, clause-at, past, marked, Place}
 use Rattle.store.proofs.Laws.{place-start, place-formed, place-next, stored-end, stored-around, rest-deleted, rest-stands, marked-place, marked-past, marked-behind, marked-stored, part-there}
+use Rattle.index.specs.Index.{Indexed, Same-entries, Keeps-index}
+use Rattle.index.proofs.Walk.{marked-same, same-refl}
+use Rattle.index.proofs.Laws.{indexed-part}
 use Rattle.progress.specs.declared.Progress.{Progress}
 use Rattle.progress.specs.Progress.{Written, Log-room, standing, Good, Runs}
 use Rattle.progress.proofs.Laws.{lines-none, lines-one, written-none, written-then, room-rest, runs-lines, standing-part, good-counts, good-part}
@@ -149,6 +152,15 @@ module _ {F : Formula} {x y : Bytes} {p q : Progress} {s : List ℤ} {at : ℕ} 
       kept = k ∙ i .kept;
     }
 
+  -- only the clause's mark changes
+  module _ (t : List ℕ) (u : List ℤ) (z : Bytes) (r : Progress) where
+    marked-or-same : (o : Option ℤ) → Step o s at y q u z r → Same-entries s u
+    marked-or-same none w = rw (w .0) (same-refl s)
+    marked-or-same (some l) w = rw (w .0) (marked-same (i .place) h)
+
+    pub step-same : Step (pure-at t s at) s at y q u z r → Same-entries s u
+    step-same w = marked-or-same (pure-at t s at) w
+
   module _ (t : List ℕ) (f : Fits input-reach F) (k : Counts input-reach t F) (u : List ℤ) (z : Bytes) (r : Progress) where
     by-literal : deleted-at s at ≡ false → (o : Option ℤ) → pure-literal F (clause-at s at) ≡ o → Step o s at y q u z r → Passing F x p u (past s at) z r
     unfolding for-each pure-next
@@ -224,3 +236,7 @@ passable {work} {t} {p} g f e =
       table = subst (λ (F : Formula). Counts input-reach t F) k (good-counts g e);
       whole = length-take-le (p .end) work (g .inside);
     }
+
+-- its first elements changed only in marks
+pub part-keeps-index : (work part : List ℤ) (end : ℕ) {n : ℕ} → n ≡ end → Same-entries (take end work) part → Keeps-index work end (part ++ drop end work) n
+part-keeps-index work part end e s newest i = subst (λ (k : ℕ). Indexed (part ++ drop end work) k newest) (sym e) (indexed-part i s)

@@ -8,6 +8,7 @@ ghost use Rattle.theory_clearing.specs.Clashes.{Clash-free};
 ghost use Rattle.tables.specs.Sizes.{input-reach};
 ghost use Rattle.tables.specs.Counts.{pure-in};
 ghost use Rattle.store.specs.Store.{Formed};
+ghost use Rattle.index.specs.Index.{Same-entries, Keeps-index};
 ghost use Rattle.progress.specs.Progress.{standing, Good, Runs};
 ghost use Rattle.pass_pure.specs.Pass.{pure-by, as-pure, pure-at, Step, Passable};
 use progress::Progress;
@@ -68,7 +69,9 @@ fn delete_at(work: &mut [i32], at: usize, counts: &[u32], log: &mut [u8], p: Pro
 // Deletes clauses for a pure literal from a workspace that is all store, in list order.
 fn delete_all(work: &mut [i32], counts: &[u32], log: &mut [u8], p: Progress) -> Progress
     requires { ⌜ Passable (now work) (now counts) p ⌝ }
-    ensures { λ r. ⌜ Runs (clear-pure (standing (now (work .entry)) p)) (now (work .entry)) (now (log .entry)) p (now (work .exit)) (now (log .exit)) r ⌝ }
+    ensures runs { λ r. ⌜ Runs (clear-pure (standing (now (work .entry)) p)) (now (work .entry)) (now (log .entry)) p (now (work .exit)) (now (log .exit)) r ⌝ }
+    ensures same { λ _. ⌜ Same-entries (now (work .entry)) (now (work .exit)) ⌝ }
+    ensures kept { λ r. ⌜ r .end ≡ p .end ⌝ }
 {
     let mut q = p;
     let mut at = 0;
@@ -80,10 +83,11 @@ fn delete_all(work: &mut [i32], counts: &[u32], log: &mut [u8], p: Progress) -> 
     q
 }
 
-// Deletes clauses for a pure literal from a store in which no clash is left.
+// Deletes clauses for a pure literal from a store in which no clash is left. The store's index stays what it was.
 pub fn delete_pure(work: &mut [i32], log: &mut [u8], p: Progress) -> Progress
     requires { ⌜ Good input-reach (clear-pure (standing (now work) p)) (now work) p × Clash-free (standing (now work) p) ⌝ }
-    ensures { λ r. ⌜ Runs (clear-pure (standing (now (work .entry)) p)) (now (work .entry)) (now (log .entry)) p (now (work .exit)) (now (log .exit)) r ⌝ }
+    ensures runs { λ r. ⌜ Runs (clear-pure (standing (now (work .entry)) p)) (now (work .entry)) (now (log .entry)) p (now (work .exit)) (now (log .exit)) r ⌝ }
+    ensures index { λ r. ⌜ Keeps-index (now (work .entry)) (p .end) (now (work .exit)) (r .end) ⌝ }
 {
     let end = p.end;
     let mut counts = [0u32; tables::INPUT_SIZE];

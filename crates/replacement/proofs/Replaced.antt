@@ -1,42 +1,29 @@
--- The definition's words by the table of places: which clauses are replaced, by what, and which results hold a literal and its negation. Assumes nothing.
+-- The definition's words by the table of places: what stands for a literal, and which results hold a literal and its negation. Assumes nothing.
 use mathlib.Core.Path.{_≡_, refl, sym, ap, _∙_}
-use mathlib.Core.Bool.{Bool, true, false, cond}
-use mathlib.Core.List.{List, [], _∷_, List·Memᴰ, List·Memᴰ·head as here, List·Memᴰ·tail as there, Memᴰ·cast, List·Memᴰ·not-nil}
+use mathlib.Core.List.{List, Memᴰ·cast}
 use mathlib.Core.Option.{Option, some, none}
-use Prim.Native.Nat.{ℕ, suc, _+_, _-_, _≤_, _<_}
+use Prim.Native.Nat.{ℕ, _+_, _-_, _≤_, _<_}
 use native.Mathlib.Omega.{arith}
 use lib.Dec.{T, ltb, eqb}
-use lib.IntN.{ℤ, pos, negℤ, negℤ-negℤ}
+use lib.IntN.{ℤ, negℤ}
 use lib.ListN.{length, getD, replicate}
 use borrow.Author.Tests.{lt-ltb, ltb-true, eqb-true, eq-eqb}
-use Rattle.definition.specs.Lists.{any, for-each}
-use Rattle.definition.specs.Literals.{Clause, same, opposes, opposed}
+use Rattle.definition.specs.Lists.{for-each}
+use Rattle.definition.specs.Literals.{Clause, opposed}
 use Rattle.definition.specs.Events.{Choice}
 use Rattle.definition.specs.Counter.{size, lit, new}
 use Rattle.definition.specs.Order.{place-from, previous, negated-new, instead-of, replaced}
 use Rattle.theory_base.proofs.Tests.{of-true, to-true, each-way, and-l, and-r, and-i}
-use Rattle.theory_base.proofs.Members.{unlike, any-mem, mem-any, opposes-mem, mem-opposes}
+use Rattle.theory_base.proofs.Members.{any-mem, mem-any}
 use Rattle.theory_base.specs.Clauses.{Proper, Fit-all}
 use Rattle.theory_base.proofs.Places.{place-of}
 use Rattle.theory_base.proofs.Fitting.{Up-to}
-use Rattle.theory_base.proofs.Loops.{getD-mem}
 use Rattle.theory_counter.specs.Ready.{Well-formed}
 use Rattle.theory_order.proofs.Results.{Neighbours, opposed-exactly}
 use Rattle.tables.specs.Places.{place-in, number-of, Places}
 use Rattle.tables.proofs.Places.{place-there, place-back}
 use Rattle.replacement.proofs.Marks.{mark-tells}
-use Rattle.replacement.specs.Replaced.{negated-in, with-place-marks, next-in, opposed-by, instead-by}
-
--- a literal of the clause has a place
-place-of-mem : (i : ℕ) (x : ℤ) (c : Clause) → 0 < i → List·Memᴰ x c → 0 < number-of (place-from i x c)
-unfolding place-from
-place-of-mem i x [] h j = absurd (List·Memᴰ·not-nil j)
-place-of-mem i x (a ∷ c) h j = go (same x a) refl j (place-of-mem (suc i) x c (omega arith))
-  where
-    go : (b : Bool) → same x a ≡ b → List·Memᴰ x (a ∷ c) → (List·Memᴰ x c → 0 < number-of (place-from (suc i) x c)) → 0 < number-of (cond b (some i) (place-from (suc i) x c))
-    go true e j ih = h
-    go false e (here q) ih = absurd (unlike x a e q)
-    go false e (there j) ih = ih j
+use Rattle.replacement.specs.Replaced.{with-place-marks, next-in, opposed-by, instead-by}
 
 -- ---- the choice's words
 
@@ -76,28 +63,6 @@ module _ {t : List ℕ} (k : Choice) (v : Places t (k .literals)) where
       go (some p) e =
           let q : place-in t m ≡ p = v .told m ∙ ap number-of e in
           rw q (rw (lt-ltb 0 p (omega (arith, place-of 1 (negℤ m) l p e .1))) refl)
-
-  lit-mem : (p : ℕ) → 0 < p → p ≤ size k → List·Memᴰ (lit k p) l
-  unfolding lit size
-  lit-mem p h b = getD-mem l (p - 1) (pos 0) (omega arith)
-
-  pub negated-is : (d : Clause) → any (negated-in t) d ≡ opposes (k .literals) d
-  negated-is d = each-way one two
-    where
-      one : T (any (negated-in t) d) → T (opposes l d)
-      one a =
-          let r = any-mem (negated-in t) d a in
-          let p = place-in t (r .0) in
-          let h : 0 < p = ltb-true 0 p (to-true (r .2)) in
-          let q = placed-at (r .0) h in
-          mem-opposes l d (lit k p) (lit-mem p h (q .0)) (Memᴰ·cast (sym (q .1)) (r .1))
-
-      two : T (opposes l d) → T (any (negated-in t) d)
-      two a =
-          let r = opposes-mem l d a in
-          let h = place-of-mem 1 (r .0) l (omega arith) (r .1) in
-          let e : place-in t (negℤ (r .0)) ≡ number-of (place-from 1 (r .0) l) = v .told (negℤ (r .0)) ∙ ap (λ (z : ℤ). number-of (place-from 1 z l)) (negℤ-negℤ (r .0)) in
-          mem-any (negated-in t) d (negℤ (r .0)) (r .2) (of-true (lt-ltb 0 (place-in t (negℤ (r .0))) (omega arith)))
 
   -- the next place is marked exactly where the clause holds the negation of the next literal
   pub opposed-is : Well-formed k → length (k .literals) ≤ 64 → (d : Clause) → Proper d → Fit-all (k .below) d → opposed-by t d ≡ opposed (replaced k d)

@@ -9,10 +9,6 @@ use Rattle.definition.specs.Lists.{any, only-if}
 use Rattle.definition.specs.Literals.{Clause}
 use Rattle.tables.specs.Places.{place-in}
 
--- m is a negated choice literal
-abbrev pub negated-in : List ℕ → ℤ → Bool
-negated-in t m = ltb 0 (place-in t m)
-
 -- ---- whether the result holds a literal and its negation
 
 -- marks at the places of the negated choice literals of a clause

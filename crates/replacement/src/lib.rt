@@ -5,7 +5,7 @@ ghost use Prim.Native.Nat.{_+_, _≤_};
 ghost use lib.ListN.{length, take, drop};
 ghost use lib.Seq.{sets};
 ghost use Rattle.definition.specs.Lists.{any, only-if};
-ghost use Rattle.definition.specs.Literals.{Clause, opposes, opposed};
+ghost use Rattle.definition.specs.Literals.{opposed};
 ghost use Rattle.definition.specs.Events.{Choice, choice-of};
 ghost use Rattle.definition.specs.Order.{replaced};
 ghost use Rattle.theory_base.specs.Clauses.{Proper, Fit-all};
@@ -14,20 +14,6 @@ ghost use Rattle.tables.specs.Sizes.{log-reach};
 ghost use Rattle.tables.specs.Places.{Places, Small};
 ghost use Rattle.store.specs.Store.{entry};
 ghost use Rattle.replacement.specs.Replaced.{with-place-marks, next-in, instead-by};
-
-// Whether a clause holds a negated literal of the choice whose table it is.
-pub fn any_negated(places: &[u32], clause: &[i32]) -> bool
-    ensures { λ r. ⌜ ((l : Clause) → Places (now (places .entry)) l → r ≡ opposes l (now (clause .entry))) ⌝ }
-{
-    let mut i = 0;
-    while i < clause.len() {
-        if 0 < tables::place_of(places, clause[i]) {
-            return true;
-        }
-        i += 1;
-    }
-    false
-}
 
 // ---- whether the result holds a literal and its negation: the clause holds the negations of two neighbours
 

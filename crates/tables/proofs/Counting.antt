@@ -1,13 +1,14 @@
 -- A table counted from zeros: its entry at a literal is the number of clauses in which the literal stands, and the tests by it are the definition's. Assumes nothing.
 use mathlib.Core.Path.{_≡_, refl, sym, ap, _∙_}
 use mathlib.Core.Bool.{Bool, true, false, not, cond, _&&_, _||_, and-true, and-false}
-use mathlib.Core.List.{List, [], _∷_, List·Memᴰ}
+use mathlib.Core.Logic.{_≢_}
+use mathlib.Core.List.{List, [], _∷_, List·Memᴰ, List·Memᴰ·head as here, List·Memᴰ·tail as there}
 use Prim.Native.Nat.{ℕ, _+_, _≤_, _<_, min}
 use native.Mathlib.Omega.{arith}
 use lib.Dec.{eqb, ltb, leb}
 use lib.IntN.{ℤ, pos, negℤ, natAbs}
 use lib.ListN.{length, getD, set, drop, length-set, replicate, length-replicate}
-use lib.Seq.{set-getD}
+use lib.Seq.{set-getD, getD-set-other}
 use borrow.Author.Tests.{lt-ltb, le-ltb, le-leb, lt-leb}
 use Rattle.definition.specs.Lists.{bit, any, all, count, sum-of}
 use Rattle.definition.specs.Literals.{Clause, Formula, same, holds, repeated}
@@ -16,12 +17,12 @@ use Rattle.theory_base.specs.Clauses.{Proper-all}
 use Rattle.theory_base.proofs.Clauses.{proper-unrepeated}
 use Rattle.theory_base.proofs.Tests.{of-true, differ, by-test, to-false}
 use Rattle.theory_base.proofs.Members.{same-eq, any-mem, natAbs-neg, all-same}
-use Rattle.theory_base.proofs.Slices.{drop-step, drop-end}
+use Rattle.theory_base.proofs.Slices.{drop-step, drop-end, getD-zeros}
 use Rattle.literals.specs.Literal.{index-of, negation}
 use Rattle.literals.proofs.Laws.{negation-small, index-within}
-use Rattle.tables.specs.Entries.{entry-of, most, counted-at, tallied, tallied-all}
+use Rattle.tables.specs.Entries.{entry-of, most, with-entries, counted-at, tallied, tallied-all}
 use Rattle.tables.specs.Counts.{Counts, once-in, pure-in, unique-by, choice-by, deletable-by}
-use Rattle.tables.proofs.Laws.{entry-zeros, entry-set}
+use Rattle.tables.proofs.Laws.{entry-zeros, entry-set, reset-zeros}
 
 -- ---- the code's ways
 
@@ -75,6 +76,18 @@ length-tallied : (t : List ℕ) (c : Clause) → length (tallied t c) ≡ length
 unfolding tallied
 length-tallied t [] = refl
 length-tallied t (l ∷ c) = length-tallied (counted-at t (index-of l)) c ∙ length-set t (index-of l) _
+
+-- an index of no literal of the clause keeps its entry
+tallied-other : (c : Clause) (t : List ℕ) (i : ℕ) → ((l : ℤ) → List·Memᴰ l c → index-of l ≢ i) → getD (tallied t c) i 0 ≡ getD t i 0
+unfolding tallied
+tallied-other [] t i n = refl
+tallied-other (x ∷ c) t i n =
+    tallied-other c (counted-at t (index-of x)) i (λ l m. n l (there m))
+    ∙ getD-set-other t (index-of x) i (min (getD t (index-of x) 0 + 1) most) 0 (λ q. n x (here refl) (sym q))
+
+-- a clause counted in a table of zeros leaves no trace once its entries are 0
+pub uncounted : (n : ℕ) (c : Clause) → with-entries (tallied (replicate n 0) c) c 0 ≡ replicate n 0
+uncounted n c = reset-zeros n (tallied (replicate n 0) c) c (length-tallied (replicate n 0) c ∙ length-replicate {A = ℕ} n 0) (λ i f. tallied-other c (replicate n 0) i f ∙ getD-zeros n i)
 
 -- ---- an entry counts the places of its literal
 

@@ -1,9 +1,9 @@
 -- Entries read after they are set, and marks in a table of stamps. Assumes nothing.
-use mathlib.Core.Path.{_≡_, refl, sym, ap, _∙_}
+use mathlib.Core.Path.{_≡_, refl, sym, ap, ap₂, _∙_}
 use mathlib.Core.Logic.{_≢_}
 use mathlib.Core.Bool.{Bool, true, false, cond, _||_, or-false, or-true}
-use mathlib.Core.List.{List, [], _∷_, _++_}
-use Prim.Native.Nat.{ℕ, _+_, _≤_, _<_}
+use mathlib.Core.List.{List, [], _∷_, _++_, List·Memᴰ, List·Memᴰ·head as here, List·Memᴰ·tail as there}
+use Prim.Native.Nat.{ℕ, zero, suc, _+_, _≤_, _<_}
 use native.Mathlib.Omega.{arith}
 use lib.Dec.{eqb, ltb}
 use lib.IntN.{ℤ, pos, negsuc, negℤ, natAbs}
@@ -80,6 +80,35 @@ entry-set-all t (x ∷ c) v l h =
     go true true = refl
     go true false = refl
     go false b = refl
+
+-- ---- back to zeros
+
+-- entry by entry
+pub zeros-by-entry : (t : List ℕ) (n : ℕ) → length t ≡ n → ((i : ℕ) → _≡_ {A = ℕ} (getD t i 0) 0) → t ≡ replicate n 0
+zeros-by-entry [] zero e h = refl
+zeros-by-entry [] (suc n) e h = absurd (omega arith)
+zeros-by-entry (x ∷ t) zero e h = absurd (omega arith)
+zeros-by-entry (x ∷ t) (suc n) e h = ap₂ (λ (y : ℕ) (r : List ℕ). y ∷ r) (h 0) (zeros-by-entry t n (omega arith) (λ i. h (suc i)))
+
+zero-set : (t : List ℕ) (i : ℕ) → _≡_ {A = ℕ} (getD (set t i 0) i 0) 0
+zero-set t i = by-test (ltb i (length t))
+    (λ e. getD-set-same t i 0 0 (ltb-true i (length t) e))
+    (λ e. List·getD-eq-default (set t i 0) 0 (omega (arith, ltb-false i (length t) e, length-set t i 0)))
+
+-- a table with no entry but those of a clause is all zeros once they are set to 0
+pub reset-zeros : (n : ℕ) (t : List ℕ) (c : Clause) → length t ≡ n → ((i : ℕ) → ((l : ℤ) → List·Memᴰ l c → index-of l ≢ i) → _≡_ {A = ℕ} (getD t i 0) 0) → with-entries t c 0 ≡ replicate n 0
+unfolding with-entries
+reset-zeros n t [] e h = zeros-by-entry t n e (λ i. h i (λ l. elim [ ]))
+reset-zeros n t (x ∷ c) e h = reset-zeros n (set t (index-of x) 0) c (length-set t (index-of x) 0 ∙ e) rest
+  where
+    rest : (i : ℕ) → ((l : ℤ) → List·Memᴰ l c → index-of l ≢ i) → _≡_ {A = ℕ} (getD (set t (index-of x) 0) i 0) 0
+    rest i f = by-test (eqb i (index-of x))
+        (λ q. rw (eqb-true i (index-of x) q) (zero-set t (index-of x)))
+        (λ q. getD-set-other t (index-of x) i 0 0 (eqb-false i (index-of x) q) ∙ h i (others (eqb-false i (index-of x) q)))
+      where
+        others : i ≢ index-of x → (l : ℤ) → List·Memᴰ l (x ∷ c) → index-of l ≢ i
+        others n l (here k) = λ q. n (sym q ∙ ap index-of k)
+        others n l (there m) = f l m
 
 -- ---- stamps
 

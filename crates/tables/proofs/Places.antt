@@ -1,5 +1,6 @@
 -- A clause's places, set in a table of zeros, say where each literal stands in it. Assumes nothing.
 use mathlib.Core.Path.{_≡_, refl, sym, ap, _∙_}
+use mathlib.Core.Logic.{_≢_}
 use mathlib.Core.Bool.{Bool, true, false, cond, not}
 use mathlib.Core.List.{List, [], _∷_, List·Memᴰ, List·Memᴰ·head as here, List·Memᴰ·tail as there}
 use mathlib.Core.Option.{Option, some, none}
@@ -9,6 +10,7 @@ use native.Mathlib.Omega.{arith}
 use lib.Dec.{leb, ltb}
 use lib.IntN.{ℤ, pos, negℤ, negℤ-negℤ, natAbs}
 use lib.ListN.{length, getD, set, drop, length-set, replicate, length-replicate}
+use lib.Seq.{getD-set-other}
 use borrow.Author.Tests.{leb-true, leb-false, ltb-true, ltb-false}
 use Rattle.definition.specs.Literals.{Clause, same}
 use Rattle.definition.specs.Order.{place-from}
@@ -16,12 +18,12 @@ use Rattle.theory_base.proofs.Tests.{of-true, by-test}
 use Rattle.theory_base.proofs.Members.{same-eq, unlike-false, natAbs-neg}
 use Rattle.theory_base.specs.Clauses.{Proper, Fit-all}
 use Rattle.theory_base.proofs.Places.{place-of, place-at}
-use Rattle.theory_base.proofs.Slices.{drop-step, drop-end}
+use Rattle.theory_base.proofs.Slices.{drop-step, drop-end, getD-zeros}
 use Rattle.literals.specs.Literal.{index-of, negation, negative, with-sign, largest}
 use Rattle.literals.proofs.Laws.{index-within, negation-small}
-use Rattle.tables.specs.Entries.{entry-of}
+use Rattle.tables.specs.Entries.{entry-of, with-entries}
 use Rattle.tables.specs.Places.{with-numbers, place-in, number-of, Places}
-use Rattle.tables.proofs.Laws.{entry-past, entry-zeros, entry-set, entry-set-other}
+use Rattle.tables.proofs.Laws.{entry-past, entry-zeros, entry-set, entry-set-other, reset-zeros}
 
 pub numbers-step : (t : List ℕ) (s : Clause) (i : ℕ) → i < length s → with-numbers (set t (index-of (getD s i (pos 0))) (i + 1)) (i + 1 + 1) (drop (i + 1) s) ≡ with-numbers t (i + 1) (drop i s)
 unfolding with-numbers
@@ -35,6 +37,18 @@ length-numbers : (t : List ℕ) (i : ℕ) (c : Clause) → length (with-numbers 
 unfolding with-numbers
 length-numbers t i [] = refl
 length-numbers t i (l ∷ c) = length-numbers (set t (index-of l) i) (i + 1) c ∙ length-set t (index-of l) i
+
+-- an index of no literal of the clause keeps its entry
+numbers-other : (c : Clause) (t : List ℕ) (k i : ℕ) → ((l : ℤ) → List·Memᴰ l c → index-of l ≢ i) → getD (with-numbers t k c) i 0 ≡ getD t i 0
+unfolding with-numbers
+numbers-other [] t k i n = refl
+numbers-other (x ∷ c) t k i n =
+    numbers-other c (set t (index-of x) k) (k + 1) i (λ l m. n l (there m))
+    ∙ getD-set-other t (index-of x) i k 0 (λ q. n x (here refl) (sym q))
+
+-- a clause's places in a table of zeros leave no trace once its entries are 0
+pub unplaced : (n : ℕ) (c : Clause) → with-entries (with-numbers (replicate n 0) 1 c) c 0 ≡ replicate n 0
+unplaced n c = reset-zeros n (with-numbers (replicate n 0) 1 c) c (length-numbers (replicate n 0) 1 c ∙ length-replicate {A = ℕ} n 0) (λ i f. numbers-other c (replicate n 0) 1 i f ∙ getD-zeros n i)
 
 -- a literal that is not in the clause keeps its entry
 kept-number : (x : ℤ) (c : Clause) (t : List ℕ) (i : ℕ) → (List·Memᴰ x c → ⊥) → entry-of (with-numbers t i c) x ≡ entry-of t x

@@ -10,8 +10,8 @@ slice-aggregate-mark-clashes c = search needs
 
 mark-clashes-requires : tie.Need-mark-clashes-requires
 mark-clashes-requires c κs =
-    let start = c .before .before .before in
-    (good-first [] _ (start .pre .good), refl)
+    let start = c .before .before .before .before .before in
+    (good-first [] _ (start .pre .0 .good), refl)
 
 slice-aggregate-clear-marked : tie.Need-slice-aggregate-clear-marked
 slice-aggregate-clear-marked c = search needs
@@ -24,6 +24,12 @@ same-length c = search needs
 
 same-length-2 : tie.Need-same-length-2
 same-length-2 c = search needs
+
+same-length-3 : tie.Need-same-length-3
+same-length-3 c = search needs
+
+same-length-4 : tie.Need-same-length-4
+same-length-4 c = search needs
 
 returns : tie.Need-returns
 returns c = search needs
@@ -38,4 +44,6 @@ clear-clashes-spec =
     clear-marked-requires
     same-length
     same-length-2
+    same-length-3
+    same-length-4
     returns)

@@ -1,5 +1,8 @@
 -- Invariant: what happened and what is left are all the events, and the marks are the clashes left (Scan, Scanned).
-use mathlib.Core.Path.{sym, _∙_}
+use mathlib.Core.Path.{sym, ap, _∙_}
+use mathlib.Core.List.{List}
+use Prim.Native.Nat.{ℕ}
+use lib.ListN.{length}
 use denote.Ref.{now}
 use Rattle.progress.proofs.Laws.{written-length, runs-written}
 use Rattle.pass_clashes.specs.Scan.{Scanned, turns-left}
@@ -8,32 +11,32 @@ use Rattle.pass_clashes.proofs.clear_marked.Statement.{statement}
 use Rattle.pass_clashes.proofs.clear_marked.Tie as tie
 
 abbrev Inv-loop : tie.InvT-loop
-Inv-loop work₀ log₀ marks₀ s₀ work log marks s = Scanned work₀ log₀ marks₀ s₀ work log marks s
+Inv-loop work₀ newest₀ table₀ log₀ marks₀ step s₀ work newest table log marks s = Scanned step work₀ log₀ s₀ work newest table log marks s
 
 abbrev μ-loop : tie.MeasureT-loop
-μ-loop work₀ log₀ marks₀ s₀ work log marks s = turns-left work s
+μ-loop work₀ newest₀ table₀ log₀ marks₀ step s₀ work newest table log marks s = turns-left work s
 
 loop-holds : tie.Need-loop-holds Inv-loop μ-loop
 loop-holds c =
-    let start = c .before .before in
-    scanned-start (now (start .args .log)) (now (start .args .marks)) (start .pre .0) (start .pre .1 .0)
+    let start = c .before .before .before .before in
+    scanned-start (now (start .args .log)) (start .pre .0 .0) (start .pre .0 .1) (start .pre .0 .2) (start .pre .1 .0)
     (start .pre .1 .1)
 
 clear-next-requires : tie.Need-clear-next-requires Inv-loop μ-loop
 clear-next-requires c κs =
-    let back = c .before .before .before in let if1 = back .if1 in
+    let back = c .before .before .before .before .before in let if1 = back .if1 in
     let loop = back .before .before .loop in
     (loop .inv .searching, if1 .taken)
 
 loop-less : tie.Need-loop-less Inv-loop μ-loop
 loop-less c =
-    let clear-next = c .before .before .before .before .before .clear-next in
+    let clear-next = c .before .before .before .before .before .before .before .before .before .clear-next in
     clear-next .ensures .1
 
 loop-again : tie.Need-loop-again Inv-loop μ-loop
 loop-again c =
-    let back = c .before .before .before .before .before in let clear-next = back .clear-next in
-    let loop = back .before .before .before .before .before .before .loop in
+    let back = c .before .before .before .before .before .before .before .before .before in let clear-next = back .clear-next in
+    let loop = back .before .before .before .before .before .before .before .before .loop in
     scanned-then (loop .inv) (clear-next .ensures .0)
 
 same-length : tie.Need-same-length Inv-loop μ-loop
@@ -43,19 +46,31 @@ same-length c =
 
 same-length-2 : tie.Need-same-length-2 Inv-loop μ-loop
 same-length-2 c =
-    let loop = c .before .before .before .loop in
-    written-length (runs-written (loop .inv .runs))
+    let back = c .before .before .before in let loop = back .loop in
+    let start = back .before .before .before .before .before in
+    loop .inv .searching .indexed .size ∙ sym (start .pre .0 .1 .size)
 
 same-length-3 : tie.Need-same-length-3 Inv-loop μ-loop
 same-length-3 c =
     let back = c .before .before .before in let loop = back .loop in
-    let start = back .before .before .before in
+    let start = back .before .before .before .before .before in
+    ap (λ (t : List ℕ). length t) (loop .inv .searching .zeros ∙ sym (start .pre .0 .2))
+
+same-length-4 : tie.Need-same-length-4 Inv-loop μ-loop
+same-length-4 c =
+    let loop = c .before .before .before .loop in
+    written-length (runs-written (loop .inv .runs))
+
+same-length-5 : tie.Need-same-length-5 Inv-loop μ-loop
+same-length-5 c =
+    let back = c .before .before .before in let loop = back .loop in
+    let start = back .before .before .before .before .before in
     loop .inv .searching .size ∙ sym (start .pre .1 .1)
 
 returns : tie.Need-returns Inv-loop μ-loop
 returns c =
     let loop = c .before .before .before .loop in
-    scanned-end (loop .inv) (c .before .if1 .left)
+    (scanned-end (loop .inv) (c .before .if1 .left), (loop .inv .searching .indexed, loop .inv .searching .zeros))
 
 pub clear-marked-spec : {M : Type 1} → statement M
 clear-marked-spec =
@@ -70,4 +85,6 @@ clear-marked-spec =
     same-length
     same-length-2
     same-length-3
+    same-length-4
+    same-length-5
     returns)

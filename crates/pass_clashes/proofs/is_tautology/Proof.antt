@@ -27,7 +27,9 @@ part-is-opposed-start : tie.Need-part-is-opposed-start
 part-is-opposed-start c = search needs
 
 part-is-opposed-end : tie.Need-part-is-opposed-end
-part-is-opposed-end c = omega (arith, parts-inside (c .before .before .pre .0) (c .before .next-at .ensures) (c .next-at2 .ensures))
+part-is-opposed-end c =
+    let start = c .before .before .before .before in
+    omega (arith, parts-inside (start .pre .0) (c .before .before .next-at .ensures) (c .before .next-at2 .ensures))
 
 mul-is-opposed-2 : tie.Need-mul-is-opposed-2
 mul-is-opposed-2 c = search needs
@@ -40,18 +42,25 @@ part-is-opposed-start-2 c = search needs
 
 part-is-opposed-end-2 : tie.Need-part-is-opposed-end-2
 part-is-opposed-end-2 c =
-    let start = c .before .before .before in
-    omega (arith, parts-inside (start .pre .0) (c .before .before .next-at .ensures) (c .before .next-at2 .ensures))
+    let back = c .before .before .before in let next-at = back .next-at in
+    let start = back .before .before in
+    omega (arith, parts-inside (start .pre .0) (next-at .ensures) (c .before .before .next-at2 .ensures))
 
 is-opposed-requires : tie.Need-is-opposed-requires
 is-opposed-requires c κs = search needs
 
+same-length : tie.Need-same-length
+same-length c = search needs
+
 returns : tie.Need-returns
 returns c =
-    let back = c .before .before .before in let next-at2 = back .next-at2 in
+    let back = c .before .before in let is-opposed = back .is-opposed in
+    let back = back .before .before .before .before in let next-at2 = back .next-at2 in
     let back = back .before in let next-at = back .next-at in
-    let start = back .before in
-    parts-opposed (start .pre .0) (next-at .ensures) (next-at2 .ensures) (c .is-opposed .ensures)
+    let start = back .before .before in (
+      parts-opposed (start .pre .0) (next-at .ensures) (next-at2 .ensures) (is-opposed .ensures .0),
+      is-opposed .ensures .1,
+    )
 
 pub is-tautology-spec : {M : Type 1} → statement M
 is-tautology-spec =
@@ -70,4 +79,5 @@ is-tautology-spec =
     part-is-opposed-start-2
     part-is-opposed-end-2
     is-opposed-requires
+    same-length
     returns)

@@ -1,12 +1,12 @@
--- The resolvent moves neither clause, and a tautology adds nothing (Resolved).
+-- The resolvent moves neither clause, a tautology adds nothing, and deletions keep the index (Resolved).
 use native.Mathlib.Omega.{arith}
-use mathlib.Core.Path.{refl, sym, _∙_}
+use mathlib.Core.Path.{refl, sym}
 use denote.Ref.{now}
 use lib.ListN.{take}
 use lib.Seq.{length-take-le}
 use Rattle.pass_clashes.specs.Clashes.{clash-there}
-use Rattle.pass_clashes.proofs.Adding.{parents, none-grown}
-use Rattle.pass_clashes.proofs.Resolved.{end-inside, parents-kept, room-kept, resolved, ended-dropped, ended-added}
+use Rattle.pass_clashes.proofs.Adding.{parents, opposed-as, none-grown}
+use Rattle.pass_clashes.proofs.Resolved.{end-inside, parents-kept, room-kept, resolved, resolved-indexed, ended-dropped, ended-added}
 use borrow.Author.Needs.{needs}
 use Rattle.pass_clashes.proofs.resolve.Statement.{statement}
 use Rattle.pass_clashes.proofs.resolve.Tie as tie
@@ -16,18 +16,19 @@ slice-reshare-prefix-is-tautology c = search needs
 
 slice-aggregate-is-tautology : tie.Need-slice-aggregate-is-tautology
 slice-aggregate-is-tautology c =
-    let start = c .before .before .before in
-    sym (length-take-le _ _ (start .pre .good .inside))
+    let start = c .before .before .before .before .before .before in
+    sym (length-take-le _ _ (start .pre .0 .good .inside))
 
 is-tautology-requires : tie.Need-is-tautology-requires
 is-tautology-requires c κs =
-    let start = c .before .before .before in (
-      parents (start .pre),
+    let start = c .before .before .before .before .before .before in (
+      parents (start .pre .0),
       omega (
         arith,
-        start .pre .good .small,
-        length-take-le (start .args .p .end) (now (start .args .work)) (start .pre .good .inside),
+        start .pre .0 .good .small,
+        length-take-le (start .args .p .end) (now (start .args .work)) (start .pre .0 .good .inside),
       ),
+      start .pre .1,
     )
 
 slice-reshare-prefix-unmark-entry : tie.Need-slice-reshare-prefix-unmark-entry
@@ -35,8 +36,8 @@ slice-reshare-prefix-unmark-entry c = search needs
 
 slice-aggregate-unmark-entry : tie.Need-slice-aggregate-unmark-entry
 slice-aggregate-unmark-entry c =
-    let start = c .before .before .before .before .before .before .before in
-    sym (length-take-le _ _ (start .pre .good .inside))
+    let start = c .before .before .before .before .before .before .before .before .before .before .before .before in
+    sym (length-take-le _ _ (start .pre .0 .good .inside))
 
 unmark-entry-requires : tie.Need-unmark-entry-requires
 unmark-entry-requires c κs = search needs
@@ -46,8 +47,8 @@ slice-reshare-prefix-unmark-entry-2 c = search needs
 
 slice-aggregate-unmark-entry-2 : tie.Need-slice-aggregate-unmark-entry-2
 slice-aggregate-unmark-entry-2 c =
-    let start = c .before .before .before .before .before .before .before .before .before .before .before .before in
-    sym (length-take-le _ _ (start .pre .good .inside))
+    let start = c .before .before .before .before .before .before .before .before .before .before .before .before .before .before .before .before .before in
+    sym (length-take-le _ _ (start .pre .0 .good .inside))
 
 unmark-entry-requires-2 : tie.Need-unmark-entry-requires-2
 unmark-entry-requires-2 c κs = search needs
@@ -57,16 +58,16 @@ slice-relend-prefix-delete-parents c = search needs
 
 slice-aggregate-delete-parents : tie.Need-slice-aggregate-delete-parents
 slice-aggregate-delete-parents c =
-    let start = c .before .before .before .before .before .before .before .before .before .before .before .before .before .before .before .before in
-    sym (length-take-le _ _ (start .pre .good .inside))
+    let start = c .before .before .before .before .before .before .before .before .before .before .before .before .before .before .before .before .before .before .before .before .before in
+    sym (length-take-le _ _ (start .pre .0 .good .inside))
 
 delete-parents-requires : tie.Need-delete-parents-requires
 delete-parents-requires c κs =
     let back = c .before .before .before .before .before .before .before .before .before .before .before .before in let if1 = back .if1 in
-    let back = back .before in let is-tautology = back .is-tautology in
-    let start = back .before .before .before .before in
-    let d = none-grown (start .pre) (now (start .args .log)) (sym (is-tautology .ensures) ∙ if1 .taken) in
-    (parents-kept (start .pre) d, room-kept (start .pre) d)
+    let back = back .before .before .before in let is-tautology = back .is-tautology in
+    let start = back .before .before .before .before .before .before .before in
+    let d = none-grown (start .pre .0) (now (start .args .log)) (opposed-as (start .pre .0) (is-tautology .ensures .0) (if1 .taken)) in
+    (parents-kept (start .pre .0) d, room-kept (start .pre .0) d)
 
 same-length : tie.Need-same-length
 same-length c = search needs
@@ -77,21 +78,27 @@ same-length-2 c = search needs
 same-length-3 : tie.Need-same-length-3
 same-length-3 c = search needs
 
+same-length-4 : tie.Need-same-length-4
+same-length-4 c = search needs
+
 returns : tie.Need-returns
 returns c =
     let back = c .before .before .before in let delete-parents = back .delete-parents in
     let back = back .before .before .before .before .before in let unmark-entry2 = back .unmark-entry2 in
     let back = back .before .before .before .before .before in let unmark-entry = back .unmark-entry in
     let back = back .before .before .before in let if1 = back .if1 in
-    let back = back .before in let is-tautology = back .is-tautology in
-    let start = back .before .before .before .before in
+    let back = back .before .before .before in let is-tautology = back .is-tautology in
+    let start = back .before .before .before .before .before .before .before in
     let k = clash-there (take (start .args .p .end) (now (start .args .work))) (start .args .v) (start .args .x)
     (start .args .y) in
-    let o = sym (is-tautology .ensures) ∙ if1 .taken in (
-      resolved (start .pre) (none-grown (start .pre) (now (start .args .log)) o) (delete-parents .kept .0) refl
-          (delete-parents .ensures),
-      ended-dropped k (now (start .args .marks)) (unmark-entry2 .last .0) (unmark-entry .last .0) o
-          (unmark-entry .ensures) (unmark-entry2 .ensures),
+    let o = opposed-as (start .pre .0) (is-tautology .ensures .0) (if1 .taken) in
+    let d = none-grown (start .pre .0) (now (start .args .log)) o in (
+      resolved (start .pre .0) d (delete-parents .kept .0) refl (delete-parents .ensures),
+      (
+        ended-dropped k (now (start .args .marks)) (unmark-entry2 .last .0) (unmark-entry .last .0) o
+            (unmark-entry .ensures) (unmark-entry2 .ensures),
+        (resolved-indexed (start .pre .0) d (delete-parents .ensures), is-tautology .ensures .1),
+      ),
     )
 
 clear-requires : tie.Need-clear-requires
@@ -99,31 +106,25 @@ clear-requires c κs = search needs
 
 add-resolvent-requires : tie.Need-add-resolvent-requires
 add-resolvent-requires c κs =
-    let back = c .before .before .before .before .before .before in let if1 = back .if1 in
-    let back = back .before in let is-tautology = back .is-tautology in
-    let start = back .before .before .before .before in
-    ((start .pre), sym (is-tautology .ensures) ∙ if1 .left)
+    let back = c .before .before .before .before .before .before .before in let if1 = back .if1 in
+    let back = back .before .before .before in let is-tautology = back .is-tautology in
+    let start = back .before .before .before .before .before .before .before in
+    (start .pre .0, opposed-as (start .pre .0) (is-tautology .ensures .0) (if1 .left))
 
 slice-relend-prefix-delete-parents-2 : tie.Need-slice-relend-prefix-delete-parents-2
-slice-relend-prefix-delete-parents-2 c =
-    let back = c .before .before .before in let add-resolvent = back .add-resolvent in
-    let start = back .before .before .before .before .before .before .before .before .before .before .before .before in
-    end-inside (start .pre) (add-resolvent .ensures)
+slice-relend-prefix-delete-parents-2 c = search needs
 
 slice-aggregate-delete-parents-2 : tie.Need-slice-aggregate-delete-parents-2
 slice-aggregate-delete-parents-2 c =
-    let back = c .before .before .before .before in let add-resolvent = back .add-resolvent in
-    let start = back .before .before .before .before .before .before .before .before .before .before .before .before in
-    sym (length-take-le _ _ (end-inside (start .pre) (add-resolvent .ensures)))
+    let back = c .before .before .before .before .before .before in let add-resolvent = back .add-resolvent in
+    let start = back .before .before .before .before .before .before .before .before .before .before .before .before .before .before .before .before .before .before in
+    sym (length-take-le _ _ (end-inside (start .pre .0) (add-resolvent .ensures)))
 
 delete-parents-requires-2 : tie.Need-delete-parents-requires-2
 delete-parents-requires-2 c κs =
-    let back = c .before .before .before .before .before in let add-resolvent = back .add-resolvent in
-    let start = back .before .before .before .before .before .before .before .before .before .before .before .before in
-    (parents-kept (start .pre) (add-resolvent .ensures), room-kept (start .pre) (add-resolvent .ensures))
-
-same-length-4 : tie.Need-same-length-4
-same-length-4 c = search needs
+    let back = c .before .before .before .before .before .before .before in let add-resolvent = back .add-resolvent in
+    let start = back .before .before .before .before .before .before .before .before .before .before .before .before .before .before .before .before .before .before in
+    (parents-kept (start .pre .0) (add-resolvent .ensures), room-kept (start .pre .0) (add-resolvent .ensures))
 
 same-length-5 : tie.Need-same-length-5
 same-length-5 c = search needs
@@ -131,20 +132,32 @@ same-length-5 c = search needs
 same-length-6 : tie.Need-same-length-6
 same-length-6 c = search needs
 
+same-length-7 : tie.Need-same-length-7
+same-length-7 c = search needs
+
+same-length-8 : tie.Need-same-length-8
+same-length-8 c = search needs
+
+same-length-9 : tie.Need-same-length-9
+same-length-9 c = search needs
+
 returns-2 : tie.Need-returns-2
 returns-2 c =
     let back = c .before .before .before in let delete-parents2 = back .delete-parents2 in
-    let back = back .before .before .before .before .before .before in let add-resolvent = back .add-resolvent in
-    let back = back .before .before .before .before .before in let clear = back .clear in
+    let back = back .before .before .before .before .before .before .before .before in let add-resolvent = back .add-resolvent in
+    let back = back .before .before .before .before .before .before in let clear = back .clear in
     let back = back .before .before in let if1 = back .if1 in
-    let back = back .before in let is-tautology = back .is-tautology in
-    let start = back .before .before .before .before in
+    let back = back .before .before .before in let is-tautology = back .is-tautology in
+    let start = back .before .before .before .before .before .before .before in
     let k = clash-there (take (start .args .p .end) (now (start .args .work))) (start .args .v) (start .args .x)
     (start .args .y) in (
-      resolved (start .pre) (add-resolvent .ensures) (delete-parents2 .kept .0) (add-resolvent .kept .0)
+      resolved (start .pre .0) (add-resolvent .ensures) (delete-parents2 .kept .0) (add-resolvent .kept .0)
           (delete-parents2 .ensures),
-      ended-added k (now (start .args .marks)) (clear .last .0) (sym (is-tautology .ensures) ∙ if1 .left)
-          (clear .ensures),
+      (
+        ended-added k (now (start .args .marks)) (clear .last .0) (opposed-as (start .pre .0) (is-tautology .ensures .0) (if1 .left))
+            (clear .ensures),
+        (resolved-indexed (start .pre .0) (add-resolvent .ensures) (delete-parents2 .ensures), is-tautology .ensures .1),
+      ),
     )
 
 pub resolve-spec : {M : Type 1} → statement M
@@ -166,13 +179,16 @@ resolve-spec =
     same-length
     same-length-2
     same-length-3
+    same-length-4
     returns
     clear-requires
     add-resolvent-requires
     slice-relend-prefix-delete-parents-2
     slice-aggregate-delete-parents-2
     delete-parents-requires-2
-    same-length-4
     same-length-5
     same-length-6
+    same-length-7
+    same-length-8
+    same-length-9
     returns-2)

@@ -1,6 +1,5 @@
-use mathlib.Core.Path.{refl}
 use denote.Ref.{now}
-use Rattle.pass_order.proofs.Steps.{opposed-there, none-added, entry-room, added-room, result-added}
+use Rattle.pass_order.proofs.Steps.{opposed-there, none-added, entry-room, added-ready, result-added}
 use borrow.Author.Needs.{needs}
 use Rattle.pass_order.proofs.add_result.Statement.{statement}
 use Rattle.pass_order.proofs.add_result.Tie as tie
@@ -28,30 +27,33 @@ same-length c = search needs
 
 returns : tie.Need-returns
 returns c =
-    let start = c .before .before .before .before .before .before in
-    none-added (start .pre .0 .0) (now (start .args .work)) (start .args .from) (start .args .n) (start .pre .1)
-    (now (start .args .log))
-    (opposed-there (start .pre .0 .0) (now (start .args .work)) (start .args .from) (start .args .n) (start .pre .1)
-    (c .before .is-opposed .ensures) (c .if1 .taken))
+    let start = c .before .before .before .before .before .before .before in
+    none-added (start .pre .0 .0) (now (start .args .work)) (start .args .from) (start .args .n) (start .pre .0 .2)
+    (start .pre .1) (now (start .args .log))
+    (opposed-there (start .pre .0 .0) (now (start .args .work)) (start .args .from) (start .args .n) (start .pre .0 .2)
+    (start .pre .1) (c .before .is-opposed .ensures) (c .if1 .taken))
 
 append-replaced-requires : tie.Need-append-replaced-requires
 append-replaced-requires c κs =
-    let start = c .before .before .before .before .before .before .before in (
+    let start = c .before .before .before .before .before .before .before .before in (
       (start .pre .0 .1, start .pre .0 .0 .places, start .pre .0 .0 .small),
-      entry-room (start .pre .0 .0) (now (start .args .work)) (start .args .from) (start .args .n) (start .pre .1)
+      entry-room (start .pre .0 .0) (now (start .args .work)) (start .args .from) (start .args .n) (start .pre .0 .2)
+          (start .pre .1)
           (opposed-there (start .pre .0 .0) (now (start .args .work)) (start .args .from) (start .args .n)
-          (start .pre .1) (c .before .before .is-opposed .ensures) (c .before .if1 .left)),
+          (start .pre .0 .2) (start .pre .1) (c .before .before .is-opposed .ensures) (c .before .if1 .left)),
     )
 
 record-added-requires : tie.Need-record-added-requires
 record-added-requires c κs =
-    let back = c .before .before .before in let append-replaced = back .append-replaced in
+    let back = c .before .before .before .before in let append-replaced = back .append-replaced in
     let back = back .before .before in let if1 = back .if1 in
     let back = back .before in let is-opposed = back .is-opposed in
-    let start = back .before .before .before .before .before in
-    added-room (start .pre .0 .0) (now (start .args .work)) (start .args .from) (start .args .n) (start .pre .1)
-    (opposed-there (start .pre .0 .0) (now (start .args .work)) (start .args .from) (start .args .n) (start .pre .1)
-    (is-opposed .ensures) (if1 .left)) refl (append-replaced .ensures .0) (append-replaced .ensures .1)
+    let start = back .before .before .before .before .before .before in
+    added-ready (start .pre .0 .0) (now (start .args .work)) (start .args .from) (start .args .n) (start .pre .0 .2)
+          (start .pre .1)
+          (opposed-there (start .pre .0 .0) (now (start .args .work)) (start .args .from) (start .args .n)
+          (start .pre .0 .2) (start .pre .1) (is-opposed .ensures) (if1 .left)) (append-replaced .ensures .0)
+          (append-replaced .ensures .1)
 
 same-length-2 : tie.Need-same-length-2
 same-length-2 c = search needs
@@ -59,17 +61,21 @@ same-length-2 c = search needs
 same-length-3 : tie.Need-same-length-3
 same-length-3 c = search needs
 
+same-length-4 : tie.Need-same-length-4
+same-length-4 c = search needs
+
 returns-2 : tie.Need-returns-2
 returns-2 c =
-    let back = c .before .before in let record-added = back .record-added in
-    let back = back .before .before .before .before in let append-replaced = back .append-replaced in
+    let back = c .before .before .before .before .before in let record-added = back .record-added in
+    let back = back .before .before .before .before .before in let append-replaced = back .append-replaced in
     let back = back .before .before in let if1 = back .if1 in
     let back = back .before in let is-opposed = back .is-opposed in
-    let start = back .before .before .before .before .before in
-    result-added (start .pre .0 .0) (now (start .args .work)) (start .args .from) (start .args .n) (start .pre .1)
-    (opposed-there (start .pre .0 .0) (now (start .args .work)) (start .args .from) (start .args .n) (start .pre .1)
-    (is-opposed .ensures) (if1 .left)) refl (append-replaced .ensures .0) (append-replaced .ensures .1)
-    (record-added .ensures .0) (record-added .ensures .1)
+    let start = back .before .before .before .before .before .before in
+    result-added (start .pre .0 .0) (now (start .args .work)) (start .args .from) (start .args .n) (start .pre .0 .2)
+    (start .pre .1)
+    (opposed-there (start .pre .0 .0) (now (start .args .work)) (start .args .from) (start .args .n) (start .pre .0 .2)
+    (start .pre .1) (is-opposed .ensures) (if1 .left)) (append-replaced .ensures .0) (append-replaced .ensures .1)
+    (record-added .ensures)
 
 pub add-result-spec : {M : Type 1} → statement M
 add-result-spec =
@@ -87,4 +93,5 @@ add-result-spec =
     record-added-requires
     same-length-2
     same-length-3
+    same-length-4
     returns-2)

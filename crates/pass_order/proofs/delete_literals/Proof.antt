@@ -10,26 +10,26 @@ use Rattle.pass_order.proofs.delete_literals.Statement.{statement}
 use Rattle.pass_order.proofs.delete_literals.Tie as tie
 
 abbrev Inv-loop : tie.InvT-loop
-Inv-loop store₀ log₀ choice below size q₀ i₀ store log q i = Deleting (deletions-of (choice-of choice below)) (length choice) store₀ log₀ q₀ i store log q
+Inv-loop work₀ newest log₀ choice below size q₀ i₀ work log q i = Deleting (deletions-of (choice-of choice below)) (length choice) work₀ newest log₀ q₀ i work log q
 
 abbrev μ-loop : tie.MeasureT-loop
-μ-loop store₀ log₀ choice below size q₀ i₀ store log q i = length choice + 1 - i
+μ-loop work₀ newest log₀ choice below size q₀ i₀ work log q i = length choice + 1 - i
 
 cast-size : tie.Need-cast-size Inv-loop μ-loop
 cast-size c = search needs
 
 loop-holds : tie.Need-loop-holds Inv-loop μ-loop
 loop-holds c =
-    let start = c .before in
+    let start = c .before .before in
     deleting-start (deletions-of (choice-of (now (start .args .choice)) (start .args .below)))
-    (length (now (start .args .choice))) (now (start .args .store)) (now (start .args .log)) (start .args .p)
-    (start .pre .1 .formed)
+    (length (now (start .args .choice))) (now (start .args .work)) (now (start .args .log)) (start .args .p)
+    (start .pre .1 .indexed)
 
 delete-literal-requires : tie.Need-delete-literal-requires Inv-loop μ-loop
 delete-literal-requires c κs =
     let back = c .before .before in let loop-test = back .loop-test in
     let back = back .before in let loop = back .loop in
-    let start = back .before .before in
+    let start = back .before .before .before in
     ((loop .inv .from, loop-test .taken, start .pre .0), deleting-room (loop .inv) (loop-test .taken) (start .pre .1))
 
 add-i : tie.Need-add-i Inv-loop μ-loop
@@ -45,10 +45,10 @@ loop-again c =
     let back = c .before .before .before in let delete-literal = back .delete-literal in
     let back = back .before .before .before in let loop-test = back .loop-test in
     let loop = back .before .loop in
-    deleting-step (loop .inv) (loop-test .taken) (delete-literal .kept .0) (delete-literal .ensures)
+    deleting-step (loop .inv) (loop-test .taken) (delete-literal .ensures)
 
 same-length : tie.Need-same-length Inv-loop μ-loop
-same-length c = c .before .loop .inv .size
+same-length c = c .before .loop .inv .done .size
 
 same-length-2 : tie.Need-same-length-2 Inv-loop μ-loop
 same-length-2 c = c .before .loop .inv .log-size

@@ -9,7 +9,7 @@ use borrow.Author.Needs.{sfits-of, needs}
 use lib.Seq.{length-take-le}
 use Rattle.definition.specs.Literals.{Clause}
 use Rattle.pass_order.specs.Order.{Deletable, Deletes}
-use Rattle.pass_order.proofs.Deleting.{positive-is, first-fits, second-fits, clause-fits}
+use Rattle.pass_order.proofs.Deleting.{positive-is, positive-first, first-fits, second-fits, clause-fits}
 use Rattle.pass_order.proofs.delete_positive.Statement.{statement}
 use Rattle.pass_order.proofs.delete_positive.Tie as tie
 
@@ -24,7 +24,7 @@ slice-aggregate-put-if c = search needs
 
 put-if-requires : tie.Need-put-if-requires
 put-if-requires c κs =
-    let start = c .before .before .before in
+    let start = c .before .before .before .before in
     first-fits (ltb (start .args .i) (start .args .size)) (toZ w32 (ofZ w32 (c .before .signed .result)))
 
 sub-signed : tie.Need-sub-signed
@@ -43,7 +43,7 @@ put-if-requires-2 : tie.Need-put-if-requires-2
 put-if-requires-2 c κs =
     let back = c .before .before .before in let put-if = back .put-if in
     let back = back .before .before in let signed = back .signed in
-    let start = back .before .before in
+    let start = back .before .before .before in
     second-fits (ltb (start .args .i) (start .args .size)) (ltb 1 (start .args .i)) (toZ w32 (ofZ w32 (signed .result)))
     (toZ w32 (ofZ w32 (c .before .signed2 .result))) (put-if .ensures .0) (put-if .kept .0)
 
@@ -53,7 +53,7 @@ array-share-prefix-clause c =
     let back = back .before .before in let signed2 = back .signed2 in
     let back = back .before .before in let put-if = back .put-if in
     let back = back .before .before in let signed = back .signed in
-    let start = back .before .before in
+    let start = back .before .before .before in
     clause-fits (ltb (start .args .i) (start .args .size)) (ltb 1 (start .args .i)) (toZ w32 (ofZ w32 (signed .result)))
     (toZ w32 (ofZ w32 (signed2 .result))) (put-if .ensures .0) (put-if .kept .0) (put-if2 .ensures .0)
     (put-if2 .kept .0) .0
@@ -64,12 +64,12 @@ slice-aggregate-delete-clause c =
     let back = back .before .before in let signed2 = back .signed2 in
     let back = back .before .before in let put-if = back .put-if in
     let back = back .before .before in let signed = back .signed in
-    let start = back .before .before in
+    let start = back .before .before .before in
     sym
     (length-take-le (put-if2 .result) (put-if2 .last .0)
-    (clause-fits (ltb (start .args .i) (start .args .size)) (ltb 1 (start .args .i)) (toZ w32 (ofZ w32 (signed .result)))
-    (toZ w32 (ofZ w32 (signed2 .result))) (put-if .ensures .0) (put-if .kept .0) (put-if2 .ensures .0)
-    (put-if2 .kept .0) .0))
+    (clause-fits (ltb (start .args .i) (start .args .size)) (ltb 1 (start .args .i))
+    (toZ w32 (ofZ w32 (signed .result))) (toZ w32 (ofZ w32 (signed2 .result))) (put-if .ensures .0) (put-if .kept .0)
+    (put-if2 .ensures .0) (put-if2 .kept .0) .0))
 
 delete-clause-requires : tie.Need-delete-clause-requires
 delete-clause-requires c κs =
@@ -77,16 +77,19 @@ delete-clause-requires c κs =
     let back = back .before .before in let signed2 = back .signed2 in
     let back = back .before .before in let put-if = back .put-if in
     let back = back .before .before in let signed = back .signed in
-    let start = back .before .before in
+    let start = back .before .before .before in
     let r = clause-fits (ltb (start .args .i) (start .args .size)) (ltb 1 (start .args .i))
     (toZ w32 (ofZ w32 (signed .result))) (toZ w32 (ofZ w32 (signed2 .result))) (put-if .ensures .0) (put-if .kept .0)
     (put-if2 .ensures .0) (put-if2 .kept .0) in
     let e = positive-is (start .args .l) (start .args .i) (start .args .size) (start .args .below) (start .fits .l)
     (omega (arith, start .pre .0 .1, start .pre .0 .2)) (start .pre .0 .3) (signed .result) (signed2 .result)
     (sfits-of (signed .ok)) (sfits-of (signed2 .ok)) (signed .ensures) (signed2 .ensures) (put-if .ensures .0)
-    (put-if .ensures .1) (put-if2 .ensures .0) (put-if2 .ensures .1) in (
-      omega (arith, length-take-le (put-if2 .result) (put-if2 .last .0) (r .0), r .1),
-      subst (λ (d : Clause). Deletable (d ∷ []) (now (start .args .store)) (start .args .p)) (sym e) (start .pre .1),
+    (put-if .ensures .1) (put-if2 .ensures .0) (put-if2 .ensures .1) in
+    let first = positive-first (start .args .l) (start .args .i) (start .args .size) (start .args .below) e
+    (start .pre .0 .4) in (
+      (first .0, omega (arith, length-take-le (put-if2 .result) (put-if2 .last .0) (r .0), r .1), first .1),
+      subst (λ (d : Clause). Deletable (d ∷ []) (now (start .args .work)) (now (start .args .newest)) (start .args .p))
+          (sym e) (start .pre .1),
     )
 
 same-length : tie.Need-same-length
@@ -102,14 +105,15 @@ returns c =
     let back = back .before .before in let signed2 = back .signed2 in
     let back = back .before .before in let put-if = back .put-if in
     let back = back .before .before in let signed = back .signed in
-    let start = back .before .before in
+    let start = back .before .before .before in
     let e = positive-is (start .args .l) (start .args .i) (start .args .size) (start .args .below) (start .fits .l)
     (omega (arith, start .pre .0 .1, start .pre .0 .2)) (start .pre .0 .3) (signed .result) (signed2 .result)
     (sfits-of (signed .ok)) (sfits-of (signed2 .ok)) (signed .ensures) (signed2 .ensures) (put-if .ensures .0)
     (put-if .ensures .1) (put-if2 .ensures .0) (put-if2 .ensures .1) in
     subst
-    (λ (d : Clause). Deletes (d ∷ []) (now (start .args .store)) (now (start .args .log)) (start .args .p)
-    (delete-clause .last .0) (delete-clause .last .1 .0) (delete-clause .result)) e (delete-clause .ensures)
+    (λ (d : Clause). Deletes (d ∷ []) (now (start .args .work)) (now (start .args .newest)) (now (start .args .log))
+    (start .args .p) (delete-clause .last .0) (delete-clause .last .1 .1 .0) (delete-clause .result)) e
+    (delete-clause .ensures)
 
 pub delete-positive-spec : {M : Type 1} → statement M
 delete-positive-spec =

@@ -3,7 +3,7 @@ use mathlib.Core.Path.{sym}
 use lib.Seq.{length-take-le}
 use denote.Ref.{now}
 use Rattle.progress.proofs.Laws.{standing-part, runs-part}
-use Rattle.pass_pure.proofs.Pass.{passable}
+use Rattle.pass_pure.proofs.Pass.{passable, part-keeps-index}
 use borrow.Author.Needs.{needs}
 use Rattle.pass_pure.proofs.delete_pure.Statement.{statement}
 use Rattle.pass_pure.proofs.delete_pure.Tie as tie
@@ -48,9 +48,11 @@ same-length-2 c = search needs
 returns : tie.Need-returns
 returns c =
     let back = c .before .before .before in let delete-all = back .delete-all in
-    let start = back .before .before .before .before .before .before .before .before .before in
-    rw (standing-part (now (start .args .work)) (start .args .p)) at
-    (runs-part (now (start .args .work)) (delete-all .last .0) (start .pre .0 .inside) (delete-all .ensures))
+    let start = back .before .before .before .before .before .before .before .before .before in (
+      rw (standing-part (now (start .args .work)) (start .args .p)) at
+          (runs-part (now (start .args .work)) (delete-all .last .0) (start .pre .0 .inside) (delete-all .ensures .0)),
+      part-keeps-index (now (start .args .work)) (delete-all .last .0) (start .args .p .end) (delete-all .ensures .1 .1) (delete-all .ensures .1 .0),
+    )
 
 pub delete-pure-spec : {M : Type 1} → statement M
 delete-pure-spec =

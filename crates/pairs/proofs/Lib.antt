@@ -1,6 +1,6 @@
 -- Laws for the caller: Laws.
 pub mod Slots
-pub mod Walking
+pub mod Taking
 pub mod Lines
 pub mod Rows
 pub mod Fronts

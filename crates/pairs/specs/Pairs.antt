@@ -1,8 +1,8 @@
 -- The pairs of a choice: their slots in a table of counts, the pairs taken out of a store and counted, and their deletions by the counts.
 use mathlib.Core.Path.{_≡_}
-use mathlib.Core.Bool.{_&&_, cond}
+use mathlib.Core.Bool.{Bool, _&&_, cond}
 use mathlib.Core.List.{List, [], _∷_}
-use Prim.Native.Nat.{ℕ, suc, _+_, _-_, _*_, _<_}
+use Prim.Native.Nat.{ℕ, suc, _+_, _-_, _*_, _≤_, _<_}
 use lib.Dec.{eqb, ltb, leb}
 use lib.IntN.{ℤ, pos}
 use lib.ListN.{length, getD, replicate}
@@ -10,9 +10,11 @@ use Rattle.definition.specs.Lists.{count, those, for-from}
 use Rattle.definition.specs.Literals.{Clause, Formula}
 use Rattle.definition.specs.Standing.{Line, deletion}
 use Rattle.literals.specs.Literal.{negation}
-use Rattle.tables.specs.Entries.{counted-at}
+use Rattle.tables.specs.Entries.{most, counted-at}
 use Rattle.tables.specs.Places.{place-in}
 use Rattle.store.specs.Store.{Formed, stored, deleted-at, clause-at, marked}
+use Rattle.index.specs.Index.{Same-entries}
+use Rattle.index.specs.Reading.{Entry-with}
 
 -- the literal at a place, from 0 on
 abbrev pub literal-at : Clause → ℕ → ℤ
@@ -44,11 +46,34 @@ pub record Pair-step (t : List ℕ) (s : List ℤ) (at : ℕ) (counts : List ℕ
   pub store : new ≡ cond (ltb (slot-at t s at) slots) (marked s at) s
   pub counted : new-counts ≡ cond (ltb (slot-at t s at) slots) (counted-at counts (slot-at t s at)) counts
 
+abbrev pub no-pair : List ℕ → Clause → Bool
+no-pair t d = leb slots (slot-of t d)
+
+abbrev pub in-slot : List ℕ → ℕ → Clause → Bool
+in-slot t n d = eqb (slot-of t d) n
+
+-- no clause of F can make a count too large
+pub record Countable (t : List ℕ) (F : Formula) (counts : List ℕ) : Type 0 where
+  pub size : length counts ≡ slots
+  pub few : (n : ℕ) → n < slots → getD counts n 0 + count (in-slot t n) F ≤ most
+
+-- some pairs are deleted and counted; where there was none, there is none
+pub record Pairs-less (t : List ℕ) (s : List ℤ) (counts : List ℕ) (new : List ℤ) (new-counts : List ℕ) : Type 0 where
+  pub entries : Same-entries s new
+  pub size : length new-counts ≡ length counts
+  pub others : those (no-pair t) (stored new) ≡ those (no-pair t) (stored s)
+  pub counted : (n : ℕ) → n < slots → getD new-counts n 0 + count (in-slot t n) (stored new) ≡ getD counts n 0 + count (in-slot t n) (stored s)
+  pub none : (l : ℤ) (at : ℕ) → Entry-with l s at → slots ≤ slot-at t s at → slots ≤ slot-at t new at
+
+-- no pair that stands holds the literal
+abbrev pub No-pair-with : ℤ → List ℕ → List ℤ → Type 0
+No-pair-with l t s = (at : ℕ) → Entry-with l s at → slots ≤ slot-at t s at
+
 -- of F the clauses that are no pairs are left, and the others are counted
 pub record Pairs-taken (t : List ℕ) (F : Formula) (s : List ℤ) (counts : List ℕ) : Type 0 where
   pub formed : Formed s
-  pub stands : stored s ≡ those (λ d. leb slots (slot-of t d)) F
-  pub counted : (n : ℕ) → n < slots → getD counts n 0 ≡ count (λ d. eqb (slot-of t d) n) F
+  pub stands : stored s ≡ those (no-pair t) F
+  pub counted : (n : ℕ) → n < slots → getD counts n 0 ≡ count (in-slot t n) F
 
 -- ---- the deletions of pairs, each as often as it is counted
 

@@ -1,11 +1,16 @@
-// The pairs of a choice in a store: deleted and counted in one walk, and their deletions recorded by the counts.
+// The pairs of a choice in a store: looked up by literal, deleted and counted, and their deletions recorded by the counts.
 ghost use mathlib.Core.Path.{_≡_};
-ghost use Prim.Native.Nat.{_<_, _≤_, _^_};
-ghost use lib.ListN.{length, drop, replicate};
+ghost use Prim.Native.Nat.{_<_, _≤_};
+ghost use lib.IntN.{natAbs};
+ghost use lib.ListN.{length, take, drop, replicate};
 ghost use Rattle.definition.specs.Standing.{deletion};
+ghost use Rattle.theory_base.specs.Clauses.{Fit-all};
+ghost use Rattle.tables.specs.Sizes.{input-reach, log-reach};
+ghost use Rattle.tables.specs.Places.{Places};
 ghost use Rattle.store.specs.Store.{Formed, stored};
+ghost use Rattle.index.specs.Index.{Indexed};
 ghost use Rattle.progress.specs.Progress.{Written, Log-room};
-ghost use Rattle.pairs.specs.Pairs.{slots, ordered-slot as slot-for, slot-of, Pair-step, Pairs-taken, cell-lines, row-lines, pair-lines};
+ghost use Rattle.pairs.specs.Pairs.{slots, ordered-slot as slot-for, slot-of, Pair-step, Countable, Pairs-less, No-pair-with, Pairs-taken, cell-lines, row-lines, pair-lines};
 use progress::Progress;
 
 // How many slots a table of counts has, one for each two places of a choice.
@@ -63,17 +68,49 @@ fn take_pair(store: &mut [i32], at: usize, places: &[u32], counts: &mut [u32])
     }
 }
 
-// Deletes all pairs of a store, and counts them in a table of zeros.
-pub fn take_pairs(store: &mut [i32], places: &[u32], counts: &mut [u32])
-    requires { ⌜ Formed (now store) × (length (now store) < 2 ^ 31) ⌝ }
-    requires { ⌜ now counts ≡ replicate slots 0 ⌝ }
-    ensures { λ _. ⌜ Pairs-taken (now (places .entry)) (stored (now (store .entry))) (now (store .exit)) (now (counts .exit)) ⌝ }
+// Deletes and counts the pairs that hold a literal.
+fn take_with(
+    work: &mut [i32],
+    newest: &[u32],
+    end: usize,
+    places: &[u32],
+    counts: &mut [u32],
+    l: i32,
+)
+    requires { ⌜ Indexed (now work) end (now newest) × (natAbs l ≤ log-reach) ⌝ }
+    requires { ⌜ Countable (now places) (stored (take end (now work))) (now counts) ⌝ }
+    ensures less { λ _. ⌜ Pairs-less (now (places .entry)) (take end (now (work .entry))) (now (counts .entry)) (take end (now (work .exit))) (now (counts .exit)) ⌝ }
+    ensures none { λ _. ⌜ No-pair-with l (now (places .entry)) (take end (now (work .exit))) ⌝ }
+    ensures indexed { λ _. ⌜ Indexed (now (work .exit)) end (now (newest .entry)) ⌝ }
 {
-    let mut at = 0;
-    while at < store.len() {
-        let next = store::next_at(store, at);
-        take_pair(store, at, places, counts);
-        at = next;
+    let mut node = index::last_node(newest, l);
+    while 0 < node {
+        let at = index::place_at(work, node);
+        let before = index::older(work, node);
+        take_pair(&mut work[..end], at, places, counts);
+        node = before;
+    }
+}
+
+// Deletes all pairs of a choice, and counts them in a table of zeros.
+pub fn take_pairs(
+    work: &mut [i32],
+    newest: &[u32],
+    end: usize,
+    places: &[u32],
+    choice: &[i32],
+    counts: &mut [u32],
+)
+    requires { ⌜ Indexed (now work) end (now newest) × Places (now places) (now choice) × Fit-all input-reach (now choice) × (length (now choice) ≤ 64) ⌝ }
+    requires { ⌜ now counts ≡ replicate slots 0 ⌝ }
+    ensures taken { λ _. ⌜ Pairs-taken (now (places .entry)) (stored (take end (now (work .entry)))) (take end (now (work .exit))) (now (counts .exit)) ⌝ }
+    ensures indexed { λ _. ⌜ Indexed (now (work .exit)) end (now (newest .entry)) ⌝ }
+{
+    let mut i = 0;
+    while i < choice.len() {
+        let l = literals::negated(choice[i]);
+        take_with(work, newest, end, places, counts, l);
+        i += 1;
     }
 }
 

@@ -22,7 +22,7 @@ use Rattle.pairs.specs.Pairs.{literal-at}
 use Rattle.tables.specs.Places.{Small}
 use Rattle.progress.specs.Growth.{Grow-room, Grown}
 use Rattle.pass_counter.specs.Links.{link-2, link-3}
-use Rattle.progress.proofs.Growing.{grow-first, grow-rest, grown-then, grown-length}
+use Rattle.progress.proofs.Growing.{grow-first, grow-rest, grown-then}
 
 -- ---- literals passed on
 
@@ -33,10 +33,10 @@ pub three-passed : {x y z a b c : ℤ} → SFits w32 x → SFits w32 y → SFits
 three-passed {x} {y} {z} {a} {b} {c} f g h d e k =
     ap₂ (λ (u v : ℤ). (u ∷ v ∷ toZ w32 (ofZ w32 z) ∷ []) ∷ []) (toZ-ofZ w32 x f ∙ d) (toZ-ofZ w32 y g ∙ e) ∙ ap (λ (w : ℤ). (a ∷ b ∷ w ∷ []) ∷ []) (toZ-ofZ w32 z h ∙ k)
 
-pub grow-as : {f g : Formula} {size room : ℕ} {p : Progress} → Grow-room f size p → f ≡ g → size ≡ room → Grow-room g room p
-grow-as r e s = rw (e, s) at r
+pub grow-as : {f g : Formula} {w : List ℤ} {m : List ℕ} {p : Progress} → Grow-room f w m p → f ≡ g → Grow-room g w m p
+grow-as r e = rw e at r
 
-pub grown-as : {f g : Formula} {w v : List ℤ} {x y : Bytes} {p q : Progress} → Grown f w x p v y q → f ≡ g → Grown g w x p v y q
+pub grown-as : {f g : Formula} {w v : List ℤ} {m n : List ℕ} {x y : Bytes} {p q : Progress} → Grown f w m x p v n y q → f ≡ g → Grown g w m x p v n y q
 grown-as a e = rw e at a
 
 -- ---- the literals of a choice, old and new
@@ -105,11 +105,14 @@ pub stage-2-parts : (l : Clause) (below : ℕ) → stage-2 (choice-of l below) �
 unfolding stage-2 size
 stage-2-parts l below = refl
 
--- the last clause of stage 3
+-- the clauses of stage 3 but the last, and the last
+abbrev pub stage-3-first : Clause → ℕ → Formula
+stage-3-first l below = for-from 2 (length l - 1) (link-3 (choice-of l below))
+
 abbrev pub stage-3-last : Clause → ℕ → Formula
 stage-3-last l below = (new (choice-of l below) (length l - 1) ∷ lit (choice-of l below) (length l) ∷ []) ∷ []
 
-pub stage-3-parts : (l : Clause) (below : ℕ) → stage-3 (choice-of l below) ≡ for-from 2 (length l - 1) (link-3 (choice-of l below)) ++ stage-3-last l below
+pub stage-3-parts : (l : Clause) (below : ℕ) → stage-3 (choice-of l below) ≡ stage-3-first l below ++ stage-3-last l below
 unfolding stage-3 size
 stage-3-parts l below = refl
 
@@ -119,23 +122,23 @@ counter-parts l below = refl
 
 -- ---- parts added one after another, as the code makes them
 
-pub first-room : {F f : Formula} (g : Formula) {made : Formula} {size : ℕ} {p : Progress} → F ≡ f ++ g → made ≡ f → Grow-room F size p → Grow-room made size p
-first-room {f = f} g e d o = grow-as (grow-first f g (rw e at o)) (sym d) refl
+pub first-room : {F f : Formula} (g : Formula) {made : Formula} {w : List ℤ} {m : List ℕ} {p : Progress} → F ≡ f ++ g → made ≡ f → Grow-room F w m p → Grow-room made w m p
+first-room {f = f} g e d o = grow-as (grow-first f g (rw e at o)) (sym d)
 
-pub rest-room : {F f g made more : Formula} {w v : List ℤ} {x y : Bytes} {p q : Progress} → F ≡ f ++ g → made ≡ f → more ≡ g → Grow-room F (length w) p → Grown made w x p v y q → Grow-room more (length v) q
-rest-room {f = f} {g = g} e d k o a = let b = grown-as a d in grow-as (grow-rest f g (rw e at o) b) (sym k) (sym (grown-length b))
+pub rest-room : {F f g made more : Formula} {w v : List ℤ} {m n : List ℕ} {x y : Bytes} {p q : Progress} → F ≡ f ++ g → made ≡ f → more ≡ g → Grow-room F w m p → Grown made w m x p v n y q → Grow-room more v n q
+rest-room {f = f} {g = g} e d k o a = grow-as (grow-rest f g (rw e at o) (grown-as a d)) (sym k)
 
-pub two-grown : {F f g made more : Formula} {w v u : List ℤ} {x y z : Bytes} {p q r : Progress} → F ≡ f ++ g → made ≡ f → more ≡ g → Grown made w x p v y q → Grown more v y q u z r → Grown F w x p u z r
+pub two-grown : {F f g made more : Formula} {w v u : List ℤ} {m n j : List ℕ} {x y z : Bytes} {p q r : Progress} → F ≡ f ++ g → made ≡ f → more ≡ g → Grown made w m x p v n y q → Grown more v n y q u j z r → Grown F w m x p u j z r
 two-grown e d k a b = grown-as (grown-then (grown-as a d) (grown-as b k)) (sym e)
 
-pub second-room : {F f g : Formula} (h : Formula) {made more : Formula} {w v : List ℤ} {x y : Bytes} {p q : Progress} → F ≡ f ++ (g ++ h) → made ≡ f →
-    more ≡ g → Grow-room F (length w) p → Grown made w x p v y q → Grow-room more (length v) q
+pub second-room : {F f g : Formula} (h : Formula) {made more : Formula} {w v : List ℤ} {m n : List ℕ} {x y : Bytes} {p q : Progress} → F ≡ f ++ (g ++ h) → made ≡ f →
+    more ≡ g → Grow-room F w m p → Grown made w m x p v n y q → Grow-room more v n q
 second-room {g = g} h e d k o a = first-room h refl k (rest-room {g = g ++ h} {more = g ++ h} e d refl o a)
 
-pub third-room : {F f g h made more last : Formula} {w v u : List ℤ} {x y z : Bytes} {p q r : Progress} → F ≡ f ++ (g ++ h) → made ≡ f → more ≡ g →
-    last ≡ h → Grow-room F (length w) p → Grown made w x p v y q → Grown more v y q u z r → Grow-room last (length u) r
-third-room {g = g} {h = h} e d k m o a b = rest-room {F = g ++ h} refl k m (rest-room {g = g ++ h} {more = g ++ h} e d refl o a) b
+pub third-room : {F f g h made more last : Formula} {w v u : List ℤ} {m n j : List ℕ} {x y z : Bytes} {p q r : Progress} → F ≡ f ++ (g ++ h) → made ≡ f → more ≡ g →
+    last ≡ h → Grow-room F w m p → Grown made w m x p v n y q → Grown more v n y q u j z r → Grow-room last u j r
+third-room {g = g} {h = h} e d k l o a b = rest-room {F = g ++ h} refl k l (rest-room {g = g ++ h} {more = g ++ h} e d refl o a) b
 
-pub three-grown : {F f g h made more last : Formula} {w v u t : List ℤ} {x y z o : Bytes} {p q r n : Progress} → F ≡ f ++ (g ++ h) → made ≡ f →
-    more ≡ g → last ≡ h → Grown made w x p v y q → Grown more v y q u z r → Grown last u z r t o n → Grown F w x p t o n
-three-grown {g = g} {h = h} e d k m a b c = two-grown {more = g ++ h} e d refl a (two-grown {F = g ++ h} refl k m b c)
+pub three-grown : {F f g h made more last : Formula} {w v u t : List ℤ} {m n j i : List ℕ} {x y z o : Bytes} {p q r s : Progress} → F ≡ f ++ (g ++ h) → made ≡ f →
+    more ≡ g → last ≡ h → Grown made w m x p v n y q → Grown more v n y q u j z r → Grown last u j z r t i o s → Grown F w m x p t i o s
+three-grown {g = g} {h = h} e d k l a b c = two-grown {more = g ++ h} e d refl a (two-grown {F = g ++ h} refl k l b c)

@@ -4,7 +4,7 @@ use mathlib.Core.Bool.{false, cond}
 use mathlib.Core.List.{List, [], map}
 use Prim.Native.Nat.{ℕ, _+_, _≤_, _<_, _^_}
 use lib.IntN.{ℤ}
-use lib.ListN.{length, take, drop}
+use lib.ListN.{length, take, drop, replicate}
 use Rattle.definition.specs.Literals.{Clause, Formula}
 use Rattle.definition.specs.Text.{Bytes}
 use Rattle.definition.specs.Events.{Event, choice-of}
@@ -18,7 +18,9 @@ use Rattle.theory_run.specs.Choices.{Takeable, All-takeable, taken-events}
 use Rattle.store.specs.Store.{Formed, stored, deleted-at, clause-at}
 use Rattle.progress.specs.declared.Progress.{Progress}
 use Rattle.progress.specs.Progress.{standing, Good, Runs}
-use Rattle.tables.specs.Sizes.{input-reach}
+use Rattle.tables.specs.Sizes.{input-reach, input-size}
+use Rattle.index.specs.Index.{Indexed, Roomy}
+use Rattle.pairs.specs.Pairs.{slots}
 use Rattle.run.specs.declared.Reached.{Reached}
 
 -- ---- chosen
@@ -39,10 +41,26 @@ pub record Chosen (a : Arrangement) (F : Formula) (size r : ℕ) (chosen : List 
 
 -- ---- one choice taken
 
-pub record One-ready (form : Form) (work : List ℤ) (p : Progress) (l : Clause) (below : ℕ) : Type 0 where
+pub record One-ready (form : Form) (step : ℕ) (work : List ℤ) (p : Progress) (l : Clause) (below : ℕ) : Type 0 where
   pub good : Good below (choice-events form (standing work p) l (choice-of l below)) work p
   pub clause : Clause
-  pub takeable : Takeable form (length work) (standing work p) clause (choice-of l below)
+  pub takeable : Takeable form (length work) step (standing work p) clause (choice-of l below)
+
+-- the same in an indexed workspace with room for the step
+pub record Placed-ready (form : Form) (work : List ℤ) (newest : List ℕ) (p : Progress) (l : Clause) (below : ℕ) : Type 0 where
+  pub step : ℕ
+  pub ready : One-ready form step work p l below
+  pub indexed : Indexed work (p .end) newest
+  pub roomy : Roomy step work (p .end) newest
+
+-- the lent tables between choices: places and counts are zeros
+abbrev pub list-size : ℕ
+list-size = 20000
+
+pub record Lent (places counts list : List ℕ) : Type 0 where
+  pub places-zero : places ≡ replicate input-size 0
+  pub counts-zero : counts ≡ replicate slots 0
+  pub long : length list ≡ list-size
 
 -- ---- the choice at a place of the store of choices, where n is the highest variable used
 
@@ -58,13 +76,13 @@ used-at s at n = cond (deleted-at s at) n (last-new (choice-of (clause-at s at) 
 abbrev pub count-at : List ℤ → ℕ → ℕ
 count-at s at = cond (deleted-at s at) 0 1
 
-pub record At-ready (form : Form) (work : List ℤ) (r : Reached) (chosen : List ℤ) (at : ℕ) : Type 0 where
+pub record At-ready (form : Form) (step : ℕ) (work : List ℤ) (r : Reached) (chosen : List ℤ) (at : ℕ) : Type 0 where
   pub inside : r .progress .end ≤ length work
   pub formed : Formed (take (r .progress .end) work)
   pub at-inside : at < length chosen
   pub rest : Formed (drop at chosen)
   pub few : r .choices < 2 ^ 31
-  pub one : deleted-at chosen at ≡ false → One-ready form work (r .progress) (clause-at chosen at) (below-new (r .highest))
+  pub one : deleted-at chosen at ≡ false → One-ready form step work (r .progress) (clause-at chosen at) (below-new (r .highest))
 
 pub record Taken-at (form : Form) (work : List ℤ) (log : Bytes) (r : Reached) (chosen : List ℤ) (at : ℕ) (new-work : List ℤ) (new-log : Bytes) (q : Reached) : Type 0 where
   pub runs : Runs (events-at form (standing work (r .progress)) chosen at (r .highest)) work log (r .progress) new-work new-log (q .progress)
@@ -73,11 +91,11 @@ pub record Taken-at (form : Form) (work : List ℤ) (log : Bytes) (r : Reached) 
 
 -- ---- all choices taken, literals in the order in which they are taken
 
-pub record All-ready (form : Form) (work : List ℤ) (p : Progress) (chosen : List ℤ) (n : ℕ) : Type 0 where
+pub record All-ready (form : Form) (step : ℕ) (work : List ℤ) (p : Progress) (chosen : List ℤ) (n : ℕ) : Type 0 where
   pub good : Good n (taken-events form n (standing work p) (stored chosen)) work p
   pub few : length chosen < 2 ^ 31
   pub chosen-formed : Formed chosen
-  pub takeable : All-takeable form (length work) n (standing work p) (stored chosen)
+  pub takeable : All-takeable form (length work) step n (standing work p) (stored chosen)
 
 pub record Taken-all (form : Form) (work : List ℤ) (log : Bytes) (p : Progress) (ls : List Clause) (n : ℕ) (new-work : List ℤ) (new-log : Bytes) (r : Reached) : Type 0 where
   pub runs : Runs (taken-events form n (standing work p) ls) work log p new-work new-log (r .progress)

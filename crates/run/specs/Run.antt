@@ -1,11 +1,9 @@
 -- A run over the store: clashes, pure literals, choices.
 use mathlib.Core.Path.{_≡_}
-use mathlib.Core.Bool.{false}
-use mathlib.Core.List.{List, _∷_, _++_}
+use mathlib.Core.List.{List, [], _∷_, _++_}
 use Prim.Native.Nat.{ℕ, _+_, _≤_, _<_, _^_}
 use lib.IntN.{ℤ}
 use lib.ListN.{length, take}
-use Rattle.definition.specs.Literals.{opposed}
 use Rattle.definition.specs.Text.{Bytes}
 use Rattle.definition.specs.Reading.{Input, as-read, input-limits}
 use Rattle.definition.specs.Standing.{after}
@@ -13,6 +11,7 @@ use Rattle.definition.specs.Events.{Clash, Event, clash-cleared}
 use Rattle.definition.specs.Clearing.{resolvent, clear-clashes}
 use Rattle.definition.specs.Reencoding.{lines, Settings, chosen, events, highest-used}
 use Rattle.definition.specs.Calls.{workspace-need, numbers-of}
+use Rattle.theory_base.specs.Cells.{cells-of}
 use Rattle.theory_text.specs.Accepted.{Accepted}
 use Rattle.theory_room.specs.Choices.{clearing}
 use Rattle.tables.specs.Sizes.{input-reach}
@@ -21,11 +20,11 @@ use Rattle.progress.specs.declared.Progress.{Progress}
 use Rattle.progress.specs.Progress.{standing, Good, Runs}
 use Rattle.run.specs.declared.Reached.{Reached}
 
--- what clearing needs: a good workspace, and room for each resolvent beside what stands
-pub record Clear-ready (work : List ℤ) (p : Progress) : Type 0 where
+-- what clearing needs: a good workspace, and room for a step, into which each resolvent fits, beside what stands
+pub record Clear-ready (step : ℕ) (work : List ℤ) (p : Progress) : Type 0 where
   pub good : Good input-reach (clearing (standing work p)) work p
-  pub space : (xs ys : List Event) (c : Clash) → clear-clashes (standing work p) ≡ xs ++ (clash-cleared c ∷ ys) → opposed (resolvent c) ≡ false
-      → numbers-of (after (standing work p) (lines xs)) + (length (resolvent c) + 1) ≤ length work
+  pub space : (xs ys : List Event) → clear-clashes (standing work p) ≡ xs ++ ys → cells-of (after (standing work p) (lines xs)) + step ≤ length work
+  pub cells : (xs ys : List Event) (c : Clash) → clear-clashes (standing work p) ≡ xs ++ (clash-cleared c ∷ ys) → cells-of (resolvent c ∷ []) ≤ step
 
 -- the input that a store holds; a run asks for its formula and its highest variable alone
 abbrev pub input-in : List ℤ → ℕ → ℕ → Input
@@ -41,6 +40,8 @@ pub record Run-ready (work : List ℤ) (end highest : ℕ) : Type 0 where
   pub formed : Formed (take end work)
   pub accepted : Accepted input-limits (input-in work end highest)
   pub enough : workspace-need (input-in work end highest) ≤ length work
+  -- nothing is deleted yet
+  pub whole : end ≡ numbers-of (stored (take end work))
 
 -- the events of the input, its choices counted, and its highest variable
 pub record Ran-all (s : Settings) (i : Input) (work : List ℤ) (log : Bytes) (end : ℕ) (new-work : List ℤ) (new-log : Bytes) (r : Reached) : Type 0 where

@@ -2,11 +2,10 @@ use mathlib.Core.Path.{sym}
 use denote.Ref.{now}
 use lib.IntN.{pos}
 use lib.ListN.{getD}
-use borrow.Author.Needs.{sfits-of}
 use Rattle.literals.proofs.Laws.{answer}
 use Rattle.tables.specs.Places.{place-in}
 use Rattle.pairs.proofs.Slots.{slot-first, slot-second, slot-long}
-use borrow.Author.Needs.{needs}
+use borrow.Author.Needs.{sfits-of, needs}
 use Rattle.pairs.proofs.pair_slot.Statement.{statement}
 use Rattle.pairs.proofs.pair_slot.Tie as tie
 

@@ -5,7 +5,7 @@ use Rattle.literals.specs.Literal.{negative}
 use Rattle.literals.proofs.Laws.{answered}
 use Rattle.store.specs.Store.{header-at}
 use Rattle.store.proofs.Laws.{formed-next}
-use Rattle.pairs.proofs.Walking.{step-deleted, step-pair, step-other}
+use Rattle.pairs.proofs.Taking.{step-deleted, step-pair, step-other}
 use Rattle.pairs.proofs.take_pair.Statement.{statement}
 use Rattle.pairs.proofs.take_pair.Tie as tie
 

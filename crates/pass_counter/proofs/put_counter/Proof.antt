@@ -9,7 +9,7 @@ use Rattle.pass_counter.proofs.put_counter.Tie as tie
 
 put-stage-2-requires : tie.Need-put-stage-2-requires
 put-stage-2-requires c κs =
-    let start = c .before .before .before in (
+    let start = c .before .before .before .before .before in (
       (start .pre .0 .0, start .pre .0 .1),
       first-room (stage-3 (choice-of (now (start .args .choice)) (start .args .below)))
           (counter-parts (now (start .args .choice)) (start .args .below)) refl (start .pre .1),
@@ -17,8 +17,8 @@ put-stage-2-requires c κs =
 
 put-stage-3-requires : tie.Need-put-stage-3-requires
 put-stage-3-requires c κs =
-    let back = c .before .before .before .before .before in let put-stage-2 = back .put-stage-2 in
-    let start = back .before .before .before .before in (
+    let back = c .before .before .before .before .before .before .before .before in let put-stage-2 = back .put-stage-2 in
+    let start = back .before .before .before .before .before .before in (
       (start .pre .0 .0, start .pre .0 .1),
       rest-room (counter-parts (now (start .args .choice)) (start .args .below)) refl refl (start .pre .1)
           (put-stage-2 .ensures),
@@ -30,15 +30,24 @@ same-length c = search needs
 same-length-2 : tie.Need-same-length-2
 same-length-2 c = search needs
 
+same-length-3 : tie.Need-same-length-3
+same-length-3 c = search needs
+
 returns : tie.Need-returns
 returns c =
-    let back = c .before .before .before in let put-stage-3 = back .put-stage-3 in
-    let back = back .before .before .before .before .before .before in let put-stage-2 = back .put-stage-2 in
-    let start = back .before .before .before .before in
+    let back = c .before .before .before .before .before in let put-stage-3 = back .put-stage-3 in
+    let back = back .before .before .before .before .before .before .before .before .before in let put-stage-2 = back .put-stage-2 in
+    let start = back .before .before .before .before .before .before in
     two-grown (counter-parts (now (start .args .choice)) (start .args .below)) refl refl (put-stage-2 .ensures)
     (put-stage-3 .ensures)
 
 pub put-counter-spec : {M : Type 1} → statement M
 put-counter-spec =
     tie.close
-    (tie.spec put-stage-2-requires put-stage-3-requires same-length same-length-2 returns)
+    (tie.spec
+    put-stage-2-requires
+    put-stage-3-requires
+    same-length
+    same-length-2
+    same-length-3
+    returns)

@@ -1,11 +1,11 @@
-use mathlib.Core.Path.{refl, sym}
+use mathlib.Core.Path.{sym}
 use Prim.Native.Nat.{_-_}
 use denote.Ref.{now}
-use borrow.Author.Needs.{sfits-of, needs}
 use Rattle.literals.specs.Literal.{negation}
 use Rattle.literals.proofs.Laws.{answer}
 use Rattle.pairs.specs.Pairs.{literal-at}
 use Rattle.pass_counter.proofs.Links.{grow-as, grown-as, link-3-made}
+use borrow.Author.Needs.{sfits-of, needs}
 use Rattle.pass_counter.proofs.put_link_3.Statement.{statement}
 use Rattle.pass_counter.proofs.put_link_3.Tie as tie
 
@@ -35,17 +35,17 @@ signed-requires c κs = search needs
 
 put-two-requires : tie.Need-put-two-requires
 put-two-requires c κs =
-    let back = c .before .before in let signed = back .signed in
+    let back = c .before .before .before in let signed = back .signed in
     let back = back .before in let negated = back .negated in
     let back = back .before in let negated-arg = back .negated-arg in
-    let start = back .before .before in
+    let start = back .before .before .before in
     let a = start .args in
     let g = start .pre in
     grow-as (g .1)
     (sym
     (link-3-made (g .0 .0) (a .i) (g .0 .1) (g .0 .2) (sfits-of (negated .ok)) (sfits-of (signed .ok))
     (answer negation (literal-at (now (a .choice)) (a .i - 1)) (sfits-of (negated-arg .given)) (negated .ensures))
-    (signed .ensures))) refl
+    (signed .ensures)))
 
 same-length : tie.Need-same-length
 same-length c = search needs
@@ -53,13 +53,16 @@ same-length c = search needs
 same-length-2 : tie.Need-same-length-2
 same-length-2 c = search needs
 
+same-length-3 : tie.Need-same-length-3
+same-length-3 c = search needs
+
 returns : tie.Need-returns
 returns c =
-    let back = c .before .before .before in let put-two = back .put-two in
-    let back = back .before .before .before in let signed = back .signed in
+    let back = c .before .before .before .before .before in let put-two = back .put-two in
+    let back = back .before .before .before .before in let signed = back .signed in
     let back = back .before in let negated = back .negated in
     let back = back .before in let negated-arg = back .negated-arg in
-    let start = back .before .before in
+    let start = back .before .before .before in
     let a = start .args in
     let g = start .pre in
     grown-as (put-two .ensures)
@@ -82,4 +85,5 @@ put-link-3-spec =
     put-two-requires
     same-length
     same-length-2
+    same-length-3
     returns)

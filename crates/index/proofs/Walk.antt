@@ -14,11 +14,12 @@ use Rattle.definition.specs.Literals.{Clause, same, literals-of}
 use Rattle.definition.specs.Calls.{numbers-of}
 use Rattle.theory_base.proofs.Tests.{of-true, to-true, by-test}
 use Rattle.theory_base.proofs.Loops.{by-order}
+use Rattle.theory_base.proofs.Clauses.{literals-snoc, literals-none as no-literals}
 use Rattle.theory_base.proofs.Members.{same-eq, same-refl as literal-same}
 use Rattle.literals.specs.Literal.{negative, flip, header-literals}
 use Rattle.literals.proofs.Laws.{literals-flip}
-use Rattle.store.specs.Store.{Formed-from, Formed, stored-from, stored, header-at, size-at, clause-at, past, marked, Place}
-use Rattle.store.proofs.Laws.{by-entries, place-start, place-end, place-formed, place-next, clause-length, prefix-next, past-within, marked-place}
+use Rattle.store.specs.Store.{Formed-from, Formed, stored-from, stored, header-at, size-at, deleted-at, clause-at, past, marked, Place}
+use Rattle.store.proofs.Laws.{stored-none, prefix-deleted, prefix-stands, by-entries, place-start, place-end, place-formed, place-next, clause-length, prefix-next, past-within, marked-place}
 use Rattle.index.specs.Index.{entered-from, entered, literals-from, literals-in, Same-entries}
 use Rattle.index.specs.Reading.{Entry-with}
 
@@ -286,3 +287,17 @@ few-literals (suc k) (x ∷ s) = omega (arith, few-literals k s)
 pub literals-fit : (s : List ℤ) → literals-in s + numbers-of (stored s) ≤ literals-of (stored s) + length s
 unfolding numbers-of
 literals-fit s = omega (arith, few-literals 0 s)
+
+-- the standing clauses are some of the entries
+pub literals-most : (s : List ℤ) → Formed s → literals-of (stored s) ≤ literals-in s
+literals-most s f =
+    subst (λ (r : List ℤ). literals-of (stored r) ≤ literals-in r) (take-length s)
+    (by-entries s (λ (at : ℕ). literals-of (stored (take at s)) ≤ literals-in (take at s)) none step (length s) (place-end f))
+  where
+    none : literals-of (stored []) ≤ literals-in []
+    none = omega (arith, ap literals-of stored-none, no-literals, literals-none)
+
+    step : (at : ℕ) → at < length s → Place s at → literals-of (stored (take at s)) ≤ literals-in (take at s) → literals-of (stored (take (past s at) s)) ≤ literals-in (take (past s at) s)
+    step at h e r =
+        by-test (deleted-at s at) (λ d. omega (arith, r, ap literals-of (prefix-deleted s at h e d), literals-next s at h e))
+        (λ d. omega (arith, r, ap literals-of (prefix-stands s at h e d), literals-snoc (stored (take at s)) (clause-at s at), clause-length s at h (e .rest), literals-next s at h e))

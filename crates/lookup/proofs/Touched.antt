@@ -10,13 +10,13 @@ use lib.IntN.{ℤ}
 use lib.ListN.{length, take}
 use lib.Seq.{take-append-le, take-all, length-take-le}
 use borrow.Author.Tests.{ltb-true, ltb-false}
+use Rattle.definition.specs.Lists.{bit, count}
 use Rattle.definition.specs.Literals.{Clause, opposes}
 use Rattle.theory_base.proofs.Tests.{of-true, to-true, by-test}
 use Rattle.theory_base.proofs.Loops.{by-order}
 use Rattle.literals.specs.Literal.{negative, header-literals}
-use Rattle.store.specs.Store.{Formed-from, header-at, deleted-at, clause-at, past, Place}
+use Rattle.store.specs.Store.{Formed-from, stored-from, stored, header-at, deleted-at, clause-at, past, Place}
 use Rattle.store.proofs.Laws.{by-entries, clause-length, prefix-next, past-within}
-
 use Rattle.lookup.specs.Lookup.{touched-from, touched-places}
 use Rattle.lookup.proofs.Rising.{Rising, rising-snoc}
 
@@ -134,3 +134,20 @@ touched-rising l s q e = by-entries s (λ (q : ℕ). Rising (touched-places l (t
         go true b = subst Rising (sym (append-nil (touched-places l (take at s)))) r
         go false true = rising-snoc (touched-places l (take at s)) at r (λ b i. touched-sound l s at e b i .before)
         go false false = subst Rising (sym (append-nil (touched-places l (take at s)))) r
+
+-- as many as there are standing clauses with a negated literal of l
+touched-from-count : (l : Clause) (k at : ℕ) (s : List ℤ) → length (touched-from l k at s) ≡ count (opposes l) (stored-from k s)
+unfolding touched-from stored-from count
+touched-from-count l k at [] = refl
+touched-from-count l zero at (h ∷ s) = go (negative h) (opposes l (take (header-literals h) s)) refl (touched-from-count l (header-literals h) (at + 1) s)
+  where
+    go : (b o : Bool) → opposes l (take (header-literals h) s) ≡ o → length (touched-from l (header-literals h) (at + 1) s) ≡ count (opposes l) (stored-from (header-literals h) s)
+        → length (cond b (touched-from l (header-literals h) (at + 1) s) (cond o (at ∷ touched-from l (header-literals h) (at + 1) s) (touched-from l (header-literals h) (at + 1) s)))
+        ≡ count (opposes l) (cond b (stored-from (header-literals h) s) (take (header-literals h) s ∷ stored-from (header-literals h) s))
+    go true o e r = r
+    go false true e r = omega (arith, ap bit e)
+    go false false e r = omega (arith, ap bit e)
+touched-from-count l (suc k) at (x ∷ s) = touched-from-count l k (at + 1) s
+
+pub touched-count : (l : Clause) (s : List ℤ) → length (touched-places l s) ≡ count (opposes l) (stored s)
+touched-count l s = touched-from-count l 0 0 s

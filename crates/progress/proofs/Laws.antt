@@ -118,6 +118,10 @@ runs-join {es} {fs} {work} {p = p} a b =
     (ap (λ (F : Formula). after F (lines fs)) (a .stands) ∙ sym (after-++ (standing work p) (lines es) (lines fs)) ∙ ap (after (standing work p)) (sym (lines-++ es fs)))
     (rw (lines-++ es fs) (written-then (runs-written a) (runs-written b)))
 
+-- from a workspace with the same store
+pub runs-from : {es : List Event} {work old new : List ℤ} {x y : Bytes} {p q : Progress} → length work ≡ length old → take (p .end) work ≡ take (p .end) old → Runs es work x p new y q → Runs es old x p new y q
+runs-from {es} l e r = runs-lines (r .size ∙ l) (runs-holds r) (ap (λ (s : List ℤ). after (stored s) (lines es)) e) (runs-written r)
+
 -- only the lines of the events count
 pub runs-as : {es fs : List Event} {work new : List ℤ} {x y : Bytes} {p q : Progress} → lines es ≡ lines fs → Runs es work x p new y q → Runs fs work x p new y q
 runs-as {work = work} {p = p} e r = runs-lines (r .size) (runs-holds r) (ap (after (standing work p)) e) (rw e at (runs-written r))

@@ -1,6 +1,7 @@
 -- Clashes, then pure literals: what stands after the clashes is proper and free of clashes, which is what the pure pass asks for.
 use mathlib.Core.Path.{_≡_}
 use mathlib.Core.List.{List}
+use Prim.Native.Nat.{ℕ}
 use lib.IntN.{ℤ}
 use Rattle.definition.specs.Literals.{Formula}
 use Rattle.definition.specs.Text.{Bytes}
@@ -16,13 +17,13 @@ use Rattle.progress.proofs.Laws.{good-first, good-rest, runs-join}
 use Rattle.pass_clashes.specs.Scan.{Clash-ready}
 use Rattle.run.specs.Run.{Clear-ready}
 
-module _ {work : List ℤ} {p : Progress} (r : Clear-ready work p) where
+module _ {step : ℕ} {work : List ℤ} {p : Progress} (r : Clear-ready step work p) where
   abbrev F : Formula
   F = standing work p
 
-  pub clash-ready : Clash-ready (clear-clashes F) work p
+  pub clash-ready : Clash-ready step (clear-clashes F) work p
   unfolding clearing
-  clash-ready = record { good = good-first (clear-clashes F) (clear-pure (unclashed F)) (r .good); space = r .space }
+  clash-ready = record { good = good-first (clear-clashes F) (clear-pure (unclashed F)) (r .good); space = r .space; cells = λ xs ys c e _. r .cells xs ys c e }
 
   module _ {mid : List ℤ} {x y : Bytes} {q : Progress} (a : Runs (clear-clashes F) work x p mid y q) where
     unclashed-here : standing mid q ≡ unclashed F

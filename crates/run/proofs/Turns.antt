@@ -24,13 +24,13 @@ use Rattle.run.specs.declared.Reached.{Reached}
 use Rattle.run.specs.Choices.{One-ready, events-at, At-ready, Taken-at, All-ready, Taken-all}
 
 -- the choices before `at` are taken: their events, and what is known of those to come
-pub record Turns (form : Form) (work₀ : List ℤ) (log₀ : Bytes) (p₀ : Progress) (n₀ : ℕ) (ls : List Clause) (work : List ℤ) (log : Bytes) (r : Reached) (chosen : List ℤ) (at : ℕ) : Type 0 where
+pub record Turns (form : Form) (step : ℕ) (work₀ : List ℤ) (log₀ : Bytes) (p₀ : Progress) (n₀ : ℕ) (ls : List Clause) (work : List ℤ) (log : Bytes) (r : Reached) (chosen : List ℤ) (at : ℕ) : Type 0 where
   pub small : length work₀ < 2 ^ 31
   pub few : length ls < 2 ^ 31
   pub events : List Event
   pub place : Place chosen at
   pub runs : Runs events work₀ log₀ p₀ work log (r .progress)
-  pub takeable : All-takeable form (length work₀) (r .highest) (standing work (r .progress)) (stored (drop at chosen))
+  pub takeable : All-takeable form (length work₀) step (r .highest) (standing work (r .progress)) (stored (drop at chosen))
   pub rest : events ++ taken-events form (r .highest) (standing work (r .progress)) (stored (drop at chosen)) ≡ taken-events form n₀ (standing work₀ p₀) ls
   pub room : Log-room (lines (taken-events form (r .highest) (standing work (r .progress)) (stored (drop at chosen)))) (r .progress)
   pub counted : r .choices + length (stored (drop at chosen)) ≡ length ls
@@ -40,7 +40,7 @@ pub record Turns (form : Form) (work₀ : List ℤ) (log₀ : Bytes) (p₀ : Pro
 abbrev pub none-yet : Progress → ℕ → Reached
 none-yet p n = record { progress = p; choices = 0; highest = n }
 
-pub turns-start : {form : Form} {work : List ℤ} {p : Progress} {chosen : List ℤ} {n : ℕ} (log : Bytes) → All-ready form work p chosen n → Turns form work log p n (stored chosen) work log (none-yet p n) chosen 0
+pub turns-start : {form : Form} {step : ℕ} {work : List ℤ} {p : Progress} {chosen : List ℤ} {n : ℕ} (log : Bytes) → All-ready form step work p chosen n → Turns form step work log p n (stored chosen) work log (none-yet p n) chosen 0
 turns-start {work = work} {p} {chosen} log a = record {
   small = a .good .small;
   few = omega (arith, a .few, few-stored chosen);
@@ -66,17 +66,17 @@ unfolding choices-events
 taken-nil form n F = refl
 
 -- the first choice to come, and those behind it
-first-takeable : {form : Form} {size n : ℕ} {F : Formula} {l : Clause} {ls : List Clause} → All-takeable form size n F (l ∷ ls) → (c : Clause) × Takeable form size F c (choice-of l (below-new n))
+first-takeable : {form : Form} {size step n : ℕ} {F : Formula} {l : Clause} {ls : List Clause} → All-takeable form size step n F (l ∷ ls) → (c : Clause) × Takeable form size step F c (choice-of l (below-new n))
 first-takeable (at-choice c t r) = (c, t)
 
-rest-takeable : {form : Form} {size n : ℕ} {F : Formula} {l : Clause} {ls : List Clause} → All-takeable form size n F (l ∷ ls) → let k = choice-of l (below-new n) in
-    All-takeable form size (last-new k) (after F (lines (choice-events form F l k))) ls
+rest-takeable : {form : Form} {size step n : ℕ} {F : Formula} {l : Clause} {ls : List Clause} → All-takeable form size step n F (l ∷ ls) → let k = choice-of l (below-new n) in
+    All-takeable form size step (last-new k) (after F (lines (choice-events form F l k))) ls
 rest-takeable (at-choice c t r) = r
 
 -- ---- at a turn
 
-module _ {form : Form} {work₀ : List ℤ} {log₀ : Bytes} {p₀ : Progress} {n₀ : ℕ} {ls : List Clause} {work : List ℤ} {log : Bytes} {r : Reached} {chosen : List ℤ} {at : ℕ}
-    (t : Turns form work₀ log₀ p₀ n₀ ls work log r chosen at) where
+module _ {form : Form} {step : ℕ} {work₀ : List ℤ} {log₀ : Bytes} {p₀ : Progress} {n₀ : ℕ} {ls : List Clause} {work : List ℤ} {log : Bytes} {r : Reached} {chosen : List ℤ} {at : ℕ}
+    (t : Turns form step work₀ log₀ p₀ n₀ ls work log r chosen at) where
   abbrev F : Formula
   F = standing work (r .progress)
 
@@ -95,7 +95,7 @@ module _ {form : Form} {work₀ : List ℤ} {log₀ : Bytes} {p₀ : Progress} {
           taken-events form (r .highest) F (stored (drop at chosen)) ≡ choice-events form F l k ++ taken-events form (last-new k) (after F (lines (choice-events form F l k))) behind
       events-here = ap (taken-events form (r .highest) F) stands ∙ taken-cons form (r .highest) F l behind
 
-      one-ready : One-ready form work (r .progress) l (below-new (r .highest))
+      one-ready : One-ready form step work (r .progress) l (below-new (r .highest))
       one-ready =
           let k = choice-of l (below-new (r .highest)) in
           let f = first-takeable (rw stands at (t .takeable)) in
@@ -114,7 +114,7 @@ module _ {form : Form} {work₀ : List ℤ} {log₀ : Bytes} {p₀ : Progress} {
             takeable = rw (t .runs .size) (f .1);
           }
 
-    pub at-ready : At-ready form work r chosen at
+    pub at-ready : At-ready form step work r chosen at
     at-ready = record {
       inside = runs-holds (t .runs) .inside;
       formed = t .runs .formed;
@@ -129,9 +129,9 @@ module _ {form : Form} {work₀ : List ℤ} {log₀ : Bytes} {p₀ : Progress} {
     module _ {new : List ℤ} {new-log : Bytes} {q : Reached} (a : Taken-at form work log r chosen at new new-log q) where
       -- where G stands and n is the highest variable used
       turn : (G : Formula) (n m : ℕ) → standing new (q .progress) ≡ G → q .highest ≡ n → q .choices ≡ r .choices + m → m + length behind ≡ length (stored (drop at chosen)) →
-          used-after (λ l. l) n behind ≡ used-after (λ l. l) (r .highest) (stored (drop at chosen)) → All-takeable form (length work₀) n G behind →
+          used-after (λ l. l) n behind ≡ used-after (λ l. l) (r .highest) (stored (drop at chosen)) → All-takeable form (length work₀) step n G behind →
           taken-events form (r .highest) F (stored (drop at chosen)) ≡ events-at form F chosen at (r .highest) ++ taken-events form n G behind →
-          Turns form work₀ log₀ p₀ n₀ ls new new-log q chosen (past chosen at)
+          Turns form step work₀ log₀ p₀ n₀ ls new new-log q chosen (past chosen at)
       turn G n m g u c d v k e =
           let es = events-at form F chosen at (r .highest) in
           let more = taken-events form n G behind in
@@ -148,7 +148,7 @@ module _ {form : Form} {work₀ : List ℤ} {log₀ : Bytes} {p₀ : Progress} {
             used = rw u (v ∙ t .used);
           }
 
-      turned : (b : Bool) → deleted-at chosen at ≡ b → Turns form work₀ log₀ p₀ n₀ ls new new-log q chosen (past chosen at)
+      turned : (b : Bool) → deleted-at chosen at ≡ b → Turns form step work₀ log₀ p₀ n₀ ls new new-log q chosen (past chosen at)
       unfolding after used-after
       turned true e =
           turn F (r .highest) 0 (a .runs .stands ∙ rw (e, lines-none) refl) (a .highest ∙ rw e refl) (a .choices ∙ rw e refl) (omega (arith, ap length (rest-deleted chosen at h e)))
@@ -162,7 +162,7 @@ module _ {form : Form} {work₀ : List ℤ} {log₀ : Bytes} {p₀ : Progress} {
           (rest-takeable (rw (stands e) at (t .takeable)))
           (rw e (events-here e))
 
-      pub turns-next : Turns form work₀ log₀ p₀ n₀ ls new new-log q chosen (past chosen at)
+      pub turns-next : Turns form step work₀ log₀ p₀ n₀ ls new new-log q chosen (past chosen at)
       turns-next = turned (deleted-at chosen at) refl
 
   pub turns-end : length chosen ≤ at → Taken-all form work₀ log₀ p₀ ls n₀ work log r
@@ -177,7 +177,7 @@ module _ {form : Form} {work₀ : List ℤ} {log₀ : Bytes} {p₀ : Progress} {
 
 -- ---- the choice at a place
 
-module _ {form : Form} {work : List ℤ} {r : Reached} {chosen : List ℤ} {at : ℕ} (a : At-ready form work r chosen at) where
+module _ {form : Form} {step : ℕ} {work : List ℤ} {r : Reached} {chosen : List ℤ} {at : ℕ} (a : At-ready form step work r chosen at) where
   pub none-taken : (log : Bytes) → deleted-at chosen at ≡ true → Taken-at form work log r chosen at work log r
   none-taken log e = record {
     runs = rw e (runs-nothing log (r .progress) (r .progress) refl (record { inside = a .inside; formed = a .formed; stands = refl }) refl refl);
@@ -185,8 +185,8 @@ module _ {form : Form} {work : List ℤ} {r : Reached} {chosen : List ℤ} {at :
     highest = rw e refl;
   }
 
-  pub one-takeable : (next below : ℕ) → deleted-at chosen at ≡ false → next ≡ past chosen at → below ≡ below-new (r .highest) → One-ready form work (r .progress) (take (next - (at + 1)) (drop (at + 1) chosen)) below
-  one-takeable next below e n b = rw b (subst (λ (l : Clause). One-ready form work (r .progress) l (below-new (r .highest))) (sym (part-there chosen at next n)) (a .one e))
+  pub one-takeable : (next below : ℕ) → deleted-at chosen at ≡ false → next ≡ past chosen at → below ≡ below-new (r .highest) → One-ready form step work (r .progress) (take (next - (at + 1)) (drop (at + 1) chosen)) below
+  one-takeable next below e n b = rw b (subst (λ (l : Clause). One-ready form step work (r .progress) l (below-new (r .highest))) (sym (part-there chosen at next n)) (a .one e))
 
   -- its literals, and the place past it
   module _ (next : ℕ) (e : deleted-at chosen at ≡ false) (n : next ≡ past chosen at) where

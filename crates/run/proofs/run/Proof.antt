@@ -1,67 +1,54 @@
-use mathlib.Core.Path.{sym, refl}
-use lib.Seq.{length-take-le}
+use mathlib.Core.Path.{refl}
+use Prim.Native.Nat.{ℕ}
 use native.Mathlib.Omega.{arith}
-use Rattle.run.specs.Settings.{settings-of}
-use Rattle.run.proofs.Phases.{clear-ready, choosable, all-ready, ran-all}
-use borrow.Author.Needs.{needs}
+use lib.ListN.{length-replicate}
+use Rattle.tables.specs.Sizes.{log-size}
+use Rattle.theory_base.proofs.Slices.{getD-zeros}
+use Rattle.run.proofs.Phases.{enter-room, same-ready, ran-same}
+use mathlib.Core.Path.{sym, _∙_}
 use Rattle.run.proofs.run.Statement.{statement}
 use Rattle.run.proofs.run.Tie as tie
+use Rattle.run.proofs.run.Reads as reads
+use Rattle.run.proofs.run.Lts as lts
+use Rattle.index.proofs.enter_all.Reads as enter-all-reads
+use Rattle.run.proofs.run_indexed.Reads as run-indexed-reads
 
-clear-requires : tie.Need-clear-requires
-clear-requires c κs =
-    let start = c .before .before .before in
-    clear-ready (start .pre) (settings-of (start .args .settings))
+-- src/lib.rt:292:28
+slice-aggregate-enter-all : tie.Need-slice-aggregate-enter-all
+slice-aggregate-enter-all c = sym (length-replicate {A = ℕ} log-size 0)
 
-slice-aggregate-choose : tie.Need-slice-aggregate-choose
-slice-aggregate-choose c = search needs
+-- src/lib.rt:292:5
+enter-all-requires : tie.Need-enter-all-requires
+enter-all-requires c κs = ((c .before .before .before .pre .formed, enter-room (c .before .before .before .pre), c .before .before .before .pre .small), (λ i. omega (arith, getD-zeros log-size i), length-replicate {A = ℕ} log-size 0))
 
-choose-requires : tie.Need-choose-requires
-choose-requires c κs =
-    let back = c .before .before .before .before .before in let clear = back .clear in
-    let start = back .before .before .before .before in
-    choosable (start .pre) (settings-of (start .args .settings)) (clear .ensures) _ refl
+-- src/lib.rt:293:23
+slice-aggregate-run-indexed : tie.Need-slice-aggregate-run-indexed
+slice-aggregate-run-indexed c = sym (c .before .before .before .before .enter-all .ensures .0 .size)
 
-array-share-prefix-chosen : tie.Need-array-share-prefix-chosen
-array-share-prefix-chosen c = search needs
+-- src/lib.rt:293:5
+run-indexed-requires : tie.Need-run-indexed-requires
+run-indexed-requires c κs = (same-ready (c .before .before .before .before .before .before .before .before .before .pre) _ (c .before .before .before .before .before .enter-all .kept .0) (c .before .before .before .before .before .enter-all .ensures .1), c .before .before .before .before .before .enter-all .ensures .0)
 
-slice-aggregate-take : tie.Need-slice-aggregate-take
-slice-aggregate-take c =
-    let choose = c .before .before .before .before .choose in
-    sym
-    (length-take-le (choose .result) (choose .last .1 .1 .0)
-    (omega (arith, choose .ensures .inside, choose .ensures .same-size)))
-
-take-requires : tie.Need-take-requires
-take-requires c κs =
-    let back = c .before .before .before .before in let choose = back .choose in
-    let back = back .before .before .before .before .before .before in let clear = back .clear in
-    let start = back .before .before .before .before in
-    all-ready (start .pre) (settings-of (start .args .settings)) (clear .ensures) (choose .ensures) refl
-
+-- src/lib.rt:281:1
 same-length : tie.Need-same-length
-same-length c = search needs
+same-length c = c .before .before .before .before .run-indexed .kept .0 ∙ c .before .before .before .before .before .before .before .before .before .before .enter-all .kept .0
 
+-- src/lib.rt:281:1
 same-length-2 : tie.Need-same-length-2
-same-length-2 c = search needs
+same-length-2 c = c .before .before .before .before .run-indexed .kept .1 .1 .0
 
+-- src/lib.rt:281:1
 returns : tie.Need-returns
-returns c =
-    let back = c .before .before .before in let take = back .take in
-    let back = back .before .before .before .before .before in let choose = back .choose in
-    let back = back .before .before .before .before .before .before in let clear = back .clear in
-    let start = back .before .before .before .before in
-    ran-all (start .pre) (settings-of (start .args .settings)) (clear .ensures) (choose .ensures) refl (take .ensures)
+returns c = ran-same (c .before .before .before .before .before .before .before .before .before .before .before .before .before .before .pre) _ (c .before .before .before .before .before .before .before .before .before .before .enter-all .kept .0) (c .before .before .before .before .before .before .before .before .before .before .enter-all .ensures .1) (c .before .before .before .before .run-indexed .ensures)
 
 pub run-spec : {M : Type 1} → statement M
 run-spec =
     tie.close
     (tie.spec
-    clear-requires
-    slice-aggregate-choose
-    choose-requires
-    array-share-prefix-chosen
-    slice-aggregate-take
-    take-requires
+    slice-aggregate-enter-all
+    enter-all-requires
+    slice-aggregate-run-indexed
+    run-indexed-requires
     same-length
     same-length-2
     returns)

@@ -1,3 +1,5 @@
+use denote.Ref.{now}
+use Rattle.run.proofs.Taking.{choice-ready, order-ready, touched-fit, order-runs, as-order, order-returned, counter-returned}
 use borrow.Author.Needs.{needs}
 use Rattle.run.proofs.take_placed.Statement.{statement}
 use Rattle.run.proofs.take_placed.Tie as tie
@@ -8,7 +10,7 @@ use Rattle.pass_order.proofs.order_choice.Reads as order-choice-reads
 
 -- src/lib.rt:135:9
 take-choice-requires : tie.Need-take-choice-requires
-take-choice-requires c κs = ?
+take-choice-requires c κs = (choice-ready (c .before .before .before .before .before .before .before .before .before .pre .0), c .before .before .before .before .before .before .before .before .before .pre .1, c .before .before .before .before .before .before .before .before .before .pre .2)
 
 -- src/lib.rt:137:26
 enum-told : tie.Need-enum-told
@@ -20,7 +22,8 @@ enum-told-2 c = search needs
 
 -- src/lib.rt:138:24
 order-choice-requires : tie.Need-order-choice-requires
-order-choice-requires c κs = ?
+order-choice-requires c κs = let o = as-order (now (c .before .before .before .before .before .before .before .before .before .before .before .before .before .before .before .before .before .before .before .before .before .before .before .args .literals)) (c .before .before .before .before .before .before .before .before .before .before .before .before .before .before .before .before .before .before .before .before .before .before .before .args .below) (c .before .before .before .before .enum-told2 .given .1) (c .before .before .before .before .before .before .before .before .before .before .before .before .before .before .before .before .before .before .before .before .before .before .before .pre .0) in
+    (order-ready o (c .before .before .before .before .before .before .before .before .before .before .before .before .before .take-choice .ensures .0), c .before .before .before .before .before .before .before .before .before .before .before .before .before .before .before .before .before .before .before .before .before .before .before .pre .1, touched-fit o (c .before .before .before .before .before .before .before .before .before .before .before .before .before .take-choice .ensures .0) (c .before .before .before .before .before .before .before .before .before .before .before .before .before .before .before .before .before .before .before .before .before .before .before .pre .3))
 
 -- src/lib.rt:117:1
 same-length : tie.Need-same-length
@@ -40,7 +43,7 @@ same-length-4 c = search needs
 
 -- src/lib.rt:117:1
 returns : tie.Need-returns
-returns c = ?
+returns c = (counter-returned (now (c .before .before .before .before .before .before .before .before .before .before .before .before .before .before .before .before .before .before .before .args .literals)) (c .before .before .before .before .before .before .before .before .before .before .before .before .before .before .before .before .before .before .before .args .below) (c .enum-told .given .1) (c .before .before .before .before .before .before .before .before .before .take-choice .ensures .0 .ran), (c .before .before .before .before .before .before .before .before .before .take-choice .ensures .0 .indexed, c .before .before .before .before .before .before .before .before .before .take-choice .ensures .1))
 
 -- src/lib.rt:117:1
 same-length-5 : tie.Need-same-length-5
@@ -64,7 +67,8 @@ same-length-9 c = search needs
 
 -- src/lib.rt:117:1
 returns-2 : tie.Need-returns-2
-returns-2 c = ?
+returns-2 c = let o = as-order (now (c .before .before .before .before .before .before .before .before .before .before .before .before .before .before .before .before .before .before .before .before .before .before .before .before .before .before .before .before .before .before .before .args .literals)) (c .before .before .before .before .before .before .before .before .before .before .before .before .before .before .before .before .before .before .before .before .before .before .before .before .before .before .before .before .before .before .before .args .below) (c .before .before .before .before .before .before .before .before .before .before .before .before .enum-told2 .given .1) (c .before .before .before .before .before .before .before .before .before .before .before .before .before .before .before .before .before .before .before .before .before .before .before .before .before .before .before .before .before .before .before .pre .0) in
+    (order-returned (now (c .before .before .before .before .before .before .before .before .before .before .before .before .before .before .before .before .before .before .before .before .before .before .before .before .before .before .before .before .before .before .before .args .literals)) (c .before .before .before .before .before .before .before .before .before .before .before .before .before .before .before .before .before .before .before .before .before .before .before .before .before .before .before .before .before .before .before .args .below) (c .before .before .before .before .before .before .before .before .before .before .before .before .enum-told2 .given .1) (order-runs o (c .before .before .before .before .before .before .before .before .before .before .before .before .before .before .before .before .before .before .before .before .before .take-choice .ensures .0) (c .before .before .before .before .before .before .before .order-choice .ensures .0)), (c .before .before .before .before .before .before .before .order-choice .ensures .1, c .before .before .before .before .before .before .before .before .before .before .before .before .before .before .before .before .before .before .before .before .before .take-choice .ensures .1))
 
 pub take-placed-spec : {M : Type 1} → statement M
 take-placed-spec =

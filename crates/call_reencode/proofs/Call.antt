@@ -154,7 +154,7 @@ module _ (t : Bytes) (s : Code-settings.Settings) (work : List ℤ) (log₀ form
       let e : read-input t ≡ fault n = sym at-limits ∙ formula-answer (read-formula (limits-of m) t) (sym q ∙ p) in
       refused n (rw e refl)
 
-  module _ (v c l filled need : ℕ) (q : a ≡ FormulaRead.Formula v c l filled) (w : need ≡ 20 * l + 2 * c + 6 * v + 8_192) where
+  module _ (v c l filled need : ℕ) (q : a ≡ FormulaRead.Formula v c l filled) (w : need ≡ 40 * l + 4 * c + 12 * v + 8_192) where
     found : Formula-is (read-input t) v c l filled
     found = rw at-limits at (formula-answer (read-formula (limits-of m) t) (sym q ∙ p))
 
@@ -223,6 +223,7 @@ module _ (t : Bytes) (s : Code-settings.Settings) (work : List ℤ) (log₀ form
           proper = known .proper;
         });
         enough = rw stored-is (omega (arith, lent-size, w, found .literals, found .clauses, known .formula-few));
+        whole = rw stored-is (found .numbers);
       }
 
       pub call-run : {b : Code.Reencoding} {x y : Bytes} → Answers (fitted (settings-of s) (input-in lent filled v) log₀ formula₀) log₀ formula₀ b x y → Answers (outcome s t work log₀ formula₀) log₀ formula₀ b x y

@@ -169,7 +169,3 @@ pub reading-part : {work part : List ℤ} {end : ℕ} {newest : List ℕ} {l : �
 reading-part {work} {part} {end} i s r =
     reading-by (nodes-behind i (part ++ drop end work) (part-size i s) (part-behind i s))
     (subst (λ (q : List ℤ). Same-entries (take end work) q) (sym (part-store i s)) s) r
-
-pub reading-kept : {work : List ℤ} {end at : ℕ} {newest : List ℕ} {l : ℤ} {t : ℕ} {ps : List ℕ} → Indexed work end newest → Place (take end work) at → at < end → Reading work end newest l t ps → Reading (marked work at) end newest l t ps
-reading-kept {work} {end} {at} i p h r =
-    reading-by (nodes-behind i (marked work at) (length-set work at (flip (header-at work at))) (drop-set-lt end work at (flip (header-at work at)) h)) (marked-part i p h) r

@@ -2,7 +2,7 @@
 use mathlib.Core.Path.{_≡_, refl, sym, ap, subst, _∙_}
 use mathlib.Core.Logic.{_⊎_, inl, inr, ⊎-elim}
 use mathlib.Core.Bool.{Bool, true, false, cond}
-use mathlib.Core.List.{List, [], _∷_, _++_, List·Memᴰ, List·Memᴰ·head as here, List·Memᴰ·tail as there, List·Memᴰ·append-cases, List·Memᴰ·not-nil}
+use mathlib.Core.List.{List, [], _∷_, _++_, List·Memᴰ, List·Memᴰ·head as here, List·Memᴰ·tail as there, List·Memᴰ·not-nil}
 use Prim.Native.Nat.{ℕ, zero, suc, _+_, _≤_, _<_}
 use native.Mathlib.Omega.{arith}
 use lib.Dec.{ltb}
@@ -19,7 +19,7 @@ use Rattle.theory_base.proofs.Members.{same-eq, same-refl as literal-same}
 use Rattle.literals.specs.Literal.{negative, flip, header-literals}
 use Rattle.literals.proofs.Laws.{literals-flip}
 use Rattle.store.specs.Store.{Formed-from, Formed, stored-from, stored, header-at, size-at, deleted-at, clause-at, past, marked, Place}
-use Rattle.store.proofs.Laws.{stored-none, prefix-deleted, prefix-stands, by-entries, place-start, place-end, place-formed, place-next, clause-length, prefix-next, past-within, marked-place}
+use Rattle.store.proofs.Laws.{stored-none, prefix-deleted, prefix-stands, by-entries, place-end, place-formed, clause-length, prefix-next, past-within, marked-place}
 use Rattle.index.specs.Index.{entered-from, entered, literals-from, literals-in, Same-entries}
 use Rattle.index.specs.Reading.{Entry-with}
 
@@ -259,17 +259,10 @@ module _ (l : ℤ) (s : List ℤ) (f : Formed s) where
   pub entered-falling : Falling (entered l s)
   entered-falling = subst (λ (r : List ℤ). Falling (entered l r)) (take-length s) (entered-falls l s (length s) (place-end f))
 
-  -- what is behind a place is no later, and what is later is before it
+  -- what is behind a place is no later
   module _ (ps qs : List ℕ) (a : ℕ) (e : entered l s ≡ ps ++ (a ∷ qs)) where
     pub entered-behind : (b : ℕ) → List·Memᴰ b qs → b ≤ a
     entered-behind b i = falling-split ps qs a b (subst (λ (r : List ℕ). Falling r) e entered-falling) i
-
-    pub entered-earlier : (b : ℕ) → List·Memᴰ b (entered l s) → a < b → List·Memᴰ b ps
-    entered-earlier b i h = ⊎-elim (λ j. j) (λ j. no j) (List·Memᴰ·append-cases ps (subst (λ (r : List ℕ). List·Memᴰ b r) e i))
-      where
-        no : List·Memᴰ b (a ∷ qs) → List·Memᴰ b ps
-        no (here z) = absurd (omega arith)
-        no (there j) = absurd (omega (arith, entered-behind b j))
 
 -- ---- how many nodes a store takes
 

@@ -1,5 +1,5 @@
 -- One choice: room is made, the choice taken in counter form and, if that is named, in order form.
-use mathlib.Core.Path.{_≡_, refl, ap, _∙_}
+use mathlib.Core.Path.{_≡_, ap, _∙_}
 use mathlib.Core.List.{List, [], _∷_}
 use Prim.Native.Nat.{ℕ, _≤_}
 use native.Mathlib.Omega.{arith}
@@ -15,14 +15,12 @@ use Rattle.definition.specs.Order.{order-events}
 use Rattle.definition.specs.Reencoding.{lines-of, lines, Form, counter-form, order-form, choice-events}
 use Rattle.theory_base.proofs.Fitting.{Proper-to, proper-fit}
 use Rattle.theory_base.proofs.Replay.{All-clauses}
-use Rattle.theory_counter.specs.Front.{front}
 use Rattle.theory_room.proofs.Lines.{after-choice-to}
 use Rattle.theory_run.specs.Choices.{Takeable}
 use Rattle.tables.specs.Sizes.{input-reach, input-size}
 use Rattle.tables.specs.Entries.{with-entries}
 use Rattle.tables.specs.Places.{with-numbers, Places, Small}
 use Rattle.tables.proofs.Places.{places-of, unplaced}
-use Rattle.store.specs.Store.{stored}
 use Rattle.index.specs.Index.{Indexed, Roomy}
 use Rattle.lookup.specs.Lookup.{touched-places}
 use Rattle.lookup.proofs.Touched.{touched-count}

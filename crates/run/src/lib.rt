@@ -71,13 +71,7 @@ fn clear(
 // ---- choosing
 
 // Arranges the literals of the choices.
-fn arrange(
-    work: &[i32],
-    newest: &[u32],
-    end: usize,
-    chosen: &mut [i32],
-    arrangement: Arrangement,
-)
+fn arrange(work: &[i32], newest: &[u32], end: usize, chosen: &mut [i32], arrangement: Arrangement)
     requires { ⌜ Indexed (now work) end (now newest) × Proper-store (take end (now work)) × Choices (now chosen) ⌝ }
     ensures { λ _. ⌜ Mapped (arranged (named-arrangement arrangement) (stored (take end (now (work .entry)))) (stored (now (chosen .entry)))) (now (chosen .entry)) (now (chosen .exit)) ⌝ }
 {
@@ -136,7 +130,15 @@ fn take_placed(
     match form {
         Form::Counter => r,
         Form::Order => pass_order::order_choice(
-            work, newest, log, r, start, literals, below, places, list,
+            work,
+            newest,
+            log,
+            r,
+            start,
+            literals,
+            below,
+            places,
+            list,
         ),
     }
 }
@@ -163,7 +165,16 @@ fn take_one(
     let q = progress::make_room(work, newest, p, step);
     tables::set_places(places, literals);
     let r = take_placed(
-        work, newest, places, counts, list, log, q, form, literals, below,
+        work,
+        newest,
+        places,
+        counts,
+        list,
+        log,
+        q,
+        form,
+        literals,
+        below,
     );
     tables::set_entries(places, literals, 0);
     r
@@ -197,7 +208,17 @@ fn take_at(
     let before = r.progress;
     let literals = &chosen[first..next];
     let p = take_one(
-        work, newest, places, counts, list, log, before, form, literals, below, step,
+        work,
+        newest,
+        places,
+        counts,
+        list,
+        log,
+        before,
+        form,
+        literals,
+        below,
+        step,
     );
     Reached {
         progress: p,
@@ -231,7 +252,17 @@ fn take(
     let mut at = 0;
     while at < chosen.len() {
         r = take_at(
-            work, newest, places, &mut counts, &mut list, log, r, form, chosen, at, step,
+            work,
+            newest,
+            places,
+            &mut counts,
+            &mut list,
+            log,
+            r,
+            form,
+            chosen,
+            at,
+            step,
         );
         at = store::next_at(chosen, at);
     }
@@ -273,7 +304,15 @@ fn run_indexed(
     let mut chosen = [0i32; 9600];
     let n = choose(work, newest, p, &mut chosen, arrangement);
     take(
-        work, newest, &mut places, log, p, form, &chosen[..n], highest, step,
+        work,
+        newest,
+        &mut places,
+        log,
+        p,
+        form,
+        &chosen[..n],
+        highest,
+        step,
     )
 }
 

@@ -3,7 +3,6 @@ use mathlib.Core.Path.{_≡_, refl, sym, ap, ap₂, _∙_}
 use mathlib.Core.Bool.{true, false}
 use mathlib.Core.List.{List, [], _∷_, _++_, append-assoc, append-nil}
 use Prim.Native.Nat.{ℕ, _+_, _≤_, _<_}
-use native.Mathlib.Nat.{add-zero}
 use native.Mathlib.Omega.{arith}
 use lib.IntN.{ℤ}
 use lib.ListN.{length, take, drop, length-drop}
@@ -11,7 +10,7 @@ use lib.Seq.{length-take-le, sets, length-sets}
 use Rattle.definition.specs.Literals.{Formula}
 use Rattle.definition.specs.Calls.{numbers-of}
 use Rattle.theory_base.proofs.Tests.{by-test}
-use Rattle.store.specs.Store.{Formed, stored-from, stored, header-at, size-at, deleted-at, clause-at, past, slid, slid-to, filled-by, Compacted}
+use Rattle.store.specs.Store.{Formed, stored-from, stored, header-at, size-at, deleted-at, clause-at, past, slid, slid-to, Compacted}
 use Rattle.theory_base.proofs.Slices.{sets-after, taken-sets}
 use Rattle.theory_base.proofs.Clauses.{numbers-none, numbers-first, numbers-++}
 use Rattle.store.proofs.Laws.{formed-++, stored-++, stored-end, formed-next, rest-deleted, rest-stands, piece, clause-length, formed-one-at, stored-one-at}
@@ -96,32 +95,3 @@ pub sliding-end : (old s : List ℤ) (to from : ℕ) → Sliding old s to from �
 sliding-end old s to from i h =
     let e : stored (take to s) ≡ stored old = sym (append-nil (stored (take to s))) ∙ ap (λ (r : Formula). stored (take to s) ++ r) (sym (stored-end s from h)) ∙ i .same in
     record { within = omega (arith, i .order, i .inside); formed = i .front; same = e; size = i .size ∙ ap numbers-of e }
-
--- ---- the loop of `size_standing`
-
-pub record Sizing (s : List ℤ) (n at : ℕ) : Type 0 where
-  pub inside : at ≤ length s
-  pub small : n ≤ at
-  pub rest : Formed (drop at s)
-  pub sum : n + numbers-of (stored (drop at s)) ≡ numbers-of (stored s)
-
-pub sizing-start : (s : List ℤ) → Formed s → Sizing s 0 0
-sizing-start s f = record { inside = omega arith; small = omega arith; rest = f; sum = omega arith }
-
-module _ (s : List ℤ) (n at : ℕ) (i : Sizing s n at) (h : at < length s) where
-  sizing-deleted : deleted-at s at ≡ true → Sizing s n (past s at)
-  sizing-deleted d =
-      let f = formed-next s at h (i .rest) in
-      record { inside = f .0; small = omega (arith, i .small); rest = f .1; sum = ap (λ (g : Formula). n + numbers-of g) (sym (rest-deleted s at h d)) ∙ i .sum }
-
-  sizing-stands : deleted-at s at ≡ false → Sizing s (n + (1 + size-at s at)) (past s at)
-  sizing-stands d =
-      let f = formed-next s at h (i .rest) in
-      let a = ap numbers-of (rest-stands s at h d) ∙ numbers-first (clause-at s at) (stored (drop (past s at) s)) in
-      record { inside = f .0; small = omega (arith, i .small); rest = f .1; sum = omega (arith, a, i .sum, clause-length s at h (i .rest)) }
-
-  pub sizing-turn : (k next : ℕ) → k ≡ filled-by s at → next ≡ past s at → Sizing s (n + k) next
-  sizing-turn k next e p = rw (e, p) (by-test (deleted-at s at) (λ d. rw (d, add-zero n) (sizing-deleted d)) (λ d. rw d (sizing-stands d)))
-
-pub sizing-end : (s : List ℤ) (n at : ℕ) → Sizing s n at → length s ≤ at → n ≡ numbers-of (stored s)
-sizing-end s n at i h = omega (arith, i .sum, ap numbers-of (stored-end s at h), numbers-none)

@@ -129,10 +129,6 @@ slid s to from = cond (deleted-at s from) s (sets s to (take (1 + size-at s from
 abbrev pub slid-to : List ℤ → ℕ → ℕ → ℕ
 slid-to s to from = cond (deleted-at s from) to (to + (1 + size-at s from))
 
--- what the clause at a place fills if it stands
-abbrev pub filled-by : List ℤ → ℕ → ℕ
-filled-by s at = cond (deleted-at s at) 0 (1 + size-at s at)
-
 -- the standing clauses fill the first r elements
 pub record Compacted (old : List ℤ) (r : ℕ) (new : List ℤ) : Type 0 where
   pub within : r ≤ length new

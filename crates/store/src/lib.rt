@@ -9,7 +9,7 @@ ghost use Rattle.definition.specs.Literals.{holds as holds-literal, same-set as
 ghost use Rattle.definition.specs.Calls.{numbers-of};
 ghost use Rattle.tables.specs.Entries.{tallied-all};
 ghost use Rattle.store.specs.declared.Found.the-variants.{At};
-ghost use Rattle.store.specs.Store.{Formed, stored, past, marked, tallied-at, begins-with, place-of, Deleted, end-after, with-entry, slid, slid-to, filled-by as filled, Compacted};
+ghost use Rattle.store.specs.Store.{Formed, stored, past, marked, tallied-at, begins-with, place-of, end-after, with-entry, slid, slid-to, Compacted};
 ghost use Rattle.store.specs.Marks.{Marks};
 
 pub enum Found {
@@ -47,7 +47,7 @@ pub fn clause_part<'a>(
 // ---- sets of literals
 
 // Whether a literal is in a clause.
-pub fn holds(clause: &[i32], l: i32) -> bool
+fn holds(clause: &[i32], l: i32) -> bool
     ensures { λ r. ⌜ r ≡ holds-literal l (now (clause .entry)) ⌝ }
 {
     let mut i = 0;
@@ -61,7 +61,7 @@ pub fn holds(clause: &[i32], l: i32) -> bool
 }
 
 // Whether every literal of a clause is in another.
-pub fn all_in(a: &[i32], b: &[i32]) -> bool
+fn all_in(a: &[i32], b: &[i32]) -> bool
     ensures { λ r. ⌜ r ≡ all (λ l. holds-literal l (now (b .entry))) (now (a .entry)) ⌝ }
 {
     let mut i = 0;
@@ -76,7 +76,7 @@ pub fn all_in(a: &[i32], b: &[i32]) -> bool
 }
 
 // Whether two clauses have the same set of literals.
-pub fn same_set(a: &[i32], b: &[i32]) -> bool
+fn same_set(a: &[i32], b: &[i32]) -> bool
     ensures { λ r. ⌜ r ≡ same-literals (now (a .entry)) (now (b .entry)) ⌝ }
 {
     if all_in(a, b) { all_in(b, a) } else { false }
@@ -231,20 +231,6 @@ pub fn mark_deleted(store: &mut [i32], at: usize)
     store[at] = literals::flipped(h);
 }
 
-// Deletes the first standing clause with the same set of literals; says whether there was one.
-pub fn delete_clause(store: &mut [i32], clause: &[i32]) -> bool
-    requires { ⌜ Formed (now store) ⌝ }
-    ensures { λ r. ⌜ Deleted (now (clause .entry)) (now (store .entry)) r (now (store .exit)) ⌝ }
-{
-    match find_same_set(store, clause) {
-        Found::At(at) => {
-            mark_deleted(store, at);
-            true
-        }
-        Found::Nothing => false,
-    }
-}
-
 // ---- adding
 
 // Stores an element where the store has the place.
@@ -328,31 +314,6 @@ pub fn compact(store: &mut [i32]) -> usize
         from = next;
     }
     to
-}
-
-// How many elements the clause at a place fills if it stands.
-fn filled_by(store: &[i32], at: usize) -> usize
-    requires { ⌜ at < length (now store) ⌝ }
-    ensures { λ r. ⌜ r ≡ filled (now (store .entry)) at ⌝ }
-{
-    if literals::is_negative(store[at]) {
-        return 0;
-    }
-    1 + literals::header_length(store[at])
-}
-
-// How many elements the standing clauses fill.
-pub fn size_standing(store: &[i32]) -> usize
-    requires { ⌜ Formed (now store) ⌝ }
-    ensures { λ r. ⌜ r ≡ numbers-of (stored (now (store .entry))) ⌝ }
-{
-    let mut n = 0;
-    let mut at = 0;
-    while at < store.len() {
-        n += filled_by(store, at);
-        at = next_at(store, at);
-    }
-    n
 }
 
 // ---- how often each literal stands

@@ -147,11 +147,6 @@ pub literals-first : (c : Clause) (f : Formula) → literals-of (c ∷ f) ≡ le
 unfolding literals-of sum-of
 literals-first c f = refl
 
--- a clause fills at least an element
-pub numbers-least : (f : Formula) → length f ≤ numbers-of f
-unfolding numbers-of
-numbers-least f = omega arith
-
 -- ---- a literal after itself, or after its negation
 pub repeated-after : (c : Clause) (l : ℤ) (d : Clause) → List·Memᴰ l c → repeated (c ++ l ∷ d) ≡ true
 unfolding repeated

@@ -50,10 +50,10 @@ record-added-requires c κs =
     let back = back .before in let is-opposed = back .is-opposed in
     let start = back .before .before .before .before .before .before in
     added-ready (start .pre .0 .0) (now (start .args .work)) (start .args .from) (start .args .n) (start .pre .0 .2)
-          (start .pre .1)
-          (opposed-there (start .pre .0 .0) (now (start .args .work)) (start .args .from) (start .args .n)
-          (start .pre .0 .2) (start .pre .1) (is-opposed .ensures) (if1 .left)) (append-replaced .ensures .0)
-          (append-replaced .ensures .1)
+    (start .pre .1)
+    (opposed-there (start .pre .0 .0) (now (start .args .work)) (start .args .from) (start .args .n)
+    (start .pre .0 .2) (start .pre .1) (is-opposed .ensures) (if1 .left)) (append-replaced .ensures .0)
+    (append-replaced .ensures .1)
 
 same-length-2 : tie.Need-same-length-2
 same-length-2 c = search needs

@@ -4,30 +4,22 @@ use Rattle.run.proofs.Choosing.{listed-returned, aligned-returned}
 use borrow.Author.Needs.{needs}
 use Rattle.run.proofs.arrange.Statement.{statement}
 use Rattle.run.proofs.arrange.Tie as tie
-use Rattle.run.proofs.arrange.Reads as reads
-use Rattle.run.proofs.arrange.Lts as lts
-use Rattle.pass_align.proofs.align.Reads as align-reads
 
 enum-told : tie.Need-enum-told
 enum-told c = search needs
 
--- src/lib.rt:86:72
 enum-told-2 : tie.Need-enum-told-2
 enum-told-2 c = search needs
 
--- src/lib.rt:86:35
 align-requires : tie.Need-align-requires
 align-requires c κs = search needs
 
--- src/lib.rt:74:1
 returns : tie.Need-returns
 returns c = listed-returned (c .enum-told .given .1) (take (c .before .before .before .args .end) (now (c .before .before .before .args .work))) (now (c .before .before .before .args .chosen)) (c .before .before .before .pre .2 .formed)
 
--- src/lib.rt:74:1
 same-length : tie.Need-same-length
 same-length c = search needs
 
--- src/lib.rt:74:1
 returns-2 : tie.Need-returns-2
 returns-2 c = aligned-returned (c .before .before .before .enum-told2 .given .1) (take (c .before .before .before .before .before .before .args .end) (now (c .before .before .before .before .before .before .args .work))) (now (c .before .before .before .before .before .before .args .chosen)) (c .before .align .ensures)
 

@@ -1,4 +1,3 @@
-use mathlib.Core.Path.{refl}
 use Prim.Native.Nat.{ℕ}
 use native.Mathlib.Omega.{arith}
 use lib.ListN.{length-replicate}
@@ -8,36 +7,25 @@ use Rattle.run.proofs.Phases.{enter-room, same-ready, ran-same}
 use mathlib.Core.Path.{sym, _∙_}
 use Rattle.run.proofs.run.Statement.{statement}
 use Rattle.run.proofs.run.Tie as tie
-use Rattle.run.proofs.run.Reads as reads
-use Rattle.run.proofs.run.Lts as lts
-use Rattle.index.proofs.enter_all.Reads as enter-all-reads
-use Rattle.run.proofs.run_indexed.Reads as run-indexed-reads
 
--- src/lib.rt:292:28
 slice-aggregate-enter-all : tie.Need-slice-aggregate-enter-all
 slice-aggregate-enter-all c = sym (length-replicate {A = ℕ} log-size 0)
 
--- src/lib.rt:292:5
 enter-all-requires : tie.Need-enter-all-requires
 enter-all-requires c κs = ((c .before .before .before .pre .formed, enter-room (c .before .before .before .pre), c .before .before .before .pre .small), (λ i. omega (arith, getD-zeros log-size i), length-replicate {A = ℕ} log-size 0))
 
--- src/lib.rt:293:23
 slice-aggregate-run-indexed : tie.Need-slice-aggregate-run-indexed
 slice-aggregate-run-indexed c = sym (c .before .before .before .before .enter-all .ensures .0 .size)
 
--- src/lib.rt:293:5
 run-indexed-requires : tie.Need-run-indexed-requires
 run-indexed-requires c κs = (same-ready (c .before .before .before .before .before .before .before .before .before .pre) _ (c .before .before .before .before .before .enter-all .kept .0) (c .before .before .before .before .before .enter-all .ensures .1), c .before .before .before .before .before .enter-all .ensures .0)
 
--- src/lib.rt:281:1
 same-length : tie.Need-same-length
 same-length c = c .before .before .before .before .run-indexed .kept .0 ∙ c .before .before .before .before .before .before .before .before .before .before .enter-all .kept .0
 
--- src/lib.rt:281:1
 same-length-2 : tie.Need-same-length-2
 same-length-2 c = c .before .before .before .before .run-indexed .kept .1 .1 .0
 
--- src/lib.rt:281:1
 returns : tie.Need-returns
 returns c = ran-same (c .before .before .before .before .before .before .before .before .before .before .before .before .before .before .pre) _ (c .before .before .before .before .before .before .before .before .before .before .enter-all .kept .0) (c .before .before .before .before .before .before .before .before .before .before .enter-all .ensures .1) (c .before .before .before .before .run-indexed .ensures)
 

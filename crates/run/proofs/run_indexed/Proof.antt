@@ -10,62 +10,43 @@ use lib.ListN.{length, length-replicate}
 use Rattle.tables.specs.Sizes.{input-size}
 use Rattle.run.proofs.run_indexed.Statement.{statement}
 use Rattle.run.proofs.run_indexed.Tie as tie
-use Rattle.run.proofs.run_indexed.Reads as reads
-use Rattle.run.proofs.run_indexed.Lts as lts
-use Rattle.run.proofs.choose.Reads as choose-reads
-use Rattle.run.proofs.clear.Reads as clear-reads
-use Rattle.run.proofs.step_of.Reads as step-of-reads
-use Rattle.run.proofs.take.Reads as take-reads
 
--- src/lib.rt:270:9
 step-of-requires : tie.Need-step-of-requires
 step-of-requires c κs = few-nodes (c .before .before .before .pre .0) (c .before .before .before .pre .1)
 
--- src/lib.rt:272:33
 slice-aggregate-clear : tie.Need-slice-aggregate-clear
 slice-aggregate-clear c = search needs
 
--- src/lib.rt:272:9
 clear-requires : tie.Need-clear-requires
 clear-requires c κs = (clear-ready (c .before .before .before .before .before .before .before .before .pre .0) (settings-of (c .before .before .before .before .before .before .before .before .args .settings)) (step-is (c .before .before .before .before .before .before .before .before .pre .0) (c .before .before .before .before .before .before .before .before .pre .1) (c .before .before .before .before .step-of .ensures)), c .before .before .before .before .before .before .before .before .pre .1, refl)
 
--- src/lib.rt:274:37
 slice-aggregate-choose : tie.Need-slice-aggregate-choose
 slice-aggregate-choose c = search needs
 
--- src/lib.rt:274:9
 choose-requires : tie.Need-choose-requires
 choose-requires c κs = (choosable (c .before .before .before .before .before .before .before .before .before .before .before .before .before .before .before .before .before .before .pre .0) (settings-of (c .before .before .before .before .before .before .before .before .before .before .before .before .before .before .before .before .before .before .args .settings)) (c .before .before .before .before .before .before .before .before .before .clear .ensures .0) _ refl, c .before .before .before .before .before .before .before .before .before .clear .ensures .1 .0)
 
--- src/lib.rt:276:23
 slice-aggregate-take : tie.Need-slice-aggregate-take
 slice-aggregate-take c = sym (ap length (c .before .before .before .before .before .before .before .before .before .before .before .before .before .before .clear .ensures .1 .1) ∙ length-replicate {A = ℕ} input-size 0)
 
--- src/lib.rt:276:50
 array-share-prefix-chosen : tie.Need-array-share-prefix-chosen
 array-share-prefix-chosen c = search needs
 
--- src/lib.rt:276:50
 slice-aggregate-take-2 : tie.Need-slice-aggregate-take-2
 slice-aggregate-take-2 c = sym (length-take-le (c .before .before .before .before .before .before .choose .result) (c .before .before .before .before .before .before .choose .last .1 .1 .1 .0) (omega (arith, c .before .before .before .before .before .before .choose .ensures .inside, c .before .before .before .before .before .before .choose .ensures .same-size)))
 
--- src/lib.rt:275:5
 take-requires : tie.Need-take-requires
 take-requires c κs = (all-ready (c .before .before .before .before .before .before .before .before .before .before .before .before .before .before .before .before .before .before .before .before .before .before .before .before .before .pre .0) (settings-of (c .before .before .before .before .before .before .before .before .before .before .before .before .before .before .before .before .before .before .before .before .before .before .before .before .before .args .settings)) (c .before .before .before .before .before .before .before .before .before .before .before .before .before .before .before .before .clear .ensures .0) (c .before .before .before .before .before .before .choose .ensures) refl (step-is (c .before .before .before .before .before .before .before .before .before .before .before .before .before .before .before .before .before .before .before .before .before .before .before .before .before .pre .0) (c .before .before .before .before .before .before .before .before .before .before .before .before .before .before .before .before .before .before .before .before .before .before .before .before .before .pre .1) (c .before .before .before .before .before .before .before .before .before .before .before .before .before .before .before .before .before .before .before .before .before .step-of .ensures)), c .before .before .before .before .before .before .before .before .before .before .before .before .before .before .before .before .clear .ensures .1 .0, c .before .before .before .before .before .before .before .before .before .before .before .before .before .before .before .before .clear .ensures .1 .1)
 
--- src/lib.rt:252:1
 same-length : tie.Need-same-length
 same-length c = search needs
 
--- src/lib.rt:252:1
 same-length-2 : tie.Need-same-length-2
 same-length-2 c = search needs
 
--- src/lib.rt:252:1
 same-length-3 : tie.Need-same-length-3
 same-length-3 c = search needs
 
--- src/lib.rt:252:1
 returns : tie.Need-returns
 returns c = ran-all (c .before .before .before .before .before .before .before .before .before .before .before .before .before .before .before .before .before .before .before .before .before .before .before .before .before .before .before .before .before .before .before .before .pre .0) (settings-of (c .before .before .before .before .before .before .before .before .before .before .before .before .before .before .before .before .before .before .before .before .before .before .before .before .before .before .before .before .before .before .before .before .args .settings)) (c .before .before .before .before .before .before .before .before .before .before .before .before .before .before .before .before .before .before .before .before .before .before .before .clear .ensures .0) (c .before .before .before .before .before .before .before .before .before .before .before .before .before .choose .ensures) refl (c .before .before .before .before .before .before .take .ensures)
 

@@ -3,69 +3,50 @@ use Rattle.run.proofs.Taking.{choice-ready, order-ready, touched-fit, o
 use borrow.Author.Needs.{needs}
 use Rattle.run.proofs.take_placed.Statement.{statement}
 use Rattle.run.proofs.take_placed.Tie as tie
-use Rattle.run.proofs.take_placed.Reads as reads
-use Rattle.run.proofs.take_placed.Lts as lts
-use Rattle.pass_counter.proofs.take_choice.Reads as take-choice-reads
-use Rattle.pass_order.proofs.order_choice.Reads as order-choice-reads
 
--- src/lib.rt:135:9
 take-choice-requires : tie.Need-take-choice-requires
 take-choice-requires c κs = (choice-ready (c .before .before .before .before .before .before .before .before .before .pre .0), c .before .before .before .before .before .before .before .before .before .pre .1, c .before .before .before .before .before .before .before .before .before .pre .2)
 
--- src/lib.rt:137:26
 enum-told : tie.Need-enum-told
 enum-told c = search needs
 
--- src/lib.rt:139:13
 enum-told-2 : tie.Need-enum-told-2
 enum-told-2 c = search needs
 
--- src/lib.rt:138:24
 order-choice-requires : tie.Need-order-choice-requires
 order-choice-requires c κs = let o = as-order (now (c .before .before .before .before .before .before .before .before .before .before .before .before .before .before .before .before .before .before .before .before .before .before .before .args .literals)) (c .before .before .before .before .before .before .before .before .before .before .before .before .before .before .before .before .before .before .before .before .before .before .before .args .below) (c .before .before .before .before .enum-told2 .given .1) (c .before .before .before .before .before .before .before .before .before .before .before .before .before .before .before .before .before .before .before .before .before .before .before .pre .0) in
     (order-ready o (c .before .before .before .before .before .before .before .before .before .before .before .before .before .take-choice .ensures .0), c .before .before .before .before .before .before .before .before .before .before .before .before .before .before .before .before .before .before .before .before .before .before .before .pre .1, touched-fit o (c .before .before .before .before .before .before .before .before .before .before .before .before .before .take-choice .ensures .0) (c .before .before .before .before .before .before .before .before .before .before .before .before .before .before .before .before .before .before .before .before .before .before .before .pre .3))
 
--- src/lib.rt:117:1
 same-length : tie.Need-same-length
 same-length c = search needs
 
--- src/lib.rt:117:1
 same-length-2 : tie.Need-same-length-2
 same-length-2 c = search needs
 
--- src/lib.rt:117:1
 same-length-3 : tie.Need-same-length-3
 same-length-3 c = search needs
 
--- src/lib.rt:117:1
 same-length-4 : tie.Need-same-length-4
 same-length-4 c = search needs
 
--- src/lib.rt:117:1
 returns : tie.Need-returns
 returns c = (counter-returned (now (c .before .before .before .before .before .before .before .before .before .before .before .before .before .before .before .before .before .before .before .args .literals)) (c .before .before .before .before .before .before .before .before .before .before .before .before .before .before .before .before .before .before .before .args .below) (c .enum-told .given .1) (c .before .before .before .before .before .before .before .before .before .take-choice .ensures .0 .ran), (c .before .before .before .before .before .before .before .before .before .take-choice .ensures .0 .indexed, c .before .before .before .before .before .before .before .before .before .take-choice .ensures .1))
 
--- src/lib.rt:117:1
 same-length-5 : tie.Need-same-length-5
 same-length-5 c = search needs
 
--- src/lib.rt:117:1
 same-length-6 : tie.Need-same-length-6
 same-length-6 c = search needs
 
--- src/lib.rt:117:1
 same-length-7 : tie.Need-same-length-7
 same-length-7 c = search needs
 
--- src/lib.rt:117:1
 same-length-8 : tie.Need-same-length-8
 same-length-8 c = search needs
 
--- src/lib.rt:117:1
 same-length-9 : tie.Need-same-length-9
 same-length-9 c = search needs
 
--- src/lib.rt:117:1
 returns-2 : tie.Need-returns-2
 returns-2 c = let o = as-order (now (c .before .before .before .before .before .before .before .before .before .before .before .before .before .before .before .before .before .before .before .before .before .before .before .before .before .before .before .before .before .before .before .args .literals)) (c .before .before .before .before .before .before .before .before .before .before .before .before .before .before .before .before .before .before .before .before .before .before .before .before .before .before .before .before .before .before .before .args .below) (c .before .before .before .before .before .before .before .before .before .before .before .before .enum-told2 .given .1) (c .before .before .before .before .before .before .before .before .before .before .before .before .before .before .before .before .before .before .before .before .before .before .before .before .before .before .before .before .before .before .before .pre .0) in
     (order-returned (now (c .before .before .before .before .before .before .before .before .before .before .before .before .before .before .before .before .before .before .before .before .before .before .before .before .before .before .before .before .before .before .before .args .literals)) (c .before .before .before .before .before .before .before .before .before .before .before .before .before .before .before .before .before .before .before .before .before .before .before .before .before .before .before .before .before .before .before .args .below) (c .before .before .before .before .before .before .before .before .before .before .before .before .enum-told2 .given .1) (order-runs o (c .before .before .before .before .before .before .before .before .before .before .before .before .before .before .before .before .before .before .before .before .before .take-choice .ensures .0) (c .before .before .before .before .before .before .before .order-choice .ensures .0)), (c .before .before .before .before .before .before .before .order-choice .ensures .1, c .before .before .before .before .before .before .before .before .before .before .before .before .before .before .before .before .before .before .before .before .before .take-choice .ensures .1))

@@ -1,7 +1,7 @@
--- The law of the leaf `index`.
+-- Laws of the leaf `index`.
+use Rattle.index.proofs.Laws.{indexed-marked}
 use Rattle.index.proofs.Table.{table-holding}
-use Rattle.theorems.specs.ByLiteral.{Table-is-walk}
+use Rattle.theorems.specs.ByLiteral.{By-literal}
 
-pub table-walk : Table-is-walk
-unfolding Table-is-walk
-table-walk = table-holding
+pub by-literal : By-literal
+by-literal = record { table-is-walk = table-holding; deletion-keeps = λ work end newest i at p h. indexed-marked i p h }

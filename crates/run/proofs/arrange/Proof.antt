@@ -15,13 +15,20 @@ align-requires : tie.Need-align-requires
 align-requires c κs = search needs
 
 returns : tie.Need-returns
-returns c = listed-returned (c .enum-told .given .1) (take (c .before .before .before .args .end) (now (c .before .before .before .args .work))) (now (c .before .before .before .args .chosen)) (c .before .before .before .pre .2 .formed)
+returns c =
+    let start = c .before .before .before in
+    listed-returned (c .enum-told .given .1) (take (start .args .end) (now (start .args .work)))
+    (now (start .args .chosen)) (start .pre .2 .formed)
 
 same-length : tie.Need-same-length
 same-length c = search needs
 
 returns-2 : tie.Need-returns-2
-returns-2 c = aligned-returned (c .before .before .before .enum-told2 .given .1) (take (c .before .before .before .before .before .before .args .end) (now (c .before .before .before .before .before .before .args .work))) (now (c .before .before .before .before .before .before .args .chosen)) (c .before .align .ensures)
+returns-2 c =
+    let back = c .before .before .before in let enum-told2 = back .enum-told2 in
+    let start = back .before .before .before in
+    aligned-returned (enum-told2 .given .1) (take (start .args .end) (now (start .args .work)))
+    (now (start .args .chosen)) (c .before .align .ensures)
 
 pub arrange-spec : {M : Type 1} → statement M
 arrange-spec =

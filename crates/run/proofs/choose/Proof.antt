@@ -12,16 +12,26 @@ slice-relend-prefix-arrange : tie.Need-slice-relend-prefix-arrange
 slice-relend-prefix-arrange c = search needs
 
 slice-aggregate-arrange : tie.Need-slice-aggregate-arrange
-slice-aggregate-arrange c = sym (length-take-le (c .before .before .collect .result) (c .before .before .collect .last .1 .1 .0) (c .before .before .collect .ensures .inside))
+slice-aggregate-arrange c =
+    let collect = c .before .before .collect in
+    sym (length-take-le (collect .result) (collect .last .1 .1 .0) (collect .ensures .inside))
 
 arrange-requires : tie.Need-arrange-requires
-arrange-requires c κs = (c .before .before .before .before .before .pre .1, store-proper (c .before .before .before .before .before .pre .0), choices-collected (c .before .before .before .before .before .pre .0) (c .before .before .collect .ensures))
+arrange-requires c κs =
+    let start = c .before .before .before .before .before in (
+      start .pre .1,
+      store-proper (start .pre .0),
+      choices-collected (start .pre .0) (c .before .before .collect .ensures),
+    )
 
 same-length : tie.Need-same-length
 same-length c = search needs
 
 returns : tie.Need-returns
-returns c = chosen-arranged (c .before .before .before .before .before .before .before .pre .0) (c .before .before .before .before .collect .ensures) (c .before .arrange .ensures)
+returns c =
+    let back = c .before .before .before .before in let collect = back .collect in
+    let start = back .before .before .before in
+    chosen-arranged (start .pre .0) (collect .ensures) (c .before .arrange .ensures)
 
 pub choose-spec : {M : Type 1} → statement M
 choose-spec =

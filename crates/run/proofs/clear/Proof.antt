@@ -4,10 +4,15 @@ use Rattle.run.proofs.clear.Statement.{statement}
 use Rattle.run.proofs.clear.Tie as tie
 
 clear-clashes-requires : tie.Need-clear-clashes-requires
-clear-clashes-requires c κs = (clash-ready (c .before .before .before .before .before .before .before .pre .0), c .before .before .before .before .before .before .before .pre .1, c .before .before .before .before .before .before .before .pre .2)
+clear-clashes-requires c κs =
+    let start = c .before .before .before .before .before .before .before in
+    (clash-ready (start .pre .0), start .pre .1, start .pre .2)
 
 delete-pure-requires : tie.Need-delete-pure-requires
-delete-pure-requires c κs = pure-ready (c .before .before .before .before .before .before .before .before .before .before .before .before .before .before .before .before .before .pre .0) (c .before .before .before .before .before .before .before .before .before .clear-clashes .ensures .0)
+delete-pure-requires c κs =
+    let back = c .before .before .before .before .before .before .before .before .before in let clear-clashes = back .clear-clashes in
+    let start = back .before .before .before .before .before .before .before .before in
+    pure-ready (start .pre .0) (clear-clashes .ensures .0)
 
 same-length : tie.Need-same-length
 same-length c = search needs
@@ -22,7 +27,13 @@ same-length-4 : tie.Need-same-length-4
 same-length-4 c = search needs
 
 returns : tie.Need-returns
-returns c = (cleared-runs (c .before .before .before .before .before .before .before .before .before .before .before .before .before .before .before .before .before .before .before .before .before .pre .0) (c .before .before .before .before .before .before .before .before .before .before .before .before .before .clear-clashes .ensures .0) (c .before .before .before .delete-pure .ensures .0), (c .before .before .before .delete-pure .ensures .1 _ (c .before .before .before .before .before .before .before .before .before .before .before .before .before .clear-clashes .ensures .1 .0), c .before .before .before .before .before .before .before .before .before .before .before .before .before .clear-clashes .ensures .1 .1))
+returns c =
+    let back = c .before .before .before in let delete-pure = back .delete-pure in
+    let back = back .before .before .before .before .before .before .before .before .before .before in let clear-clashes = back .clear-clashes in
+    let start = back .before .before .before .before .before .before .before .before in (
+      cleared-runs (start .pre .0) (clear-clashes .ensures .0) (delete-pure .ensures .0),
+      (delete-pure .ensures .1 _ (clear-clashes .ensures .1 .0), clear-clashes .ensures .1 .1),
+    )
 
 pub clear-spec : {M : Type 1} → statement M
 clear-spec =

@@ -21,7 +21,13 @@ is-negative-requires : tie.Need-is-negative-requires
 is-negative-requires c κs = search needs
 
 returns : tie.Need-returns
-returns c = (none-taken (c .before .before .before .before .before .before .before .before .pre .0) (now (c .before .before .before .before .before .before .before .before .args .log)) (answered negative (header-at (now (c .before .before .before .before .before .before .before .before .args .chosen)) (c .before .before .before .before .before .before .before .before .args .at)) (sfits-of (c .before .before .is-negative-arg .given)) (c .before .is-negative .ensures) (c .if1 .taken)), (c .before .before .before .before .before .before .before .before .pre .1, c .before .before .before .before .before .before .before .before .pre .2))
+returns c =
+    let start = c .before .before .before .before .before .before .before .before in (
+      none-taken (start .pre .0) (now (start .args .log))
+          (answered negative (header-at (now (start .args .chosen)) (start .args .at))
+          (sfits-of (c .before .before .is-negative-arg .given)) (c .before .is-negative .ensures) (c .if1 .taken)),
+      (start .pre .1, start .pre .2),
+    )
 
 next-at-requires : tie.Need-next-at-requires
 next-at-requires c κs = search needs
@@ -42,26 +48,67 @@ part-literals-start : tie.Need-part-literals-start
 part-literals-start c = search needs
 
 part-literals-end : tie.Need-part-literals-end
-part-literals-end c = omega (arith, c .before .before .next-at .ensures, formed-next (now (c .before .before .before .before .before .before .before .before .before .before .before .args .chosen)) (c .before .before .before .before .before .before .before .before .before .before .before .args .at) (c .before .before .before .before .before .before .before .before .before .before .before .pre .0 .at-inside) (c .before .before .before .before .before .before .before .before .before .before .before .pre .0 .rest) .0)
+part-literals-end c =
+    let start = c .before .before .before .before .before .before .before .before .before .before .before in
+    omega (
+      arith,
+      c .before .before .next-at .ensures,
+      formed-next (now (start .args .chosen)) (start .args .at) (start .pre .0 .at-inside) (start .pre .0 .rest) .0,
+    )
 
 take-one-requires : tie.Need-take-one-requires
-take-one-requires c κs = (one-takeable (c .before .before .before .before .before .before .before .before .before .before .before .before .before .before .before .before .before .before .pre .0) (c .before .before .before .before .before .before .before .before .before .next-at .result) (c .before .before .before .before .before .before .before .before .next-below .result) (answered negative (header-at (now (c .before .before .before .before .before .before .before .before .before .before .before .before .before .before .before .before .before .before .args .chosen)) (c .before .before .before .before .before .before .before .before .before .before .before .before .before .before .before .before .before .before .args .at)) (sfits-of (c .before .before .before .before .before .before .before .before .before .before .before .before .is-negative-arg .given)) (c .before .before .before .before .before .before .before .before .before .before .before .is-negative .ensures) (c .before .before .before .before .before .before .before .before .before .before .if1 .left)) (c .before .before .before .before .before .before .before .before .before .next-at .ensures) (c .before .before .before .before .before .before .before .before .next-below .ensures), c .before .before .before .before .before .before .before .before .before .before .before .before .before .before .before .before .before .before .pre .1, c .before .before .before .before .before .before .before .before .before .before .before .before .before .before .before .before .before .before .pre .2)
+take-one-requires c κs =
+    let back = c .before .before .before .before .before .before .before .before in let next-below = back .next-below in
+    let back = back .before in let next-at = back .next-at in
+    let back = back .before in let if1 = back .if1 in
+    let back = back .before in let is-negative = back .is-negative in
+    let back = back .before in let is-negative-arg = back .is-negative-arg in
+    let start = back .before .before .before .before .before .before in (
+      one-takeable (start .pre .0) (next-at .result) (next-below .result)
+          (answered negative (header-at (now (start .args .chosen)) (start .args .at))
+          (sfits-of (is-negative-arg .given)) (is-negative .ensures) (if1 .left)) (next-at .ensures)
+          (next-below .ensures),
+      start .pre .1,
+      start .pre .2,
+    )
 
 add-t19 : tie.Need-add-t19
-add-t19 c = omega (arith, c .before .before .before .before .before .before .before .before .before .before .before .before .before .before .before .before .before .before .before .before .before .before .before .before .before .before .before .before .before .before .before .pre .0 .few)
+add-t19 c =
+    let start = c .before .before .before .before .before .before .before .before .before .before .before .before .before .before .before .before .before .before .before .before .before .before .before .before .before .before .before .before .before .before .before in
+    omega (arith, start .pre .0 .few)
 
 sub-t23 : tie.Need-sub-t23
 sub-t23 c = search needs
 
 sub-t37 : tie.Need-sub-t37
-sub-t37 c = omega (arith, one-small (c .before .before .before .before .before .before .before .before .before .before .before .before .before .before .before .before .before .before .before .before .before .before .before .before .before .before .before .before .before .before .before .pre .0) (c .before .before .before .before .before .before .before .before .before .before .before .before .before .before .before .before .before .before .before .before .before .before .next-at .result) (answered negative (header-at (now (c .before .before .before .before .before .before .before .before .before .before .before .before .before .before .before .before .before .before .before .before .before .before .before .before .before .before .before .before .before .before .before .args .chosen)) (c .before .before .before .before .before .before .before .before .before .before .before .before .before .before .before .before .before .before .before .before .before .before .before .before .before .before .before .before .before .before .before .args .at)) (sfits-of (c .before .before .before .before .before .before .before .before .before .before .before .before .before .before .before .before .before .before .before .before .before .before .before .before .before .is-negative-arg .given)) (c .before .before .before .before .before .before .before .before .before .before .before .before .before .before .before .before .before .before .before .before .before .before .before .before .is-negative .ensures) (c .before .before .before .before .before .before .before .before .before .before .before .before .before .before .before .before .before .before .before .before .before .before .before .if1 .left)) (c .before .before .before .before .before .before .before .before .before .before .before .before .before .before .before .before .before .before .before .before .before .before .next-at .ensures) .0)
+sub-t37 c =
+    let back = c .before .before .before .before .before .before .before .before .before .before .before .before .before .before .before .before .before .before .before .before .before .before in let next-at = back .next-at in
+    let back = back .before in let if1 = back .if1 in
+    let back = back .before in let is-negative = back .is-negative in
+    let back = back .before in let is-negative-arg = back .is-negative-arg in
+    let start = back .before .before .before .before .before .before in
+    omega (
+      arith,
+      one-small (start .pre .0) (next-at .result)
+          (answered negative (header-at (now (start .args .chosen)) (start .args .at))
+          (sfits-of (is-negative-arg .given)) (is-negative .ensures) (if1 .left)) (next-at .ensures) .0,
+    )
 
 cast-t38 : tie.Need-cast-t38
 cast-t38 c = search needs
 
 add-t39 : tie.Need-add-t39
-add-t39 c = let o = one-small (c .before .before .before .before .before .before .before .before .before .before .before .before .before .before .before .before .before .before .before .before .before .before .before .before .before .before .before .before .before .before .before .pre .0) (c .before .before .before .before .before .before .before .before .before .before .before .before .before .before .before .before .before .before .before .before .before .before .next-at .result) (answered negative (header-at (now (c .before .before .before .before .before .before .before .before .before .before .before .before .before .before .before .before .before .before .before .before .before .before .before .before .before .before .before .before .before .before .before .args .chosen)) (c .before .before .before .before .before .before .before .before .before .before .before .before .before .before .before .before .before .before .before .before .before .before .before .before .before .before .before .before .before .before .before .args .at)) (sfits-of (c .before .before .before .before .before .before .before .before .before .before .before .before .before .before .before .before .before .before .before .before .before .before .before .before .before .is-negative-arg .given)) (c .before .before .before .before .before .before .before .before .before .before .before .before .before .before .before .before .before .before .before .before .before .before .before .before .is-negative .ensures) (c .before .before .before .before .before .before .before .before .before .before .before .before .before .before .before .before .before .before .before .before .before .before .before .if1 .left)) (c .before .before .before .before .before .before .before .before .before .before .before .before .before .before .before .before .before .before .before .before .before .before .next-at .ensures) in
-    omega (arith, o .1, o .2, c .before .before .before .before .before .before .before .before .before .before .before .before .before .before .before .before .before .before .before .before .before .next-below .ensures)
+add-t39 c =
+    let back = c .before .before .before .before .before .before .before .before .before .before .before .before .before .before .before .before .before .before .before .before .before in let next-below = back .next-below in
+    let back = back .before in let next-at = back .next-at in
+    let back = back .before in let if1 = back .if1 in
+    let back = back .before in let is-negative = back .is-negative in
+    let back = back .before in let is-negative-arg = back .is-negative-arg in
+    let start = back .before .before .before .before .before .before in
+    let o = one-small (start .pre .0) (next-at .result)
+    (answered negative (header-at (now (start .args .chosen)) (start .args .at)) (sfits-of (is-negative-arg .given))
+    (is-negative .ensures) (if1 .left)) (next-at .ensures) in
+    omega (arith, o .1, o .2, next-below .ensures)
 
 same-length : tie.Need-same-length
 same-length c = search needs
@@ -82,7 +129,20 @@ same-length-6 : tie.Need-same-length-6
 same-length-6 c = search needs
 
 returns-2 : tie.Need-returns-2
-returns-2 c = (one-taken (c .before .before .before .before .before .before .before .before .before .before .before .before .before .before .before .before .before .before .before .before .before .before .before .before .before .before .before .before .before .before .before .pre .0) (c .before .before .before .before .before .before .before .before .before .before .before .before .before .before .before .before .before .before .before .before .before .before .next-at .result) (answered negative (header-at (now (c .before .before .before .before .before .before .before .before .before .before .before .before .before .before .before .before .before .before .before .before .before .before .before .before .before .before .before .before .before .before .before .args .chosen)) (c .before .before .before .before .before .before .before .before .before .before .before .before .before .before .before .before .before .before .before .before .before .before .before .before .before .before .before .before .before .before .before .args .at)) (sfits-of (c .before .before .before .before .before .before .before .before .before .before .before .before .before .before .before .before .before .before .before .before .before .before .before .before .before .is-negative-arg .given)) (c .before .before .before .before .before .before .before .before .before .before .before .before .before .before .before .before .before .before .before .before .before .before .before .before .is-negative .ensures) (c .before .before .before .before .before .before .before .before .before .before .before .before .before .before .before .before .before .before .before .before .before .before .before .if1 .left)) (c .before .before .before .before .before .before .before .before .before .before .before .before .before .before .before .before .before .before .before .before .before .before .next-at .ensures) (c .before .before .before .before .before .before .before .before .before .before .before .before .before .before .before .before .before .before .before .before .before .next-below .result) _ (c .before .before .before .before .before .before .before .before .before .before .before .before .before .before .before .before .before .before .before .before .before .next-below .ensures) refl (c .before .before .before .before .before .before .before .before .before .before .before .before .take-one .ensures .0), (c .before .before .before .before .before .before .before .before .before .before .before .before .take-one .ensures .1 .0, c .before .before .before .before .before .before .before .before .before .before .before .before .take-one .ensures .1 .1))
+returns-2 c =
+    let back = c .before .before .before .before .before .before .before .before .before .before .before .before in let take-one = back .take-one in
+    let back = back .before .before .before .before .before .before .before .before .before in let next-below = back .next-below in
+    let back = back .before in let next-at = back .next-at in
+    let back = back .before in let if1 = back .if1 in
+    let back = back .before in let is-negative = back .is-negative in
+    let back = back .before in let is-negative-arg = back .is-negative-arg in
+    let start = back .before .before .before .before .before .before in (
+      one-taken (start .pre .0) (next-at .result)
+          (answered negative (header-at (now (start .args .chosen)) (start .args .at))
+          (sfits-of (is-negative-arg .given)) (is-negative .ensures) (if1 .left)) (next-at .ensures)
+          (next-below .result) _ (next-below .ensures) refl (take-one .ensures .0),
+      (take-one .ensures .1 .0, take-one .ensures .1 .1),
+    )
 
 pub take-at-spec : {M : Type 1} → statement M
 take-at-spec =

@@ -11,7 +11,15 @@ set-places-requires : tie.Need-set-places-requires
 set-places-requires c κs = search needs
 
 take-placed-requires : tie.Need-take-placed-requires
-take-placed-requires c κs = (placed-ready (c .before .before .before .before .before .before .before .before .before .before .before .before .before .before .before .before .before .before .before .before .before .pre .0) (c .before .before .before .before .before .before .before .before .before .before .before .before .before .make-room .ensures .0) (c .before .before .before .before .before .before .before .before .before .before .before .before .before .make-room .ensures .1 .0) (c .before .before .before .before .before .before .before .before .before .before .before .before .before .make-room .ensures .1 .1), places-set (c .before .before .before .before .before .before .before .before .before .before .before .before .before .before .before .before .before .before .before .before .before .pre .0) (c .before .before .before .before .before .before .before .before .before .before .before .before .before .before .before .before .before .before .before .before .before .pre .2 .places-zero) (c .before .before .before .before .before .before .before .before .set-places .ensures), c .before .before .before .before .before .before .before .before .before .before .before .before .before .before .before .before .before .before .before .before .before .pre .2 .counts-zero, c .before .before .before .before .before .before .before .before .before .before .before .before .before .before .before .before .before .before .before .before .before .pre .2 .long)
+take-placed-requires c κs =
+    let back = c .before .before .before .before .before .before .before .before in let set-places = back .set-places in
+    let back = back .before .before .before .before .before in let make-room = back .make-room in
+    let start = back .before .before .before .before .before .before .before .before in (
+      placed-ready (start .pre .0) (make-room .ensures .0) (make-room .ensures .1 .0) (make-room .ensures .1 .1),
+      places-set (start .pre .0) (start .pre .2 .places-zero) (set-places .ensures),
+      start .pre .2 .counts-zero,
+      start .pre .2 .long,
+    )
 
 set-entries-requires : tie.Need-set-entries-requires
 set-entries-requires c κs = search needs
@@ -35,7 +43,22 @@ same-length-6 : tie.Need-same-length-6
 same-length-6 c = search needs
 
 returns : tie.Need-returns
-returns c = (moved-runs (c .before .before .before .before .before .before .before .before .before .before .before .before .before .before .before .before .before .before .before .before .before .before .before .before .before .before .before .before .before .before .before .before .before .before .before .pre .0) (c .before .before .before .before .before .before .before .before .before .before .before .before .before .before .before .before .before .before .before .before .before .before .before .before .before .before .before .make-room .ensures .0) (c .before .before .before .before .before .before .before .before .before .before .before .before .before .take-placed .ensures .0), (c .before .before .before .before .before .before .before .before .before .before .before .before .before .take-placed .ensures .1 .0, record { places-zero = places-reset _ (c .before .before .before .before .before .before .before .before .before .before .before .before .before .before .before .before .before .before .before .before .before .before .before .before .before .before .before .before .before .before .before .before .before .before .before .pre .2 .places-zero) (c .before .before .before .before .before .before .before .before .before .before .before .before .before .before .before .before .before .before .before .before .before .before .set-places .ensures) (c .before .before .set-entries .ensures); counts-zero = c .before .before .before .before .before .before .before .before .before .before .before .before .before .take-placed .ensures .1 .1; long = c .before .before .before .before .before .before .before .before .before .before .before .before .before .take-placed .kept .1 .1 .1 .1 .0 ∙ c .before .before .before .before .before .before .before .before .before .before .before .before .before .before .before .before .before .before .before .before .before .before .before .before .before .before .before .before .before .before .before .before .before .before .before .pre .2 .long }))
+returns c =
+    let back = c .before .before .before .before .before .before .before .before .before .before .before .before .before in let take-placed = back .take-placed in
+    let back = back .before .before .before .before .before .before .before .before .before in let set-places = back .set-places in
+    let back = back .before .before .before .before .before in let make-room = back .make-room in
+    let start = back .before .before .before .before .before .before .before .before in (
+      moved-runs (start .pre .0) (make-room .ensures .0) (take-placed .ensures .0),
+      (
+        take-placed .ensures .1 .0,
+        record {
+          places-zero = places-reset _ (start .pre .2 .places-zero) (set-places .ensures)
+              (c .before .before .set-entries .ensures);
+          counts-zero = take-placed .ensures .1 .1;
+          long = take-placed .kept .1 .1 .1 .1 .0 ∙ start .pre .2 .long;
+        },
+      ),
+    )
 
 pub take-one-spec : {M : Type 1} → statement M
 take-one-spec =

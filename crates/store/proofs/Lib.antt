@@ -2,5 +2,4 @@
 pub mod Laws
 pub mod Finding
 pub mod Sliding
-pub mod Marking
 pub mod Counting

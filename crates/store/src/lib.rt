@@ -10,7 +10,6 @@ ghost use Rattle.definition.specs.Calls.{numbers-of};
 ghost use Rattle.tables.specs.Entries.{tallied-all};
 ghost use Rattle.store.specs.declared.Found.the-variants.{At};
 ghost use Rattle.store.specs.Store.{Formed, stored, past, marked, tallied-at, begins-with, place-of, end-after, with-entry, slid, slid-to, Compacted};
-ghost use Rattle.store.specs.Marks.{Marks};
 
 pub enum Found {
     // the place of the entry
@@ -92,80 +91,8 @@ pub fn next_at(store: &[i32], at: usize) -> usize
     at + (1 + literals::header_length(store[at]))
 }
 
-// Whether a literal is in the marked clause; the clause is walked only past the table's reach.
-fn is_marked(marks: &[u32], clause: &[i32], l: i32) -> bool
-    requires { ⌜ Marks (now marks) (now clause) ⌝ }
-    ensures { λ r. ⌜ r ≡ holds-literal l (now (clause .entry)) ⌝ }
-{
-    let i = literals::literal_index(l);
-    if i < marks.len() {
-        marks[i] == 1
-    } else {
-        holds(clause, l)
-    }
-}
-
-// Whether every literal of a clause is in the marked one.
-fn all_marked(a: &[i32], marks: &[u32], clause: &[i32]) -> bool
-    requires { ⌜ Marks (now marks) (now clause) ⌝ }
-    ensures { λ r. ⌜ r ≡ all (λ l. holds-literal l (now (clause .entry))) (now (a .entry)) ⌝ }
-{
-    let mut i = 0;
-    while i < a.len() {
-        if is_marked(marks, clause, a[i]) {
-            i += 1;
-        } else {
-            return false;
-        }
-    }
-    true
-}
-
-// Whether a clause has the marked one's set of literals.
-fn same_marked(a: &[i32], marks: &[u32], clause: &[i32]) -> bool
-    requires { ⌜ Marks (now marks) (now clause) ⌝ }
-    ensures { λ r. ⌜ r ≡ same-literals (now (clause .entry)) (now (a .entry)) ⌝ }
-{
-    if all_marked(a, marks, clause) {
-        all_in(clause, a)
-    } else {
-        false
-    }
-}
-
-// Whether the clause at a place stands and has the marked clause's set of literals.
-fn matches(store: &[i32], at: usize, marks: &[u32], clause: &[i32]) -> bool
-    requires { ⌜ at < length (now store) ⌝ }
-    requires { ⌜ Formed (drop at (now store)) ⌝ }
-    requires { ⌜ Marks (now marks) (now clause) ⌝ }
-    ensures { λ r. ⌜ r ≡ begins-with (now (clause .entry)) (drop at (now (store .entry))) ⌝ }
-{
-    if literals::is_negative(store[at]) {
-        return false;
-    }
-    let next = next_at(store, at);
-    let first = at + 1;
-    same_marked(&store[first..next], marks, clause)
-}
-
-// The place of the first standing clause with the marked clause's set of literals.
-fn find_marked(store: &[i32], marks: &[u32], clause: &[i32]) -> Found
-    requires { ⌜ Formed (now store) ⌝ }
-    requires { ⌜ Marks (now marks) (now clause) ⌝ }
-    ensures { λ r. ⌜ r ≡ place-of (now (clause .entry)) (now (store .entry)) ⌝ }
-{
-    let mut at = 0;
-    while at < store.len() {
-        if matches(store, at, marks, clause) {
-            return Found::At(at);
-        }
-        at = next_at(store, at);
-    }
-    Found::Nothing
-}
-
 // Whether the clause at a place stands and has the same set of literals; the entry is walked first, so that most entries fail at their first literal.
-fn matches_plain(store: &[i32], at: usize, clause: &[i32]) -> bool
+fn matches(store: &[i32], at: usize, clause: &[i32]) -> bool
     requires { ⌜ at < length (now store) ⌝ }
     requires { ⌜ Formed (drop at (now store)) ⌝ }
     ensures { λ r. ⌜ r ≡ begins-with (now (clause .entry)) (drop at (now (store .entry))) ⌝ }
@@ -178,32 +105,19 @@ fn matches_plain(store: &[i32], at: usize, clause: &[i32]) -> bool
     same_set(&store[first..next], clause)
 }
 
-// The place of the first standing clause with the same set of literals, without marks.
-fn find_plain(store: &[i32], clause: &[i32]) -> Found
+// The place of the first standing clause with the same set of literals.
+pub fn find_same_set(store: &[i32], clause: &[i32]) -> Found
     requires { ⌜ Formed (now store) ⌝ }
     ensures { λ r. ⌜ r ≡ place-of (now (clause .entry)) (now (store .entry)) ⌝ }
 {
     let mut at = 0;
     while at < store.len() {
-        if matches_plain(store, at, clause) {
+        if matches(store, at, clause) {
             return Found::At(at);
         }
         at = next_at(store, at);
     }
     Found::Nothing
-}
-
-// The place of the first standing clause with the same set of literals. A clause of more than 16 literals is marked in a table, which reaches every variable of a log.
-pub fn find_same_set(store: &[i32], clause: &[i32]) -> Found
-    requires { ⌜ Formed (now store) ⌝ }
-    ensures { λ r. ⌜ r ≡ place-of (now (clause .entry)) (now (store .entry)) ⌝ }
-{
-    if clause.len() <= 16 {
-        return find_plain(store, clause);
-    }
-    let mut marks = [0u32; tables::LOG_SIZE];
-    tables::set_entries(&mut marks, clause, 1);
-    find_marked(store, &marks, clause)
 }
 
 // The clause at a place if it stands and has the same set of literals, else the best match so far.

@@ -1,4 +1,4 @@
--- The standing clauses slid down, and the elements that they fill: the loops of `compact` and `size_standing`. Assumes nothing.
+-- The standing clauses slid down: the loop of `compact`. Assumes nothing.
 use mathlib.Core.Path.{_≡_, refl, sym, ap, ap₂, _∙_}
 use mathlib.Core.Bool.{true, false}
 use mathlib.Core.List.{List, [], _∷_, _++_, append-assoc, append-nil}

@@ -1,9 +1,9 @@
--- A literal's clauses read from the last one to the first: one that stands, and the first with some literals. What is known of those that are read is carried along (`Passed`, `Searched`).
+-- A literal's clauses read from the last one to the first: one that stands, and the first with some literals. What is known of those that are read is carried along (`Searched`).
 use mathlib.Core.Path.{_≡_, refl, sym, ap, subst, _∙_}
 use mathlib.Core.Bool.{Bool, true, false, cond}
 use mathlib.Core.List.{List, [], _∷_, _++_, List·Memᴰ, List·Memᴰ·head as here, List·Memᴰ·tail as there, List·Memᴰ·not-nil}
 use mathlib.Core.Logic.{_⊎_, inl, inr, ⊎-elim}
-use Prim.Native.Nat.{ℕ, _+_, _≤_, _<_}
+use Prim.Native.Nat.{ℕ, _+_, _*_, _≤_, _<_}
 use native.Mathlib.Omega.{arith}
 use lib.IntN.{ℤ}
 use lib.ListN.{length, take, drop, length-set}
@@ -14,19 +14,21 @@ use Rattle.definition.specs.Clearing.{times}
 use Rattle.theory_base.proofs.Tests.{by-test, of-true}
 use Rattle.theory_base.proofs.Loops.{count-++}
 use Rattle.theory_base.proofs.Members.{holds-mem, same-set-same}
-use Rattle.literals.specs.Literal.{negative, flip, index-of}
+use Rattle.literals.specs.Literal.{flip, index-of}
 use Rattle.tables.specs.Sizes.{log-size}
 use Rattle.tables.specs.Entries.{entry-of}
 use Rattle.store.specs.Store.{Formed, stored-from, stored, header-at, deleted-at, clause-at, past, marked, Place, begins-with, place-of, Deleted}
 use Rattle.store.specs.declared.Found.{Found}
 use Rattle.store.specs.declared.Found.the-variants.{At, Nothing}
-use Rattle.store.proofs.Laws.{by-entries, place-end, prefix-deleted, prefix-stands, prefix-header}
+use Rattle.store.proofs.Laws.{by-entries, place-end, prefix-deleted, prefix-stands}
 use Rattle.store.proofs.Finding.{first-match, no-match, matches-deleted, matches-stands, hit, deleted-hit, deleted-miss}
 use Rattle.index.specs.Index.{Indexed, entered, node-place, older-node}
 use Rattle.index.specs.Reading.{Reading, Entry-with, Found-with}
 use Rattle.index.proofs.Laws.{indexed-inside, indexed-length, indexed-marked, marked-take, reading-start, reading-done, reading-more, Reads}
 use Rattle.index.proofs.Walk.{entered-complete, entered-behind}
 use Rattle.lookup.specs.Lookup.{Deleted-by}
+use Rattle.lookup.specs.Cursors.{shown-place, Readable, Moved, Cursor}
+use Rattle.lookup.proofs.Cursors.{led-start, led-within, cursor-last}
 
 -- ---- a clause that stands
 
@@ -50,45 +52,25 @@ standing-with l s f h =
         (λ m. (at, record { standing = record { inside = i; place = e; stands = d }; with-literal = holds-mem l (clause-at s at) (of-true m) }))
         (λ m. r (omega (arith, ap (times l) (prefix-stands s at i e d), times-next l (stored (take at s)) (clause-at s at), ap bit m))))
 
--- those that are read are deleted
-pub record Passed (work : List ℤ) (end : ℕ) (newest : List ℕ) (l : ℤ) (t : ℕ) : Type 0 where
-  pub left : List ℕ
-  pub reading : Reading work end newest l t left
-  pub ahead : (p : ℕ) → List·Memᴰ p (entered l (take end work)) → deleted-at (take end work) p ≡ false → List·Memᴰ p left
+-- by the last node whose clause stands: the cursor of l, before the store's end
+module _ {work : List ℤ} {end : ℕ} {newest : List ℕ} (i : Indexed work end newest) (l : ℤ) (h : index-of l < log-size) {t : ℕ} (e : t ≡ entry-of newest l) where
+  pub last-readable : Readable work t
+  last-readable = rw e (record { end = end; literal = l; led = led-start l 0 i h })
 
-module _ {work : List ℤ} {end : ℕ} {newest : List ℕ} (i : Indexed work end newest) (l : ℤ) where
-  header-inside : (p : ℕ) → p < end → deleted-at (take end work) p ≡ deleted-at work p
-  header-inside p h = ap negative (prefix-header work end p h (indexed-inside i))
+  module _ {r : ℕ} (m : Moved work t end r) where
+    last-cursor : Cursor work end l end r
+    last-cursor = m .moves end l (rw e (led-start l end i h))
 
-  pub passed-start : index-of l < log-size → {t : ℕ} → t ≡ entry-of newest l → Passed work end newest l t
-  passed-start h e = rw e (record { left = entered l (take end work); reading = reading-start i l h; ahead = λ p m d. m })
+    pub last-found : 0 < r → {p : ℕ} → p ≡ node-place work r → Found-with l (take end work) p
+    last-found b f = rw f (last-cursor .found b .1)
 
-  module _ {t : ℕ} (w : Passed work end newest l t) where
-    pub passed-more : 0 < t → Reads work end newest l t (w .left)
-    passed-more h = reading-more i (w .reading) h
+    pub last-inside : (0 < r) → (1 ≤ r) × (2 * r ≤ length work)
+    last-inside b = (b, led-within (last-cursor .led))
 
-    pub passed-on : (h : 0 < t) {u p : ℕ} → u ≡ older-node work t → p ≡ node-place work t → deleted-at work p ≡ true → Passed work end newest l u
-    passed-on h {p = p} e f g =
-        let m = passed-more h in
-        let d : deleted-at (take end work) (node-place work t) ≡ true = header-inside (node-place work t) (m .inside) ∙ ap (deleted-at work) (sym f) ∙ g in
-        rw e (record { left = m .rest; reading = m .reading; ahead = λ p j s. behind d p s (m .rest) (subst (λ (ps : List ℕ). List·Memᴰ p ps) (m .begins) (w .ahead p j s)) })
-      where
-        behind : deleted-at (take end work) (node-place work t) ≡ true → (p : ℕ) → deleted-at (take end work) p ≡ false → (ps : List ℕ) → List·Memᴰ p (node-place work t ∷ ps) → List·Memᴰ p ps
-        behind d p s ps (here z) = absurd (let y : _≡_ {A = ℕ} 0 1 = cc (sym d ∙ ap (deleted-at (take end work)) (sym z) ∙ s) in omega arith)
-        behind d p s ps (there j) = j
-
-    pub passed-found : (h : 0 < t) {p : ℕ} → p ≡ node-place work t → deleted-at work p ≡ false → Found-with l (take end work) p
-    passed-found h e d =
-        let m = passed-more h in
-        let x = m .entry in
-        rw e (record { standing = record { inside = x .inside; place = x .place; stands = header-inside (node-place work t) (m .inside) ∙ (rw e at d) }; with-literal = x .with-literal })
-
-    pub passed-all : t ≡ 0 → {P : Type 0} → 1 ≤ times l (stored (take end work)) → P
-    passed-all z h =
-        let r = standing-with l (take end work) (i .formed) h in
-        let f = r .1 in
-        absurd (List·Memᴰ·not-nil (subst (λ (ps : List ℕ). List·Memᴰ (r .0) ps) (reading-done (w .reading) z)
-        (w .ahead (r .0) (entered-complete (record { inside = f .standing .inside; place = f .standing .place; with-literal = f .with-literal })) (f .standing .stands))))
+    pub none-stands : r ≡ 0 → {P : Type 0} → 1 ≤ times l (stored (take end work)) → P
+    none-stands z s =
+        let f = standing-with l (take end work) (i .formed) s in
+        absurd (omega (arith, cursor-last last-cursor (f .0) (omega (arith, f .1 .standing .inside, indexed-length i)) (f .1), ap (shown-place work) z))
 
 -- ---- the first clause with the literals of c: of those with its first literal, the last that is read
 

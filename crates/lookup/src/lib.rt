@@ -13,22 +13,48 @@ ghost use Rattle.lookup.specs.Lookup.{Deleted-by, touched-places, Gather
 ghost use Rattle.lookup.specs.Cursors.{node-stands, shown-place, Readable, Moved, Placed, Searchable, Starts, Stepped, Steps, Latest};
 use store::Found;
 
+// ---- a clause that stands
+
+// Whether the clause at a node stands and is before a place.
+fn stands_before(work: &[i32], node: usize, before: usize) -> bool
+    requires { ⌜ (1 ≤ node) × (2 * node ≤ length (now work)) × (node-place (now work) node < length (now work)) ⌝ }
+    ensures { λ r. ⌜ r ≡ node-stands (now (work .entry)) node before ⌝ }
+{
+    let at = index::place_at(work, node);
+    if literals::is_negative(work[at]) {
+        return false;
+    }
+    at < before
+}
+
+// The node, or the first older one with the same literal, whose clause stands and is before a place; 0 where there is none.
+fn standing_before(work: &[i32], node: usize, before: usize) -> usize
+    requires { ⌜ Readable (now work) node ⌝ }
+    ensures { λ r. ⌜ Moved (now (work .entry)) node before r ⌝ }
+{
+    let mut t = node;
+    while 0 < t {
+        if stands_before(work, t, before) {
+            return t;
+        }
+        t = index::older(work, t);
+    }
+    0
+}
+
 // The place of the last standing clause that holds a literal, if there is one.
 pub fn place_with(work: &[i32], newest: &[u32], end: usize, l: i32) -> usize
     requires { ⌜ Indexed (now work) end (now newest) × (natAbs l ≤ log-reach) ⌝ }
     ensures { λ r. ⌜ (1 ≤ times l (stored (take end (now (work .entry)))) → Found-with l (take end (now (work .entry))) r) ⌝ }
 {
-    let mut node = index::last_node(newest, l);
-    while 0 < node {
-        let at = index::place_at(work, node);
-        if literals::is_negative(work[at]) {
-            node = index::older(work, node);
-        } else {
-            return at;
-        }
+    let node = standing_before(work, index::last_node(newest, l), end);
+    if node == 0 {
+        return end;
     }
-    end
+    index::place_at(work, node)
 }
+
+// ---- the first clause with some literals
 
 // The place of the first standing clause with the same set of literals: of those with its first literal, the last that is read.
 fn find(work: &[i32], newest: &[u32], end: usize, clause: &[i32]) -> Found
@@ -57,33 +83,6 @@ pub fn delete_clause(work: &mut [i32], newest: &[u32], end: usize, clause: &[i32
 }
 
 // ---- the clauses with a negated literal of a choice: a cursor for each literal, all moved towards the list's start
-
-// Whether the clause at a node stands and is before a place.
-fn stands_before(work: &[i32], node: usize, before: usize) -> bool
-    requires { ⌜ (1 ≤ node) × (2 * node ≤ length (now work)) × (node-place (now work) node < length (now work)) ⌝ }
-    ensures { λ r. ⌜ r ≡ node-stands (now (work .entry)) node before ⌝ }
-{
-    let at = index::place_at(work, node);
-    if literals::is_negative(work[at]) {
-        return false;
-    }
-    at < before
-}
-
-// The node, or the first older one with the same literal, whose clause stands and is before a place; 0 where there is none.
-fn standing_before(work: &[i32], node: usize, before: usize) -> usize
-    requires { ⌜ Readable (now work) node ⌝ }
-    ensures { λ r. ⌜ Moved (now (work .entry)) node before r ⌝ }
-{
-    let mut t = node;
-    while 0 < t {
-        if stands_before(work, t, before) {
-            return t;
-        }
-        t = index::older(work, t);
-    }
-    0
-}
 
 // The place of a node's clause and one more, 0 for no node.
 fn shown(work: &[i32], node: usize) -> usize

@@ -1,8 +1,8 @@
 -- The outcome of each call, and the buffers after it ("Log and new formula", "Walk-back", "Who can be turned back").
-use mathlib.Core.Bool.{not, cond}
+use mathlib.Core.Bool.{Bool, not, _&&_, cond}
 use mathlib.Core.List.{List, _++_}
 use Prim.Native.Nat.{ℕ, _+_, _*_, max}
-use lib.Dec.{ltb}
+use lib.Dec.{ltb, leb}
 use lib.IntN.{pos, negℤ}
 use lib.ListN.{length, drop, replicate}
 use Rattle.definition.specs.Lists.{for-from}
@@ -12,7 +12,8 @@ use Rattle.definition.specs.Text.{Bytes, bytes, literal-text}
 use Rattle.definition.specs.Reading.{input-limits, read-back-limits, Input, read-formula}
 use Rattle.definition.specs.Standing.{Line, replay, highest-in}
 use Rattle.definition.specs.Assignments.{Assignment, satisfies, carried-back}
-use Rattle.definition.specs.Reencoding.{Settings, chosen, log, result, highest-used}
+use Rattle.definition.specs.Events.{Choice-record}
+use Rattle.definition.specs.Reencoding.{Settings, chosen, log, table, result, highest-used}
 use Rattle.definition.specs.Log.{log-text, formula-text}
 use Rattle.definition.specs.LogReading.{read-log, numbers-in}
 use Rattle.definition.specs.Answer.{read-answer}
@@ -32,11 +33,12 @@ pub record Tally : Type 0 where
   pub log-bytes : ℕ
   pub formula-bytes : ℕ
 
--- the result and both texts
+-- the result, both texts, and M-118's table
 pub record Reencoded : Type 0 where
   pub tally : Tally
   pub log : Bytes
   pub formula : Bytes
+  pub table : List Choice-record
 
 unfoldable pub reencoded : Settings → Input → Reencoded
 reencoded s i =
@@ -56,21 +58,33 @@ reencoded s i =
           };
       log = text;
       formula = formula;
+      table = table s i;
     }
 
 -- 11: fewer 32-bit entries than 40L + 4C + 12V + 8,192; L counts what is kept, C is the header's
 unfoldable pub workspace-need : Input → ℕ
 workspace-need i = 40 * literals-of (i .formula) + 4 * i .clauses + 12 * i .highest + 8_192
 
--- 1 to 4, 7 to 9, 11, 12, 13; the three numbers are the entries of workspace and the bytes of the two buffers
-unfoldable pub reencode : Settings → ℕ → ℕ → ℕ → Bytes → Checked Reencoded
-reencode s workspace log-room formula-room t =
-    read-input t >>= λ i.
-    refuse-if (ltb workspace (workspace-need i)) 11
-    (let r = reencoded s i in
-    refuse-if (ltb log-room (length (r .log))) 12
+-- M-118, 15: a step outside 1 to 100
+unfoldable pub step-allowed : ℕ → Bool
+step-allowed g = leb 1 g && leb g 100
+
+-- 16 (H would pass 70,000), 17 (table shorter than the choices), 12, 13, by the records of the table and the bytes of the two buffers
+unfoldable pub fitted : ℕ → ℕ → ℕ → Reencoded → Checked Reencoded
+fitted table-room log-room formula-room r =
+    refuse-if (ltb 70_000 (r .tally .highest)) 16
+    (refuse-if (ltb table-room (r .tally .choices)) 17
+    (refuse-if (ltb log-room (length (r .log))) 12
     (refuse-if (ltb formula-room (length (r .formula))) 13
-    (value r)))
+    (value r))))
+
+-- 15, tested first of all; 1 to 4, 7 to 9, 11, 16, 17, 12, 13; the four numbers are the entries of workspace, the bytes of the two buffers and the records of the table
+unfoldable pub reencode : Settings → ℕ → ℕ → ℕ → ℕ → Bytes → Checked Reencoded
+reencode s workspace log-room formula-room table-room t =
+    refuse-if (not (step-allowed (s .step))) 15
+    (read-input t >>= λ i.
+    refuse-if (ltb workspace (workspace-need i)) 11
+    (fitted table-room log-room formula-room (reencoded s i)))
 
 -- ---- the new formula read back: 1 to 4, 7 to 9, then 11
 unfoldable pub read-back : ℕ → Bytes → Checked Input
@@ -127,5 +141,5 @@ buffer-after nought (value a) written before = written a ++ drop (length (writte
 
 -- all of this file, for a proof that computes: `unfolding computing` opens every name of the next line
 unfoldable pub computing : Unit {0}
-unfolding read-input reencoded workspace-need reencode read-back assigned answer-text numbers-of log-workspace-need highest-allowed carry-answer walk-back buffer-after
+unfolding read-input reencoded workspace-need step-allowed fitted reencode read-back assigned answer-text numbers-of log-workspace-need highest-allowed carry-answer walk-back buffer-after
 computing = tt

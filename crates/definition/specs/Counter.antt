@@ -1,7 +1,7 @@
 -- "Counter form".
 use mathlib.Core.Bool.{_&&_}
 use mathlib.Core.List.{List, [], _∷_, _++_, map}
-use Prim.Native.Nat.{ℕ, _+_, _-_}
+use Prim.Native.Nat.{ℕ, _+_, _-_, _%_}
 use lib.IntN.{ℤ, pos, negℤ}
 use lib.ListN.{length, getD, replicate}
 use Rattle.definition.specs.Lists.{those, count, for-each, for-from}
@@ -14,9 +14,9 @@ use Rattle.definition.specs.Clearing.{unique, choice-size}
 unfoldable pub choices : Formula → List Clause
 choices f = those (λ c. choice-size c && unique f c) f
 
--- new variables are the next numbers above all used: where n is the highest used, those above
-unfoldable pub below-new : ℕ → ℕ
-below-new n = n
+-- new variables are the next numbers above all used. M-118: where n is the highest used, the first is the least number above it that is 1 more than a multiple of the step g; this is that multiple
+unfoldable pub below-new : ℕ → ℕ → ℕ
+below-new g n = n + (g - n % g) % g
 
 -- the highest variable used after a choice, s(k-1)
 unfoldable pub last-new : Choice → ℕ

@@ -15,6 +15,12 @@ pub record Choice : Type 0 where
   pub literals : Clause
   pub below : ℕ
 
+-- M-118: what is written down of a choice: its first new variable, its length, and how many input clauses were resolved into it
+pub record Choice-record : Type 0 where
+  pub first : ℕ
+  pub length : ℕ
+  pub clauses : ℕ
+
 abbrev pub choice-of : Clause → ℕ → Choice
 choice-of l n = record { literals = l; below = n }
 

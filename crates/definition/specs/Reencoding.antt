@@ -1,13 +1,14 @@
 -- The events of a whole run, its log and what stands at its end; "a clause goes into a choice".
 use mathlib.Core.Path.{_≡_}
-use mathlib.Core.Bool.{false}
+use mathlib.Core.Bool.{false, cond}
 use mathlib.Core.List.{List, [], _∷_, _++_}
-use Prim.Native.Nat.{ℕ, max}
+use Prim.Native.Nat.{ℕ, _+_, max}
+use lib.ListN.{length}
 use Rattle.definition.specs.Lists.{for-each}
-use Rattle.definition.specs.Literals.{Clause, Formula, opposed}
+use Rattle.definition.specs.Literals.{Clause, Formula, same-set, opposed}
 use Rattle.definition.specs.Reading.{Input}
 use Rattle.definition.specs.Standing.{Line, after, highest-in}
-use Rattle.definition.specs.Events.{Clash, Choice, choice-of, Event, clash-cleared, pure-deleted, choice-taken, clause-replaced, literals-deleted}
+use Rattle.definition.specs.Events.{Clash, Choice, Choice-record, choice-of, Event, clash-cleared, pure-deleted, choice-taken, clause-replaced, literals-deleted}
 use Rattle.definition.specs.Clearing.{clash-lines, pure-lines, resolvent, clear-clashes, clear-pure}
 use Rattle.definition.specs.Counter.{choices, below-new, last-new, take-choice, choice-lines}
 use Rattle.definition.specs.Order.{replacement-lines, order-events, literal-deletions}
@@ -29,23 +30,44 @@ pub data Form : Type 0 where
   counter-form : Form
   order-form : Form
 
--- what the caller asks for
+-- what the caller asks for; M-118: the step is from 1 to 100
 pub record Settings : Type 0 where
   pub form : Form
   pub arrangement : Arrangement
+  pub step : ℕ
 
 -- one choice; the order form follows directly after its stage 4
 unfoldable pub choice-events : Form → Formula → Clause → Choice → List Event
 choice-events counter-form f c k = take-choice f c k ∷ []
 choice-events order-form f c k = let e = take-choice f c k in e ∷ order-events k (after f (lines-of e))
 
--- the choices in list order, where f stands and n is the highest variable used
-unfoldable pub choices-events : Form → (Clause → Clause) → ℕ → Formula → List Clause → List Event
-choices-events form order n f [] = []
-choices-events form order n f (c ∷ cs) =
-    let k = choice-of (order c) (below-new n) in
+-- the choices in list order, with the step g, where f stands and n is the highest variable used
+unfoldable pub choices-events : Form → ℕ → (Clause → Clause) → ℕ → Formula → List Clause → List Event
+choices-events form g order n f [] = []
+choices-events form g order n f (c ∷ cs) =
+    let k = choice-of (order c) (below-new g n) in
     let es = choice-events form f c k in
-    es ++ choices-events form order (last-new k) (after f (lines es)) cs
+    es ++ choices-events form g order (last-new k) (after f (lines es)) cs
+
+-- M-118: the number of input clauses resolved into a clause d in the course of the events, where `count` says it before them: a resolvent has those of A and of B
+unfoldable pub count-after : Event → (Clause → ℕ) → Clause → ℕ
+count-after (clash-cleared c) count d = cond (same-set d (resolvent c)) (count (c .one) + count (c .other)) (count d)
+count-after (pure-deleted l c) count d = count d
+count-after (choice-taken c k copies) count d = count d
+count-after (clause-replaced old result) count d = count d
+count-after (literals-deleted c) count d = count d
+
+unfoldable pub resolved-into : (Clause → ℕ) → List Event → Clause → ℕ
+resolved-into count [] d = count d
+resolved-into count (e ∷ es) d = resolved-into (count-after e count) es d
+
+-- the record of an event that takes a choice
+unfoldable pub record-of : (Clause → ℕ) → Event → List Choice-record
+record-of count (clash-cleared c) = []
+record-of count (pure-deleted l c) = []
+record-of count (choice-taken c k copies) = record { first = k .below + 1; length = length (k .literals); clauses = count c } ∷ []
+record-of count (clause-replaced old result) = []
+record-of count (literals-deleted c) = []
 
 -- what stands when no clash is left
 unfoldable pub unclashed : Formula → Formula
@@ -64,10 +86,14 @@ module _ (s : Settings) (i : Input) where
   events =
       clear-clashes (i .formula)
       ++ clear-pure (unclashed (i .formula))
-      ++ choices-events (s .form) (arranged (s .arrangement) (cleared (i .formula)) chosen) (i .highest) (cleared (i .formula)) chosen
+      ++ choices-events (s .form) (s .step) (arranged (s .arrangement) (cleared (i .formula)) chosen) (i .highest) (cleared (i .formula)) chosen
 
   unfoldable pub log : List Line
   log = lines events
+
+  -- M-118: the table, a record for each choice in the order taken; an input clause is 1 itself
+  unfoldable pub table : List Choice-record
+  table = for-each events (record-of (resolved-into (λ d. 1) (clear-clashes (i .formula))))
 
   -- what stands with all lines kept
   unfoldable pub result : Formula
@@ -91,5 +117,5 @@ pub data Goes-into (k : Choice) : List Event → Clause → Type 0 where
 
 -- all of this file, for a proof that computes: `unfolding computing` opens every name of the next line
 unfoldable pub computing : Unit {0}
-unfolding lines-of lines choice-events choices-events unclashed cleared chosen events log result highest-used
+unfolding lines-of lines choice-events choices-events count-after resolved-into record-of unclashed cleared chosen events log table result highest-used
 computing = tt

@@ -1,5 +1,5 @@
 -- "Sessions": the starred ones, and some more that tell wrong definitions apart, rows of one list checked by one theorem.
-use mathlib.Core.Bool.{Bool, false, _&&_}
+use mathlib.Core.Bool.{Bool, true, false, _&&_}
 use mathlib.Core.List.{List, [], _∷_, map}
 use Prim.Native.Nat.{ℕ}
 use Prim.Native.String.{String}
@@ -18,6 +18,7 @@ use Rattle.definition.specs.Reading
 use Rattle.definition.specs.Reading.{Input, input-limits, read-formula}
 use Rattle.definition.specs.Standing
 use Rattle.definition.specs.Assignments
+use Rattle.definition.specs.Events.{Choice-record}
 use Rattle.definition.specs.Clearing
 use Rattle.definition.specs.Counter
 use Rattle.definition.specs.Counter.{choices}
@@ -31,13 +32,17 @@ use Rattle.definition.specs.Log.{clause-text, formula-text}
 use Rattle.definition.specs.LogReading
 use Rattle.definition.specs.Answer
 use Rattle.definition.specs.Calls
-use Rattle.definition.specs.Calls.{Reencoded, reencode, read-back, walk-back}
+use Rattle.definition.specs.Calls.{Reencoded, fitted, reencode, read-back, walk-back}
 
 unfoldable pub counter : Settings
-counter = record { form = Reencoding.counter-form; arrangement = as-listed }
+counter = record { form = Reencoding.counter-form; arrangement = as-listed; step = 1 }
 
 unfoldable pub order : Settings
-order = record { form = Reencoding.order-form; arrangement = as-listed }
+order = record { form = Reencoding.order-form; arrangement = as-listed; step = 1 }
+
+-- counter form with a step
+unfoldable pub stepped : ℕ → Settings
+stepped g = record { form = Reencoding.counter-form; arrangement = as-listed; step = g }
 
 -- a row: a call and what it must give
 pub data Session : Type 0 where
@@ -63,13 +68,17 @@ pub data Session : Type 0 where
   not-read : ℕ → String → ℕ → Session
   -- the number that a text is refused with
   refused : String → ℕ → Session
-  -- the number that reencoding is refused with, given so many entries of workspace and bytes of the two buffers
-  short : Settings → String → ℕ → ℕ → ℕ → ℕ → Session
+  -- the number that reencoding is refused with, given so many entries of workspace, bytes of the two buffers and records of the table
+  short : Settings → String → ℕ → ℕ → ℕ → ℕ → ℕ → Session
+  -- the table: first new variable, length and input clauses of each choice
+  tabled : Settings → String → List (ℕ × ℕ × ℕ) → Session
+  -- the number that a result with such an H and so many choices is refused with, given a table of so many records and no buffers; both texts are one byte long
+  unfit : ℕ → ℕ → ℕ → ℕ → Session
   -- the number that the walk-back of a formula, a log, a number of kept lines and an answer is refused with
   not-walked : String → String → ℕ → String → ℕ → Session
 
 unfoldable pub run : Settings → String → Checked Reencoded
-run s t = reencode s 100_000 100_000 100_000 (bytes t)
+run s t = reencode s 100_000 100_000 100_000 1_000 (bytes t)
 
 unfoldable pub read-within : ℕ → String → Checked Input
 read-within n t = read-formula (record { variables = 9; clauses = 9; literals = n }) (bytes t)
@@ -90,6 +99,21 @@ tallied h m l r = eqb (r .tally .highest) h && eqb (r .tally .clauses) m && eqb 
 unfoldable pub one-to : ℕ → Clause
 one-to n = for-from 1 n (λ v. pos v ∷ [])
 
+unfoldable pub same-rows : List Choice-record → List (ℕ × ℕ × ℕ) → Bool
+same-rows [] [] = true
+same-rows [] (x ∷ xs) = false
+same-rows (r ∷ rs) [] = false
+same-rows (r ∷ rs) (x ∷ xs) = eqb (r .first) (x .0) && eqb (r .length) (x .1) && eqb (r .clauses) (x .2) && same-rows rs xs
+
+unfoldable pub result-with : ℕ → ℕ → Reencoded
+result-with h n =
+    record {
+      tally = record { choices = n; highest = h; clauses = 0; lines = 0; log-bytes = 1; formula-bytes = 1 };
+      log = bytes "0";
+      formula = bytes "0";
+      table = [];
+    }
+
 unfoldable pub passes : Session → Bool
 passes (texts s t log out) =
     good (run s t) (λ r. same-bytes (r .log) (bytes log) && same-bytes (r .formula) (bytes out))
@@ -109,11 +133,14 @@ passes (alone n m) =
     let left = cleared (one-to n ∷ []) in
     eqb (length left) m && eqb (length (choices left)) m
 passes (alone-counts s n h m l) =
-    good (reencode s 100_000 100_000 100_000 (formula-text n (one-to n ∷ []))) (tallied h m l)
+    good (reencode s 100_000 100_000 100_000 1_000 (formula-text n (one-to n ∷ []))) (tallied h m l)
 passes (reads n t out) = good (read-within n t) (λ i. same-bytes (for-each (i .formula) clause-text) (bytes out))
 passes (not-read n t m) = is-fault (read-within n t) m
 passes (refused t n) = is-fault (run counter t) n
-passes (short s t workspace log-room formula-room n) = is-fault (reencode s workspace log-room formula-room (bytes t)) n
+passes (short s t workspace log-room formula-room table-room n) =
+    is-fault (reencode s workspace log-room formula-room table-room (bytes t)) n
+passes (tabled s t rows) = good (run s t) (λ r. same-rows (r .table) rows)
+passes (unfit h n table-room m) = is-fault (fitted table-room 0 0 (result-with h n)) m
 passes (not-walked t log kept answer n) = is-fault (walk-back 100_000 1_000 kept (bytes t) (bytes log) (bytes answer)) n
 
 e-text : String
@@ -128,8 +155,14 @@ free-text = "p cnf 6 1\n1 2 3 4 5 6 0\n"
 g-formula : String
 g-formula = "p cnf 10 8\n8 -7 0\n9 -8 0\n10 -9 0\n-7 6 0\n7 -8 6 0\n8 -9 6 0\n9 -10 -6 0\n10 -6 0\n"
 
+resolved-text : String
+resolved-text = "p cnf 8 3\n1 2 3 0\n-3 4 5 0\n-5 6 7 8 0\n"
+
+two-text : String
+two-text = "p cnf 11 3\n1 2 3 4 5 0\n6 7 8 0\n-6 9 10 11 0\n"
+
 pub sessions : List Session
-unfolding counter order e-text f-text free-text g-formula
+unfolding counter order stepped resolved-text two-text e-text f-text free-text g-formula
 sessions =
     -- A to E
     texts counter "p cnf 0 0\n" "" "p cnf 0 0\n"
@@ -186,8 +219,8 @@ sessions =
     ∷ refused "p cnf 1 1\n1 -1 1" 7
     ∷ refused "p cnf 1 1\n1 -1 0 1 0\n" 8
     ∷ refused "p cnf 1 2\n1 -1 0\n" 8
-    ∷ short counter "p cnf 1 1\n1 -1 0\n" 8_207 0 0 11
-    ∷ short counter "p cnf 1 1\n1 -1 0\n" 8_208 0 0 13
+    ∷ short counter "p cnf 1 1\n1 -1 0\n" 8_207 0 0 0 11
+    ∷ short counter "p cnf 1 1\n1 -1 0\n" 8_208 0 0 0 13
     ∷ walks counter "p cnf 3 3\n1 2 1 0\n2 -2 0\n-1 3 -1 0\n" "s SATISFIABLE\nv 0\n" 4 "v -1 2 -3 0\n"
     -- refusals
     ∷ refused "p cnf 1 1\n2 0\n" 4
@@ -197,9 +230,30 @@ sessions =
     ∷ refused "p cnf 8001 0\n" 2
     ∷ refused "p cnf 0 0 \n" 1
     -- E has V 3, C 2 and L 4; its log has 31 bytes, its new formula 10
-    ∷ short counter e-text 8_395 0 0 11
-    ∷ short counter e-text 8_396 30 9 12
-    ∷ short counter e-text 8_396 31 9 13
+    ∷ short counter e-text 8_395 0 0 0 11
+    ∷ short counter e-text 8_396 30 9 0 12
+    ∷ short counter e-text 8_396 31 9 0 13
+    -- M-118: three input clauses resolved into one choice
+    ∷ tabled counter resolved-text ((9, 6, 3) ∷ [])
+    ∷ tabled order resolved-text ((9, 6, 3) ∷ [])
+    ∷ tabled counter e-text []
+    -- steps: the least number above all used that is 1 more than a multiple
+    ∷ tabled (stepped 1) two-text ((12, 5, 1) ∷ (16, 5, 2) ∷ [])
+    ∷ tabled (stepped 3) two-text ((13, 5, 1) ∷ (19, 5, 2) ∷ [])
+    ∷ tabled (stepped 5) two-text ((16, 5, 1) ∷ (21, 5, 2) ∷ [])
+    ∷ tabled (stepped 100) two-text ((101, 5, 1) ∷ (201, 5, 2) ∷ [])
+    ∷ counts (stepped 3) free-text 11 20 21
+    ∷ texts (stepped 4) "p cnf 5 1\n1 2 3 4 5 0\n" "-9 1 0\n9 -1 0\n-10 9 2 0\n10 -9 0\n10 -2 0\n-11 10 3 0\n11 -10 0\n11 -3 0\n-12 11 4 0\n12 -11 0\n12 -4 0\n-2 -9 0\n-3 -10 0\n-4 -11 0\n-5 -12 0\n12 5 0\nd 1 2 3 4 5 0\n" "p cnf 12 16\n-9 1 0\n9 -1 0\n-10 9 2 0\n10 -9 0\n10 -2 0\n-11 10 3 0\n11 -10 0\n11 -3 0\n-12 11 4 0\n12 -11 0\n12 -4 0\n-2 -9 0\n-3 -10 0\n-4 -11 0\n-5 -12 0\n12 5 0\n"
+    -- 15 before all others; 17 directly after 16, both before 12; two-text has V 11, C 3 and L 12
+    ∷ short (stepped 0) "" 0 0 0 0 15
+    ∷ short (stepped 101) "" 0 0 0 0 15
+    ∷ short (stepped 100) "" 0 0 0 0 1
+    ∷ short counter two-text 8_815 0 0 0 11
+    ∷ short counter two-text 8_816 0 0 1 17
+    ∷ short counter two-text 8_816 0 0 2 12
+    ∷ unfit 70_001 2 1 16
+    ∷ unfit 70_000 2 1 17
+    ∷ unfit 70_000 2 2 12
     -- the log's writer, then the solver
     ∷ not-walked "p cnf 2 1\n1 2 0\n" "d 1 2 0" 1 "" 31
     ∷ not-walked "p cnf 2 1\n1 2 0\n" "1 1 0\n" 1 "" 31
@@ -215,5 +269,5 @@ sessions =
     ∷ []
 
 pub sessions-hold : T (all passes sessions)
-unfolding sessions passes tallied one-to run read-within good is-fault Lists.computing Checked.computing Literals.computing Text.computing Reading.computing Standing.computing Assignments.computing Clearing.computing Counter.computing Order.computing Alignment.computing Reencoding.computing Log.computing LogReading.computing Answer.computing Calls.computing
+unfolding sessions passes same-rows result-with tallied one-to run read-within good is-fault Lists.computing Checked.computing Literals.computing Text.computing Reading.computing Standing.computing Assignments.computing Clearing.computing Counter.computing Order.computing Alignment.computing Reencoding.computing Log.computing LogReading.computing Answer.computing Calls.computing
 sessions-hold = tt

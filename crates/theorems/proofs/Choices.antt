@@ -20,14 +20,14 @@ into-++ [] i = i
 into-++ (x ∷ xs) i = let r = into-++ xs i in record { choice = r .choice; goes = later (r .goes) }
 
 -- a clause of the list goes into a choice
-into-choices : (form : Form) (order : Clause → Clause) (n : ℕ) (f : Formula) (cs : List Clause) (c : Clause) → List·Memᴰ c cs → Into (choices-events form order n f cs) c
+into-choices : (form : Form) (g : ℕ) (order : Clause → Clause) (n : ℕ) (f : Formula) (cs : List Clause) (c : Clause) → List·Memᴰ c cs → Into (choices-events form g order n f cs) c
 unfolding choices-events choice-events take-choice
-into-choices counter-form order n f (d ∷ cs) c (here e) = rw e (record { choice = choice-of (order d) (below-new n); goes = taken })
-into-choices order-form order n f (d ∷ cs) c (here e) = rw e (record { choice = choice-of (order d) (below-new n); goes = taken })
-into-choices form order n f (d ∷ cs) c (there m) =
-    let k = choice-of (order d) (below-new n) in
+into-choices counter-form g order n f (d ∷ cs) c (here e) = rw e (record { choice = choice-of (order d) (below-new g n); goes = taken })
+into-choices order-form g order n f (d ∷ cs) c (here e) = rw e (record { choice = choice-of (order d) (below-new g n); goes = taken })
+into-choices form g order n f (d ∷ cs) c (there m) =
+    let k = choice-of (order d) (below-new g n) in
     let es = choice-events form f d k in
-    into-++ es (into-choices form order (last-new k) (after f (lines es)) cs c m)
+    into-++ es (into-choices form g order (last-new k) (after f (lines es)) cs c m)
 
 pub choices-taken : Choices-taken
 unfolding Choices-taken chosen choices events

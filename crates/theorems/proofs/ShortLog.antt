@@ -114,15 +114,15 @@ choice-bounded f c k p b = (taken-bounded f c k p b, tt)
 
 -- what holds of the events of each choice holds along all of them
 module _ (P : Formula → Event → Type 0) (form : Form) (each : (f : Formula) (c : Clause) (k : Choice) → Proper (k .literals) → 2 ≤ length (k .literals) → Along P f (choice-events form f c k)) (order : Clause → Clause) where
-  choices-along : (n : ℕ) (f : Formula) (cs : List Clause) → Arranges n order cs → Along P f (choices-events form order n f cs)
+  choices-along : (n : ℕ) (f : Formula) (cs : List Clause) → Arranges n order cs → Along P f (choices-events form g order n f cs)
   unfolding choices-events size
   choices-along n f [] h = tt
   choices-along n f (c ∷ cs) h =
-      let k = as-choice n order c in
+      let k = as-choice g n order c in
       let es = choice-events form f c k in
-      along-++ P f es (choices-events form order (last-new k) (after f (lines es)) cs)
+      along-++ P f es (choices-events form g order (last-new k) (after f (lines es)) cs)
       (each f c k (ordered-proper n order (c ∷ cs) h c (here refl) .0) (ordered-size n order (c ∷ cs) h c (here refl) n))
-      (choices-along (last-new k) (after f (lines es)) cs (others n order c cs h))
+      (choices-along (last-new k) (after f (lines es)) cs (others g n order c cs h))
 
 -- ---- a run
 module _ (s : Settings) (i : Input) (h : Run s i) where

@@ -58,11 +58,3 @@ cells-least w l c = omega (arith, sum-≤ (λ _. 3) w c (λ x _. l x))
 pub taken-adds : (w : ℤ → ℕ) → ((x : ℤ) → 3 ≤ w x) → (b : Clause) (c : Choice) → Weighs 3 w c → 2 ≤ size c → (f : Formula) → added cells (lines-of (take-choice f b c)) ≤ (size c - 1) * 40
 taken-adds w l b c q s f =
     omega (arith, taken-changes cells b c f .0, sum-≤ cells (weight 1 w) (counter c) (λ d _. cells-least w l d), counter-weight 1 3 w c q s)
-
--- the counter clauses, or one clause
-pub choice-adds : (h : ℕ) (w : ℤ → ℕ) → ((x : ℤ) → 3 ≤ w x) → (b : Clause) (c : Choice) → Weighs 3 w c → 2 ≤ size c → (f : Formula) (e : Event) → Of-choice b c f e → All-lines (Proper-to h) (lines-of e) →
-    added cells (lines-of e) ≤ suc (3 * h) + risen 40 e
-unfolding lines-of replacement-lines literal-deletions
-choice-adds h w l b c q s f e taken p = omega (arith, taken-adds w l b c q s f, risen-taken 40 b c f)
-choice-adds h w l b c q s f e (replacing d m) p = omega (arith, one-addition h (not (opposed (replaced c d))) (replaced c d) (d ∷ []) p)
-choice-adds h w l b c q s f e deleting p = omega (arith, added-deletions cells (for-from 1 (size c) (deletions-of c)))

@@ -175,19 +175,19 @@ module _ (b : Clause) (c : Choice) (u : Well-formed c) (f : Formula) (a : All-cl
       omega (arith, sum-++ (gained v) (lines-of (take-choice f b c)) (lines (order-events c (after f (lines-of (take-choice f b c))))), order-adds v g i h)
 
 -- ---- the events of the first choices, and those of the others
-pub choices-split : (form : Form) (order : Clause → Clause) (n : ℕ) (f : Formula) (cs ds : List Clause) →
-    choices-events form order n f (cs ++ ds) ≡ choices-events form order n f cs ++ choices-events form order (used-after order n cs) (after f (lines (choices-events form order n f cs))) ds
+pub choices-split : (form : Form) (g : ℕ) (order : Clause → Clause) (n : ℕ) (f : Formula) (cs ds : List Clause) →
+    choices-events form g order n f (cs ++ ds) ≡ choices-events form g order n f cs ++ choices-events form g order (used-after g order n cs) (after f (lines (choices-events form g order n f cs))) ds
 unfolding choices-events used-after lines for-each after
-choices-split form order n f [] ds = refl
-choices-split form order n f (c ∷ cs) ds =
-    let k = as-choice n order c in
+choices-split form g order n f [] ds = refl
+choices-split form g order n f (c ∷ cs) ds =
+    let k = as-choice g n order c in
     let es = choice-events form f c k in
     let F = after f (lines es) in
-    let xs = choices-events form order (last-new k) F cs in
-    let m = used-after order (last-new k) cs in
-    ap (λ (zs : List Event). es ++ zs) (choices-split form order (last-new k) F cs ds)
-    ∙ sym (append-assoc es xs (choices-events form order m (after F (lines xs)) ds))
-    ∙ ap (λ (X : Formula). es ++ xs ++ choices-events form order m X ds) (sym (ap (after f) (lines-++ es xs) ∙ after-++ f (lines es) (lines xs)))
+    let xs = choices-events form g order (last-new k) F cs in
+    let m = used-after g order (last-new k) cs in
+    ap (λ (zs : List Event). es ++ zs) (choices-split form g order (last-new k) F cs ds)
+    ∙ sym (append-assoc es xs (choices-events form g order m (after F (lines xs)) ds))
+    ∙ ap (λ (X : Formula). es ++ xs ++ choices-events form g order m X ds) (sym (ap (after f) (lines-++ es xs) ∙ after-++ f (lines es) (lines xs)))
 
 -- ---- the choices of a run
 
@@ -207,13 +207,13 @@ module _ (s : Settings) (i : Input) (h : Run s i) (disjoint : Parted (chosen s i
   arranges-first d m = arranges s i h d (mem-first d m)
 
   events-after : List Event
-  events-after = choices-events (s .form) (order-of s i) (last-new (next-choice s i cs c)) (after (standing-after-first s i cs) (lines (choice-events (s .form) (standing-after-first s i cs) c (next-choice s i cs c)))) ds
+  events-after = choices-events (s .form) (s .step) (order-of s i) (last-new (next-choice s i cs c)) (after (standing-after-first s i cs) (lines (choice-events (s .form) (standing-after-first s i cs) c (next-choice s i cs c)))) ds
 
   choosing-split : choosing s i ≡ events-of-first s i cs ++ (choice-events (s .form) (standing-after-first s i cs) c (next-choice s i cs c) ++ events-after)
   unfolding choosing events-of-first standing-after-first events-after choices-events
   choosing-split =
-      ap (choices-events (s .form) (order-of s i) (i .highest) (cleared (i .formula))) e
-      ∙ choices-split (s .form) (order-of s i) (i .highest) (cleared (i .formula)) cs (c ∷ ds)
+      ap (choices-events (s .form) (s .step) (order-of s i) (i .highest) (cleared (i .formula))) e
+      ∙ choices-split (s .form) (s .step) (order-of s i) (i .highest) (cleared (i .formula)) cs (c ∷ ds)
 
   -- from what the clearing leaves to what stands before the choice, and on
   first-leads : let F = standing-after-first s i cs in
@@ -226,16 +226,16 @@ module _ (s : Settings) (i : Input) (h : Run s i) (disjoint : Parted (chosen s i
       let k : Leads (cleared (i .formula)) (lines (choosing s i)) (result s i) = rw (cleared-after (i .formula)) l in
       leads-split (lines xs) (lines ys) (rw (ap lines choosing-split ∙ lines-++ xs ys) at k)
 
-  first-lines : All-lines (Proper-to (used-after (order-of s i) (i .highest) cs)) (lines (events-of-first s i cs))
+  first-lines : All-lines (Proper-to (used-after (s .step) (order-of s i) (i .highest) cs)) (lines (events-of-first s i cs))
   unfolding events-of-first
-  first-lines = choices-lines-to (s .form) (order-of s i) (i .highest) (cleared (i .formula)) cs (standing-to s i h) arranges-first
+  first-lines = choices-lines-to (s .form) (s .step) (order-of s i) (i .highest) (cleared (i .formula)) cs (standing-to s i h) arranges-first
 
-  pub first-to : All-clauses (Proper-to (used-after (order-of s i) (i .highest) cs)) (standing-after-first s i cs)
+  pub first-to : All-clauses (Proper-to (used-after (s .step) (order-of s i) (i .highest) cs)) (standing-after-first s i cs)
   unfolding standing-after-first events-of-first
-  first-to = choices-standing-to (s .form) (order-of s i) (i .highest) (cleared (i .formula)) cs (standing-to s i h) arranges-first
+  first-to = choices-standing-to (s .form) (s .step) (order-of s i) (i .highest) (cleared (i .formula)) cs (standing-to s i h) arranges-first
 
   next-to : All-clauses (Proper-to (next-choice s i cs c .below)) (standing-after-first s i cs)
-  next-to = below-to (used-after (order-of s i) (i .highest) cs) (standing-after-first s i cs) first-to
+  next-to = below-to (s .step) (used-after (s .step) (order-of s i) (i .highest) cs) (standing-after-first s i cs) first-to
 
   heavier : ℕ → ℕ → Clause → ℕ
   heavier u a = weight u (literal-weight a (chosen s i))
@@ -270,13 +270,13 @@ module _ (s : Settings) (i : Input) (h : Run s i) (disjoint : Parted (chosen s i
       omega (
         arith,
         raised g (risen r) o (events-of-first s i cs) (first-leads .0) (λ d m. standing-to s i h d m .0) (λ x m. first-lines x m .0) q,
-        choices-risen r (s .form) (order-of s i) (i .highest) (cleared (i .formula)) cs arranges-first,
+        choices-risen r (s .form) (s .step) (order-of s i) (i .highest) (cleared (i .formula)) cs arranges-first,
       )
 
   -- and that of the clauses with a negated literal of the choice not at all
   first-foreign : (u a : ℕ) → Raises (touched (order-of s i c) (heavier u a)) (risen 0) (events-of-first s i cs)
   unfolding events-of-first heavier
-  first-foreign u a d m = by-choice (events-of-choices (s .form) (order-of s i) (i .highest) (cleared (i .formula)) cs (standing-to s i h) arranges-first d m)
+  first-foreign u a d m = by-choice (events-of-choices (s .form) (s .step) (order-of s i) (i .highest) (cleared (i .formula)) cs (standing-to s i h) arranges-first d m)
     where
       w : ℤ → ℕ
       w = literal-weight a (chosen s i)
@@ -284,13 +284,13 @@ module _ (s : Settings) (i : Input) (h : Run s i) (disjoint : Parted (chosen s i
       g : Clause → ℕ
       g = touched (order-of s i c) (heavier u a)
 
-      by-choice : From-choices (i .highest) (order-of s i) cs d → added g (lines-of d) ≤ deleted g (lines-of d) + risen 0 d
+      by-choice : From-choices (s .step) (i .highest) (order-of s i) cs d → added g (lines-of d) ≤ deleted g (lines-of d) + risen 0 d
       by-choice (from-choice n b f j k o) =
-          let z = as-choice n (order-of s i) b in
-          foreign-raises (order-of s i c) z (ordered-formed (i .highest) (order-of s i) cs arranges-first b k n j)
-          (λ x l. omega (arith, below-new-least n, ordered-proper (i .highest) (order-of s i) (chosen s i) (arranges s i h) c mem-next .1 x l))
+          let z = as-choice (s .step) n (order-of s i) b in
+          foreign-raises (order-of s i c) z (ordered-formed (i .highest) (order-of s i) cs arranges-first b k (s .step) n j)
+          (λ x l. omega (arith, below-new-least (s .step) n, ordered-proper (i .highest) (order-of s i) (chosen s i) (arranges s i h) c mem-next .1 x l))
           (λ x l y t q. parted-before cs c ds (rw e at disjoint) b k y (arranges-first b k .3 .0 y t) x (arranges s i h c mem-next .3 .0 x l) (sym q))
-          (heavier u a) (replaced-weight a w z (weighs a (i .highest) n (order-of s i) (chosen s i) (arranges s i h) b (mem-first b k) j) u) b f d o
+          (heavier u a) (replaced-weight a w z (weighs a (s .step) (i .highest) n (order-of s i) (chosen s i) (arranges s i h) b (mem-first b k) j) u) b f d o
 
   -- so these weigh no more than the input
   touched-weight : (u a : ℕ) → sum-of (touched (order-of s i c) (heavier u a)) (standing-after-first s i cs) ≤ length (i .formula) * u + literals-of (i .formula) * (a + a)
@@ -331,12 +331,12 @@ module _ (s : Settings) (i : Input) (h : Run s i) (disjoint : Parted (chosen s i
   choice-step form =
       let F = standing-after-first s i cs in
       let k = next-choice s i cs c in
-      let n = used-after (order-of s i) (i .highest) cs in
+      let n = used-after (s .step) (order-of s i) (i .highest) cs in
       let w = literal-weight 3 (chosen s i) in
       let least = literal-least 3 (chosen s i) in
-      let q : Weighs 3 w k = weighs 3 (i .highest) n (order-of s i) (chosen s i) (arranges s i h) c mem-next (used-least (order-of s i) (i .highest) cs) in
-      let two = ordered-size (i .highest) (order-of s i) (chosen s i) (arranges s i h) c mem-next n in
-      let u = ordered-formed (i .highest) (order-of s i) (chosen s i) (arranges s i h) c mem-next n (used-least (order-of s i) (i .highest) cs) in
+      let q : Weighs 3 w k = weighs 3 (s .step) (i .highest) n (order-of s i) (chosen s i) (arranges s i h) c mem-next (used-least (s .step) (order-of s i) (i .highest) cs) in
+      let two = ordered-size (i .highest) (order-of s i) (chosen s i) (arranges s i h) c mem-next (s .step) n in
+      let u = ordered-formed (i .highest) (order-of s i) (chosen s i) (arranges s i h) c mem-next (s .step) n (used-least (s .step) (order-of s i) (i .highest) cs) in
       let t = taken-leads (s .form) F c k events-after (first-leads .1) in
       omega (
         arith,

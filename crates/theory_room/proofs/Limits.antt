@@ -1,6 +1,6 @@
 -- Within the limits of reading, the log and the new formula are within the limits of reading back. Assumes what a run keeps (`Run`).
 use mathlib.Core.List.{List·Memᴰ}
-use Prim.Native.Nat.{_≤_}
+use Prim.Native.Nat.{ℕ, _≤_}
 use native.Mathlib.Omega.{arith}
 use lib.ListN.{length}
 use Rattle.definition.specs.Literals.{literals-of, highest}
@@ -26,17 +26,14 @@ module _ (s : Settings) (i : Input) (h : Run s i) where
       (λ d m x k. fit-up (highest-used s i) (i .highest) x (omega arith) (h .fits d m x k))
       (λ y m x k. (proper-literal (literals y) (log-proper s i h y m) x k, omega (arith, highest-at (literals y) x k, highest-in-at (log s i) y m)))
 
+  pub log-line-limit : (b : ℕ) → highest-used s i ≤ b → (x : Line) → List·Memᴰ x (log s i) → highest (literals x) ≤ b
+  unfolding highest-used
+  log-line-limit b l x m = omega (arith, highest-in-at (log s i) x m)
+
   -- ---- the limits
   module _ (variables : i .highest ≤ 8_000) (clauses : length (i .formula) ≤ 20_000) (literal-count : literals-of (i .formula) ≤ 60_000) where
-    pub log-line-limit : (x : Line) → List·Memᴰ x (log s i) → highest (literals x) ≤ 70_000
-    log-line-limit x m = omega (arith, highest-le (top s i) (literals x) (log-to s i h x m .1), few-new-variables s i h, top-most s i h)
-
-    pub highest-limit : highest-used s i ≤ 70_000
-    unfolding highest-used
-    highest-limit = omega (arith, highest-in-le (top s i) (log s i) (λ x m. highest-le (top s i) (literals x) (log-to s i h x m .1)), few-new-variables s i h, top-most s i h)
-
     pub clauses-limit : length (result s i) ≤ 300_000
-    clauses-limit = omega (arith, result-size s i h 1 0, few-new-variables s i h, top-most s i h)
+    clauses-limit = omega (arith, result-size s i h 1 0, few-new-variables s i h)
 
     pub literals-limit : literals-of (result s i) ≤ 1_000_000
-    literals-limit = omega (arith, result-size s i h 0 1, few-new-variables s i h, top-most s i h)
+    literals-limit = omega (arith, result-size s i h 0 1, few-new-variables s i h)

@@ -4,7 +4,7 @@ use mathlib.Core.Path.{_≡_, refl, sym, _∙_, ap, subst}
 use mathlib.Core.Logic.{⊎-elim}
 use mathlib.Core.Bool.{not}
 use mathlib.Core.List.{List, [], _∷_, _++_, map, List·Memᴰ, List·Memᴰ·head as here, List·Memᴰ·tail as there, List·Memᴰ·append-cases, List·Memᴰ·not-nil, List·Memᴰ·eq-of-singleton}
-use Prim.Native.Nat.{ℕ, _+_, _-_, _≤_}
+use Prim.Native.Nat.{ℕ, _+_, _-_, _*_, _≤_}
 use native.Mathlib.Omega.{arith}
 use lib.ListN.{length}
 use Rattle.definition.specs.Lists.{sum-of, only-if, for-each, for-from}
@@ -121,83 +121,83 @@ module _ (n : ℕ) (order : Clause → Clause) (cs : List Clause) (h : Arranges 
   pub ordered-length : length (order c) ≡ length c
   ordered-length = let r = h c i in same-length (order c) c (r .2) (r .0 .0) (r .3)
 
-  pub ordered-size : (m : ℕ) → 2 ≤ size (as-choice m order c)
+  pub ordered-size : (g m : ℕ) → 2 ≤ size (as-choice g m order c)
   unfolding size
-  ordered-size m = let l = h c i .1 in omega (arith, ordered-length)
+  ordered-size g m = let l = h c i .1 in omega (arith, ordered-length)
 
   pub ordered-proper : Proper-to n (order c)
   ordered-proper = let r = h c i in (r .2, λ x m. r .0 .1 x (r .3 .0 x m))
 
-  pub ordered-formed : (m : ℕ) → n ≤ m → Well-formed (as-choice m order c)
-  ordered-formed m b = record { proper = ordered-proper .0; long = let l = h c i .1 in omega (arith, ordered-length); fit = proper-fit (proper-to-more n (below-new m) (omega (arith, below-new-least m)) (order c) ordered-proper) }
+  pub ordered-formed : (g m : ℕ) → n ≤ m → Well-formed (as-choice g m order c)
+  ordered-formed g m b = record { proper = ordered-proper .0; long = let l = h c i .1 in omega (arith, ordered-length); fit = proper-fit (proper-to-more n (below-new g m) (omega (arith, below-new-least g m)) (order c) ordered-proper) }
 
-  pub ordered-new : (m : ℕ) → last-new (as-choice m order c) ≡ below-new m + (length c - 1)
+  pub ordered-new : (g m : ℕ) → last-new (as-choice g m order c) ≡ below-new g m + (length c - 1)
   unfolding last-new
-  ordered-new m = omega (arith, ordered-length)
+  ordered-new g m = omega (arith, ordered-length)
 
-pub others : (n : ℕ) (order : Clause → Clause) (c : Clause) (cs : List Clause) → Arranges n order (c ∷ cs) → Arranges (last-new (as-choice n order c)) order cs
-others n order c cs h d m =
+pub others : (g n : ℕ) (order : Clause → Clause) (c : Clause) (cs : List Clause) → Arranges n order (c ∷ cs) → Arranges (last-new (as-choice g n order c)) order cs
+others g n order c cs h d m =
     let r = h d (there m) in
-    (proper-to-more n (last-new (as-choice n order c)) (last-new-above (order c) n) d (r .0), r .1, r .2, r .3)
+    (proper-to-more n (last-new (as-choice g n order c)) (last-new-above g (order c) n) d (r .0), r .1, r .2, r .3)
 
 -- what stands fits the next choice too
-pub below-to : (n : ℕ) (f : Formula) → All-clauses (Proper-to n) f → All-clauses (Proper-to (below-new n)) f
-below-to n f a d m = proper-to-more n (below-new n) (below-new-least n) d (a d m)
+pub below-to : (g n : ℕ) (f : Formula) → All-clauses (Proper-to n) f → All-clauses (Proper-to (below-new g n)) f
+below-to g n f a d m = proper-to-more n (below-new g n) (below-new-least g n) d (a d m)
 
-pub used-least : (order : Clause → Clause) (n : ℕ) (cs : List Clause) → n ≤ used-after order n cs
+pub used-least : (g : ℕ) (order : Clause → Clause) (n : ℕ) (cs : List Clause) → n ≤ used-after g order n cs
 unfolding used-after
-used-least order n [] = omega arith
-used-least order n (c ∷ cs) = omega (arith, last-new-above (order c) n, used-least order (last-new (as-choice n order c)) cs)
+used-least g order n [] = omega arith
+used-least g order n (c ∷ cs) = omega (arith, last-new-above g (order c) n, used-least g order (last-new (as-choice g n order c)) cs)
 
-pub used-++ : (order : Clause → Clause) (n : ℕ) (cs ds : List Clause) → used-after order n (cs ++ ds) ≡ used-after order (used-after order n cs) ds
+pub used-++ : (g : ℕ) (order : Clause → Clause) (n : ℕ) (cs ds : List Clause) → used-after g order n (cs ++ ds) ≡ used-after g order (used-after g order n cs) ds
 unfolding used-after
-used-++ order n [] ds = refl
-used-++ order n (c ∷ cs) ds = used-++ order (last-new (as-choice n order c)) cs ds
+used-++ g order n [] ds = refl
+used-++ g order n (c ∷ cs) ds = used-++ g order (last-new (as-choice g n order c)) cs ds
 
--- no more than the sizes added up
-pub used-most : (order : Clause → Clause) (n : ℕ) (cs : List Clause) → Arranges n order cs → used-after order n cs ≤ n + new-variables cs
+-- no more than the sizes and the steps added up
+pub used-most : (g : ℕ) (order : Clause → Clause) (n : ℕ) (cs : List Clause) → Arranges n order cs → used-after g order n cs ≤ n + new-variables cs + length cs * g
 unfolding used-after new-variables sum-of
-used-most order n [] h = omega arith
-used-most order n (c ∷ cs) h =
-    omega (arith, below-new-most n, ordered-new n order (c ∷ cs) h c (here refl) n, used-most order (last-new (as-choice n order c)) cs (others n order c cs h))
+used-most g order n [] h = omega arith
+used-most g order n (c ∷ cs) h =
+    omega (arith, below-new-most g n, ordered-new n order (c ∷ cs) h c (here refl) g n, used-most g order (last-new (as-choice g n order c)) cs (others g n order c cs h))
 
-pub choices-lines-to : (form : Form) (order : Clause → Clause) (n : ℕ) (f : Formula) (cs : List Clause) → All-clauses (Proper-to n) f → Arranges n order cs →
-    All-lines (Proper-to (used-after order n cs)) (lines (choices-events form order n f cs))
+pub choices-lines-to : (form : Form) (g : ℕ) (order : Clause → Clause) (n : ℕ) (f : Formula) (cs : List Clause) → All-clauses (Proper-to n) f → Arranges n order cs →
+    All-lines (Proper-to (used-after g order n cs)) (lines (choices-events form g order n f cs))
 unfolding choices-events used-after lines for-each
-choices-lines-to form order n f [] a h = λ x m. absurd (List·Memᴰ·not-nil m)
-choices-lines-to form order n f (c ∷ cs) a h =
-    let k = as-choice n order c in
+choices-lines-to form g order n f [] a h = λ x m. absurd (List·Memᴰ·not-nil m)
+choices-lines-to form g order n f (c ∷ cs) a h =
+    let k = as-choice g n order c in
     let es = choice-events form f c k in
-    let u = ordered-formed n order (c ∷ cs) h c (here refl) n (omega arith) in
-    let b = below-to n f a in
-    let rest = choices-events form order (last-new k) (after f (lines es)) cs in
-    let rest-to = choices-lines-to form order (last-new k) (after f (lines es)) cs (after-choice-to c k u f b form) (others n order c cs h) in
-    let all : ℕ = used-after order n (c ∷ cs) in
+    let u = ordered-formed n order (c ∷ cs) h c (here refl) g n (omega arith) in
+    let b = below-to g n f a in
+    let rest = choices-events form g order (last-new k) (after f (lines es)) cs in
+    let rest-to = choices-lines-to form g order (last-new k) (after f (lines es)) cs (after-choice-to c k u f b form) (others g n order c cs h) in
+    let all : ℕ = used-after g order n (c ∷ cs) in
     rw (lines-++ es rest)
     (all-lines-++ (Proper-to all) (lines es) (lines rest)
-    (λ x m. proper-to-more (last-new k) all (used-least order (last-new k) cs) (literals x) (choice-lines-to c k u f b form x m))
+    (λ x m. proper-to-more (last-new k) all (used-least g order (last-new k) cs) (literals x) (choice-lines-to c k u f b form x m))
     rest-to)
 
-pub choices-standing-to : (form : Form) (order : Clause → Clause) (n : ℕ) (f : Formula) (cs : List Clause) → All-clauses (Proper-to n) f → Arranges n order cs →
-    All-clauses (Proper-to (used-after order n cs)) (after f (lines (choices-events form order n f cs)))
-choices-standing-to form order n f cs a h =
-    let m = used-after order n cs in
-    all-after (Proper-to m) f (lines (choices-events form order n f cs)) (λ d i. proper-to-more n m (used-least order n cs) d (a d i)) (choices-lines-to form order n f cs a h)
+pub choices-standing-to : (form : Form) (g : ℕ) (order : Clause → Clause) (n : ℕ) (f : Formula) (cs : List Clause) → All-clauses (Proper-to n) f → Arranges n order cs →
+    All-clauses (Proper-to (used-after g order n cs)) (after f (lines (choices-events form g order n f cs)))
+choices-standing-to form g order n f cs a h =
+    let m = used-after g order n cs in
+    all-after (Proper-to m) f (lines (choices-events form g order n f cs)) (λ d i. proper-to-more n m (used-least g order n cs) d (a d i)) (choices-lines-to form g order n f cs a h)
 
 -- each event is one of some choice, whose new variables are above n
-pub data From-choices (n : ℕ) (order : Clause → Clause) (cs : List Clause) : Event → Type 0 where
-  from-choice : {e : Event} (m : ℕ) (c : Clause) (f : Formula) → n ≤ m → List·Memᴰ c cs → Of-choice c (as-choice m order c) f e → From-choices n order cs e
+pub data From-choices (g n : ℕ) (order : Clause → Clause) (cs : List Clause) : Event → Type 0 where
+  from-choice : {e : Event} (m : ℕ) (c : Clause) (f : Formula) → n ≤ m → List·Memᴰ c cs → Of-choice c (as-choice g m order c) f e → From-choices g n order cs e
 
-pub events-of-choices : (form : Form) (order : Clause → Clause) (n : ℕ) (f : Formula) (cs : List Clause) → All-clauses (Proper-to n) f → Arranges n order cs →
-    (e : Event) → List·Memᴰ e (choices-events form order n f cs) → From-choices n order cs e
+pub events-of-choices : (form : Form) (g : ℕ) (order : Clause → Clause) (n : ℕ) (f : Formula) (cs : List Clause) → All-clauses (Proper-to n) f → Arranges n order cs →
+    (e : Event) → List·Memᴰ e (choices-events form g order n f cs) → From-choices g n order cs e
 unfolding choices-events
-events-of-choices form order n f (c ∷ cs) a h e m =
-    let k = as-choice n order c in
+events-of-choices form g order n f (c ∷ cs) a h e m =
+    let k = as-choice g n order c in
     let es = choice-events form f c k in
-    let u = ordered-formed n order (c ∷ cs) h c (here refl) n (omega arith) in
-    ⊎-elim (λ m. from-choice n c f (omega arith) (here refl) (events-of-choice c k u f (below-to n f a) form e m))
-    (λ m. later (events-of-choices form order (last-new k) (after f (lines es)) cs (after-choice-to c k u f (below-to n f a) form) (others n order c cs h) e m))
+    let u = ordered-formed n order (c ∷ cs) h c (here refl) g n (omega arith) in
+    ⊎-elim (λ m. from-choice n c f (omega arith) (here refl) (events-of-choice c k u f (below-to g n f a) form e m))
+    (λ m. later (events-of-choices form g order (last-new k) (after f (lines es)) cs (after-choice-to c k u f (below-to g n f a) form) (others g n order c cs h) e m))
     (List·Memᴰ·append-cases es m)
   where
-    later : From-choices (last-new (as-choice n order c)) order cs e → From-choices n order (c ∷ cs) e
-    later (from-choice m d g b i o) = from-choice m d g (omega (arith, last-new-above (order c) n)) (there i) o
+    later : From-choices g (last-new (as-choice g n order c)) order cs e → From-choices g n order (c ∷ cs) e
+    later (from-choice m d e b i o) = from-choice m d e (omega (arith, last-new-above g (order c) n)) (there i) o

@@ -175,14 +175,14 @@ unfolding choice-events sum-of
 choice-risen r counter-form f b c = omega (arith, risen-taken r b c f)
 choice-risen r order-form f b c = omega (arith, risen-taken r b c f, order-risen r c (after f (lines-of (take-choice f b c))))
 
-pub choices-risen : (r : ℕ) (form : Form) (order : Clause → Clause) (n : ℕ) (f : Formula) (cs : List Clause) → Arranges n order cs →
-    sum-of (risen r) (choices-events form order n f cs) ≡ new-variables cs * r
+pub choices-risen : (r : ℕ) (form : Form) (g : ℕ) (order : Clause → Clause) (n : ℕ) (f : Formula) (cs : List Clause) → Arranges n order cs →
+    sum-of (risen r) (choices-events form g order n f cs) ≡ new-variables cs * r
 unfolding choices-events new-variables sum-of size
-choices-risen r form order n f [] h = omega arith
-choices-risen r form order n f (c ∷ cs) h =
-    let k = as-choice n order c in
+choices-risen r form g order n f [] h = omega arith
+choices-risen r form g order n f (c ∷ cs) h =
+    let k = as-choice g n order c in
     let es = choice-events form f c k in
-    let rest = choices-events form order (last-new k) (after f (lines es)) cs in
+    let rest = choices-events form g order (last-new k) (after f (lines es)) cs in
     let l : size k - 1 ≡ length c - 1 = omega (arith, ordered-length n order (c ∷ cs) h c (here refl)) in
     let a : sum-of (risen r) es ≡ (length c - 1) * r = choice-risen r form f c k ∙ ap (λ (m : ℕ). m * r) l in
-    omega (arith, sum-++ (risen r) es rest, choices-risen r form order (last-new k) (after f (lines es)) cs (others n order c cs h))
+    omega (arith, sum-++ (risen r) es rest, choices-risen r form g order (last-new k) (after f (lines es)) cs (others g n order c cs h))

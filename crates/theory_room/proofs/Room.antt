@@ -1,4 +1,4 @@
--- What stands at any line of the log fits into the workspace, and while clashes are cleared it leaves room for a step. Assumes what a run keeps (`Run`).
+-- What stands while the formula is cleared fits into the workspace, and leaves room for a step. Assumes what a run keeps (`Run`).
 use mathlib.Core.Path.{_≡_, refl, _∙_, ap}
 use mathlib.Core.Logic.{_⊎_, inl, inr}
 use mathlib.Core.Bool.{not}
@@ -25,11 +25,11 @@ use Rattle.theory_room.proofs.Weights.{weight, added, at-each-event}
 use Rattle.theory_room.proofs.Lines.{ordered-size, From-choices, from-choice}
 use Rattle.theory_room.specs.Choices.{as-choice, clearing, order-of}
 use Rattle.theory_room.specs.Step.{step-of}
-use Rattle.theory_room.proofs.Cleared.{Clearing, clash-stands}
+use Rattle.theory_room.proofs.Cleared.{clash-stands, clearing-event, clearing-lines-to}
 use Rattle.theory_room.proofs.Rises.{risen}
-use Rattle.theory_room.proofs.Additions.{cells, cells-sum, cells-least, clearing-adds, choice-adds}
+use Rattle.theory_room.proofs.Additions.{cells, cells-sum, clearing-adds}
 use Rattle.theory_room.proofs.Chosen.{chosen-few}
-use Rattle.theory_room.proofs.Runs.{Run, top, arranges, log-to, event-of, run-risen, clearing-weight, few-new-variables, literal-weight, literal-most, literal-least, weighs, weight-most, weight-least, weight-after, top-most}
+use Rattle.theory_room.proofs.Runs.{Run, clearing-weight, weight-most, weight-least}
 
 shorter : (x : ℤ) (c : Clause) → length (without x c) ≤ length c
 unfolding without
@@ -71,51 +71,18 @@ module _ (s : Settings) (i : Input) (h : Run s i) where
         weight-most 0 1 one (λ _. omega arith) f,
       )
 
-  -- ---- the whole run
-  -- what one event adds
-  event-adds : (e : Event) → List·Memᴰ e (events s i) → added cells (lines-of e) ≤ suc (3 * top s i) + risen 40 e
-  unfolding log lines
-  event-adds e m = by-part (event-of s i h e m)
-    where
-      to : All-lines (Proper-to (top s i)) (lines-of e)
-      to x k = log-to s i h x (mem-for-each (events s i) lines-of e x m k)
-
-      by-part : Clearing e ⊎ From-choices (i .highest) (order-of s i) (chosen s i) e → added cells (lines-of e) ≤ suc (3 * top s i) + risen 40 e
-      by-part (inl c) = omega (arith, clearing-adds (top s i) e c to)
-      by-part (inr (from-choice n c f b k o)) =
-          choice-adds (top s i) (literal-weight 3 (chosen s i)) (literal-least 3 (chosen s i)) c (as-choice n (order-of s i) c)
-          (weighs 3 (i .highest) n (order-of s i) (chosen s i) (arranges s i h) c k b)
-          (ordered-size (i .highest) (order-of s i) (chosen s i) (arranges s i h) c k n) f e o to
-
-  module _ (parted : Parted (chosen s i)) where
-    -- what stands before an event, and all that the event adds
-    event-room : (xs ys : List Event) (e : Event) → events s i ≡ xs ++ (e ∷ ys) → sum-of cells (after (i .formula) (lines xs)) + added cells (lines-of e) ≤ workspace-need i
-    unfolding workspace-need sum-of
-    event-room xs ys e q =
-        let f = i .formula in
-        let F = after f (lines xs) in
-        let w = literal-weight 3 (chosen s i) in
-        omega (
-          arith,
-          weight-after s i h 1 3 xs (e ∷ ys) q,
-          weight-most 1 6 w (literal-most 3 (chosen s i)) f,
-          sum-≤ cells (weight 1 w) F (λ d _. cells-least w (literal-least 3 (chosen s i)) d),
-          event-adds e (rw q (Memᴰ·append-right xs (here refl))),
-          run-risen s i h 40,
-          ap (sum-of (risen 40)) q,
-          sum-++ (risen 40) xs (e ∷ ys),
-          few-new-variables s i h,
-          chosen-few s i h parted .1,
-          top-most s i h,
-          h .formula-few,
-        )
-
-    pub room : (j : ℕ) → cells-of (after (i .formula) (take j (log s i))) ≤ workspace-need i
-    unfolding log workspace-need
-    room j =
-        let f = i .formula in
-        omega (
-          arith,
-          cells-sum (after f (take j (lines (events s i)))),
-          at-each-event cells (workspace-need i) (events s i) f (omega (arith, weight-most 1 3 (λ _. 3) (λ _. omega arith) f, h .formula-few)) event-room j,
-        )
+  -- at every line
+  pub clearing-lines-room : (j : ℕ) → sum-of cells (after (i .formula) (take j (lines (clearing (i .formula))))) ≤ workspace-need i
+  unfolding workspace-need lines
+  clearing-lines-room =
+      let f = i .formula in
+      at-each-event cells (workspace-need i) (clearing f) f (omega (arith, weight-most 1 3 (λ _. 3) (λ _. omega arith) f, h .formula-few))
+      (λ xs ys e q.
+      let m : List·Memᴰ e (clearing f) = rw q (Memᴰ·append-right xs (here refl)) in
+      omega (
+        arith,
+        clearing-weight s i h 1 (λ _. 3) xs (e ∷ ys) q,
+        weight-most 1 3 (λ _. 3) (λ _. omega arith) f,
+        clearing-adds (i .highest) e (clearing-event f e m) (λ x k. clearing-lines-to (i .highest) f (h .proper) (h .fits) x (mem-for-each (clearing f) lines-of e x m k)),
+        h .formula-few,
+      ))

@@ -85,10 +85,10 @@ choice-variable : (n : ℕ) (order : Clause → Clause) (cs : List Clause) → A
 unfolding choice-literals
 choice-variable n order cs h x m = let r = for-each-mem cs (λ c. c) x m in h (r .0) (r .1) .0 .1 x (r .2)
 
-pub weighs : (a n m : ℕ) (order : Clause → Clause) (cs : List Clause) → Arranges n order cs → (c : Clause) → List·Memᴰ c cs → n ≤ m → Weighs a (literal-weight a cs) (as-choice m order c)
+pub weighs : (a g n m : ℕ) (order : Clause → Clause) (cs : List Clause) → Arranges n order cs → (c : Clause) → List·Memᴰ c cs → n ≤ m → Weighs a (literal-weight a cs) (as-choice g m order c)
 unfolding choice-literals
-weighs a n m order cs h c i l = record {
-  of-new = λ x b. omega (arith, light a cs x (λ k. omega (arith, below-new-least m, choice-variable n order cs h (negℤ x) k, natAbs-neg x)));
+weighs a g n m order cs h c i l = record {
+  of-new = λ x b. omega (arith, light a cs x (λ k. omega (arith, below-new-least g m, choice-variable n order cs h (negℤ x) k, natAbs-neg x)));
   of-literal = λ x k. literal-most a cs x;
   of-negated = λ x k. heavy a cs x (mem-for-each cs (λ d. d) c x i (h c i .3 .0 x k));
 }
@@ -96,11 +96,11 @@ weighs a n m order cs h c i l = record {
 -- ---- the run
 -- the highest variable that a line may have
 abbrev pub top : Settings → Input → ℕ
-top s i = used-after (order-of s i) (i .highest) (chosen s i)
+top s i = used-after (s .step) (order-of s i) (i .highest) (chosen s i)
 
 -- the events of its choices
 unfoldable pub choosing : Settings → Input → List Event
-choosing s i = choices-events (s .form) (order-of s i) (i .highest) (cleared (i .formula)) (chosen s i)
+choosing s i = choices-events (s .form) (s .step) (order-of s i) (i .highest) (cleared (i .formula)) (chosen s i)
 
 pub events-are : (s : Settings) (i : Input) → events s i ≡ clearing (i .formula) ++ choosing s i
 unfolding events clearing choosing
@@ -140,18 +140,18 @@ module _ (s : Settings) (i : Input) (h : Run s i) where
   log-to =
       rw log-is
       (all-lines-++ (Proper-to (top s i)) (lines (clearing (i .formula))) (lines (choosing s i))
-      (λ x m. proper-to-more (i .highest) (top s i) (used-least (order-of s i) (i .highest) (chosen s i)) (literals x) (clearing-lines-to (i .highest) (i .formula) (h .proper) (h .fits) x m))
-      (choices-lines-to (s .form) (order-of s i) (i .highest) (cleared (i .formula)) (chosen s i) standing-to arranges))
+      (λ x m. proper-to-more (i .highest) (top s i) (used-least (s .step) (order-of s i) (i .highest) (chosen s i)) (literals x) (clearing-lines-to (i .highest) (i .formula) (h .proper) (h .fits) x m))
+      (choices-lines-to (s .form) (s .step) (order-of s i) (i .highest) (cleared (i .formula)) (chosen s i) standing-to arranges))
 
   pub log-proper : All-lines Proper (log s i)
   log-proper x m = log-to x m .0
 
   -- an event of the clearing or of a choice
-  pub event-of : (e : Event) → List·Memᴰ e (events s i) → Clearing e ⊎ From-choices (i .highest) (order-of s i) (chosen s i) e
+  pub event-of : (e : Event) → List·Memᴰ e (events s i) → Clearing e ⊎ From-choices (s .step) (i .highest) (order-of s i) (chosen s i) e
   unfolding events clearing
   event-of e m =
       ⊎-elim (λ k. inl (clearing-event (i .formula) e k))
-      (λ k. inr (events-of-choices (s .form) (order-of s i) (i .highest) (cleared (i .formula)) (chosen s i) standing-to arranges e k))
+      (λ k. inr (events-of-choices (s .form) (s .step) (order-of s i) (i .highest) (cleared (i .formula)) (chosen s i) standing-to arranges e k))
       (List·Memᴰ·append-cases (clearing (i .formula)) m)
 
   pub run-raises : (u a : ℕ) → Raises (weight u (literal-weight a (chosen s i))) (risen (4 * unit u a)) (events s i)
@@ -160,12 +160,12 @@ module _ (s : Settings) (i : Input) (h : Run s i) where
       w : ℤ → ℕ
       w = literal-weight a (chosen s i)
 
-      by-part : Clearing e ⊎ From-choices (i .highest) (order-of s i) (chosen s i) e → added (weight u w) (lines-of e) ≤ deleted (weight u w) (lines-of e) + risen (4 * unit u a) e
+      by-part : Clearing e ⊎ From-choices (s .step) (i .highest) (order-of s i) (chosen s i) e → added (weight u w) (lines-of e) ≤ deleted (weight u w) (lines-of e) + risen (4 * unit u a) e
       by-part (inl c) = clearing-raises u w (4 * unit u a) e c
       by-part (inr (from-choice m c f b k o)) =
-          let q = weighs a (i .highest) m (order-of s i) (chosen s i) arranges c k b in
-          let z = as-choice m (order-of s i) c in
-          choice-raises (weight u w) (4 * unit u a) c z (counter-weight u a w z q (ordered-size (i .highest) (order-of s i) (chosen s i) arranges c k m)) (replaced-weight a w z q u) f e o
+          let q = weighs a (s .step) (i .highest) m (order-of s i) (chosen s i) arranges c k b in
+          let z = as-choice (s .step) m (order-of s i) c in
+          choice-raises (weight u w) (4 * unit u a) c z (counter-weight u a w z q (ordered-size (i .highest) (order-of s i) (chosen s i) arranges c k (s .step) m)) (replaced-weight a w z q u) f e o
 
   pub run-risen : (r : ℕ) → sum-of (risen r) (events s i) ≡ new-variables (chosen s i) * r
   unfolding events clearing
@@ -173,9 +173,9 @@ module _ (s : Settings) (i : Input) (h : Run s i) where
       let f = i .formula in
       omega (
         arith,
-        sum-++ (risen r) (clearing f) (choices-events (s .form) (order-of s i) (i .highest) (cleared f) (chosen s i)),
+        sum-++ (risen r) (clearing f) (choices-events (s .form) (s .step) (order-of s i) (i .highest) (cleared f) (chosen s i)),
         clearing-risen r (clearing f) (clearing-event f),
-        choices-risen r (s .form) (order-of s i) (i .highest) (cleared f) (chosen s i) arranges,
+        choices-risen r (s .form) (s .step) (order-of s i) (i .highest) (cleared f) (chosen s i) arranges,
       )
 
   -- the events up to some event
@@ -230,8 +230,8 @@ module _ (s : Settings) (i : Input) (h : Run s i) where
         chosen-literals,
       )
 
-  pub top-most : top s i ≤ i .highest + new-variables (chosen s i)
-  top-most = used-most (order-of s i) (i .highest) (chosen s i) arranges
+  pub top-most : top s i ≤ i .highest + new-variables (chosen s i) + length (chosen s i) * s .step
+  top-most = used-most (s .step) (order-of s i) (i .highest) (chosen s i) arranges
 
   -- the clauses (u 1, a 0) or the literals (u 0, a 1) that stand at the end
   pub result-size : (u a : ℕ) → length (result s i) * u + literals-of (result s i) * a ≤ length (i .formula) * u + literals-of (i .formula) * (a + a) + new-variables (chosen s i) * (4 * unit u a)

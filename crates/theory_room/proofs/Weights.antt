@@ -83,7 +83,7 @@ take-out-≤ g c (d ∷ f) = go (same-set c d) (take-out-≤ g c f)
     go true ih = omega arith
     go false ih = omega arith
 
-after-take-≤ : (g : Clause → ℕ) (j : ℕ) (f : Formula) (xs : List Line) → sum-of g (after f (take j xs)) ≤ sum-of g f + added g xs
+pub after-take-≤ : (g : Clause → ℕ) (j : ℕ) (f : Formula) (xs : List Line) → sum-of g (after f (take j xs)) ≤ sum-of g f + added g xs
 unfolding after changed sum-of
 after-take-≤ g zero f xs = omega arith
 after-take-≤ g (suc j) f [] = omega arith

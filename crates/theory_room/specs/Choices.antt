@@ -19,14 +19,14 @@ clearing f = clear-clashes f ++ clear-pure (unclashed f)
 unfoldable pub new-variables : List Clause → ℕ
 new-variables cs = sum-of (λ c. length c - 1) cs
 
--- a clause as a choice
-abbrev pub as-choice : ℕ → (Clause → Clause) → Clause → Choice
-as-choice n order c = choice-of (order c) (below-new n)
+-- a clause as a choice, with the step g, where n is the highest variable used
+abbrev pub as-choice : ℕ → ℕ → (Clause → Clause) → Clause → Choice
+as-choice g n order c = choice-of (order c) (below-new g n)
 
 -- the highest variable used after the choices cs, where n was
-unfoldable pub used-after : (Clause → Clause) → ℕ → List Clause → ℕ
-used-after order n [] = n
-used-after order n (c ∷ cs) = used-after order (last-new (as-choice n order c)) cs
+unfoldable pub used-after : ℕ → (Clause → Clause) → ℕ → List Clause → ℕ
+used-after g order n [] = n
+used-after g order n (c ∷ cs) = used-after g order (last-new (as-choice g n order c)) cs
 
 -- the order in which a run takes the literals of its choices
 abbrev pub order-of : Settings → Input → Clause → Clause
@@ -34,11 +34,11 @@ order-of s i = arranged (s .arrangement) (cleared (i .formula)) (chosen s i)
 
 -- the events of the first choices, and what stands after them
 unfoldable pub events-of-first : Settings → Input → List Clause → List Event
-events-of-first s i cs = choices-events (s .form) (order-of s i) (i .highest) (cleared (i .formula)) cs
+events-of-first s i cs = choices-events (s .form) (s .step) (order-of s i) (i .highest) (cleared (i .formula)) cs
 
 unfoldable pub standing-after-first : Settings → Input → List Clause → Formula
 standing-after-first s i cs = after (cleared (i .formula)) (lines (events-of-first s i cs))
 
 -- the choice that is taken then
 abbrev pub next-choice : Settings → Input → List Clause → Clause → Choice
-next-choice s i cs c = as-choice (used-after (order-of s i) (i .highest) cs) (order-of s i) c
+next-choice s i cs c = as-choice (s .step) (used-after (s .step) (order-of s i) (i .highest) cs) (order-of s i) c

@@ -42,7 +42,6 @@ use Rattle.theory_run.proofs.LogSound.{chosen-parted, chosen-ready, acc
 use Rattle.theory_run.proofs.ChoicesSound.{before-order, fits-below}
 use Rattle.theory_run.specs.Choices.{events-up-to, Takeable, At-choice, Choices-taken}
 use Rattle.theory_run.proofs.Splits.{choice-alone, ready-after}
-use Rattle.theory_counter.proofs.NewVariables.{below-new-most}
 
 -- ---- what the events of a choice add, counted in cells
 
@@ -102,6 +101,10 @@ module _ (i : Input) (a : Accepted input-limits i) (s : Settings) where
   parted : Parted (chosen s i)
   parted = chosen-parted s i (a .proper) (a .fits)
 
+  -- the events of the choices ds, taken after cs
+  unfoldable pub events-of-others : List Clause → List Clause → List Event
+  events-of-others cs ds = choices-events (s .form) (s .step) (order-of s i) (used-after (s .step) (order-of s i) (i .highest) cs) (standing-after-first s i cs) ds
+
   module _ (cs ds : List Clause) (c : Clause) (e : chosen s i ≡ cs ++ (c ∷ ds)) where
     -- what stands before the choice
     F : Formula
@@ -117,19 +120,19 @@ module _ (i : Input) (a : Accepted input-limits i) (s : Settings) where
     next-in : List·Memᴰ c (chosen s i)
     next-in = rw e (Memᴰ·append-right cs (here refl))
 
-    F-to : All-clauses (Proper-to (used-after (order-of s i) (i .highest) cs)) F
+    F-to : All-clauses (Proper-to (used-after (s .step) (order-of s i) (i .highest) cs)) F
     unfolding F
     F-to = first-to s i run parted cs ds c e
 
     ready-k : Ready F c k
     unfolding F k standing-after-first events-of-first
     ready-k =
-        ready-after (s .form) (order-of s i) (i .highest) (cleared (i .formula)) cs (c ∷ ds) (cleared-facts (a .proper) (a .fits) .1)
-        (λ d m. chosen-ready s i (a .proper) (a .fits) d (rw e m)) (rw e at parted) c (here refl) (used-after (order-of s i) (i .highest) cs)
+        ready-after (s .form) (s .step) (order-of s i) (i .highest) (cleared (i .formula)) cs (c ∷ ds) (cleared-facts (a .proper) (a .fits) .1)
+        (λ d m. chosen-ready s i (a .proper) (a .fits) d (rw e m)) (rw e at parted) c (here refl) (used-after (s .step) (order-of s i) (i .highest) cs)
 
     fits-k : Fits (k .below) F
     unfolding k
-    fits-k = fits-below (used-after (order-of s i) (i .highest) cs) F (λ d m. proper-fit (F-to d m))
+    fits-k = fits-below (s .step) (used-after (s .step) (order-of s i) (i .highest) cs) F (λ d m. proper-fit (F-to d m))
 
     k-length : length (k .literals) ≡ length c
     unfolding k
@@ -139,23 +142,19 @@ module _ (i : Input) (a : Accepted input-limits i) (s : Settings) where
     unfolding k
     old-k = proper-fit (ordered-proper (i .highest) (order-of s i) (chosen s i) (arranges s i run) c next-in)
 
-    first-new : new-variables cs ≤ i .highest
-    unfolding new-variables
-    first-new = omega (arith, chosen-few s i run parted .1, ap new-variables e, sum-++ (λ d. length d - 1) cs (c ∷ ds))
-
     -- ---- the events
     -- its events, and those that follow
     es : List Event
     es = choice-events (s .form) F c k
 
     rest : List Event
-    rest = choices-events (s .form) (order-of s i) (last-new k) (after F (lines es)) ds
+    rest = choices-events (s .form) (s .step) (order-of s i) (last-new k) (after F (lines es)) ds
 
     first-split : choosing s i ≡ events-of-first s i cs ++ (es ++ rest)
     unfolding choosing F k es rest standing-after-first events-of-first choices-events
     first-split =
-        ap (choices-events (s .form) (order-of s i) (i .highest) (cleared (i .formula))) e
-        ∙ choices-split (s .form) (order-of s i) (i .highest) (cleared (i .formula)) cs (c ∷ ds)
+        ap (choices-events (s .form) (s .step) (order-of s i) (i .highest) (cleared (i .formula))) e
+        ∙ choices-split (s .form) (s .step) (order-of s i) (i .highest) (cleared (i .formula)) cs (c ∷ ds)
 
     events-split : events s i ≡ events-up-to s i cs ++ (es ++ rest)
     unfolding events-up-to
@@ -167,8 +166,8 @@ module _ (i : Input) (a : Accepted input-limits i) (s : Settings) where
     first-more : events-of-first s i (cs ++ (c ∷ [])) ≡ events-of-first s i cs ++ es
     unfolding F k es standing-after-first events-of-first
     first-more =
-        choices-split (s .form) (order-of s i) (i .highest) (cleared (i .formula)) cs (c ∷ [])
-        ∙ ap (λ (xs : List Event). events-of-first s i cs ++ xs) (choice-alone (s .form) (order-of s i) (used-after (order-of s i) (i .highest) cs) F c)
+        choices-split (s .form) (s .step) (order-of s i) (i .highest) (cleared (i .formula)) cs (c ∷ [])
+        ∙ ap (λ (xs : List Event). events-of-first s i cs ++ xs) (choice-alone (s .form) (s .step) (order-of s i) (used-after (s .step) (order-of s i) (i .highest) cs) F c)
 
     stands-F : after (i .formula) (lines (events-up-to s i cs)) ≡ F
     unfolding F events-up-to standing-after-first
@@ -192,11 +191,11 @@ module _ (i : Input) (a : Accepted input-limits i) (s : Settings) where
         ap (λ (xs : List Event). clearing (i .formula) ++ xs) first-more
         ∙ sym (append-assoc (clearing (i .formula)) (events-of-first s i cs) es)
 
-    next-below-of : last-new k ≡ used-after (order-of s i) (i .highest) (cs ++ (c ∷ []))
+    next-below-of : last-new k ≡ used-after (s .step) (order-of s i) (i .highest) (cs ++ (c ∷ []))
     unfolding k used-after
-    next-below-of = sym (used-++ (order-of s i) (i .highest) cs (c ∷ []))
+    next-below-of = sym (used-++ (s .step) (order-of s i) (i .highest) cs (c ∷ []))
 
-    takeable-choice : Takeable (s .form) (workspace-need i) (step-of i) (standing-after-first s i cs) c (next-choice s i cs c)
+    takeable-choice : Takeable (workspace-need i) (step-of i) (standing-after-first s i cs) c (next-choice s i cs c)
     unfolding F k es
     takeable-choice =
         let t = chosen-mem s i c next-in in
@@ -209,13 +208,19 @@ module _ (i : Input) (a : Accepted input-limits i) (s : Settings) where
           least = omega (arith, k-length);
           most = omega (arith, k-length);
           reach = λ x m. fit-up 8_000 (i .highest) x (few-variables a) (old-k x m);
-          new-few = omega (arith, first-new, few-variables a, below-new-most (used-after (order-of s i) (i .highest) cs), used-most (order-of s i) (i .highest) cs arranged-first);
           space = choice-room s i run parted cs ds c e;
           step-cells = omega (arith, choice-step s i run parted cs ds c e order-form, order-cells-of F c k fits-k ready-k);
           touched-few = omega (arith, choice-touched s i run parted cs ds c e, a .formula-few, few-clauses a);
           before = before-order F c k fits-k ready-k;
           front-proper = front-proper-of F c k fits-k ready-k (λ d m. F-to d m .0);
         }
+
+    -- the events of the choices left are its own, then those of the others
+    pub others-are : events-of-others cs (c ∷ ds) ≡ choice-events (s .form) (standing-after-first s i cs) c (next-choice s i cs c) ++ events-of-others (cs ++ (c ∷ [])) ds
+    unfolding F k es events-of-others choices-events
+    others-are =
+        ap (λ (n : ℕ). es ++ choices-events (s .form) (s .step) (order-of s i) n (after F (lines es)) ds) next-below-of
+        ∙ ap (λ (X : Formula). es ++ choices-events (s .form) (s .step) (order-of s i) (used-after (s .step) (order-of s i) (i .highest) (cs ++ (c ∷ []))) X ds) (sym next-stands-of)
 
     pub at-choice : At-choice s i cs c (standing-after-first s i cs) (next-choice s i cs c)
     unfolding F k es
@@ -229,6 +234,15 @@ module _ (i : Input) (a : Accepted input-limits i) (s : Settings) where
       rest = rest;
       split = events-split;
     }
+
+  -- after the last, and before the first
+  pub no-others : (cs : List Clause) → events-of-others cs [] ≡ []
+  unfolding events-of-others choices-events
+  no-others cs = refl
+
+  pub others-first : events-of-others [] (chosen s i) ≡ choosing s i
+  unfolding choosing events-of-others standing-after-first events-of-first choices-events used-after lines for-each after
+  others-first = refl
 
   pub choices-taken : Choices-taken s i
   unfolding events-up-to events-of-first standing-after-first choices-events choosing clearing used-after lines for-each after result log

@@ -100,22 +100,22 @@ module _ (F : Formula) (b : Clause) (k : Choice) (f : Fits (k .below) F) (r : Re
 -- ---- all choices
 
 -- what fits the variables used fits those before the new ones
-pub fits-below : (n : ℕ) (F : Formula) → Fits n F → Fits (below-new n) F
-fits-below n F f = fits-up (below-new n) n F (below-new-least n) f
+pub fits-below : (g n : ℕ) (F : Formula) → Fits n F → Fits (below-new g n) F
+fits-below g n F f = fits-up (below-new g n) n F (below-new-least g n) f
 
-known-below : (n : ℕ) {K : List Event} {F : Formula} → Known (below-new n) K F → Known n K F
-known-below n w c i x j = ⊎-elim (λ s. inl s) (λ b. inr (omega (arith, below-new-least n))) (w c i x j)
+known-below : (g n : ℕ) {K : List Event} {F : Formula} → Known (below-new g n) K F → Known n K F
+known-below g n w c i x j = ⊎-elim (λ s. inl s) (λ b. inr (omega (arith, below-new-least g n))) (w c i x j)
 
 some-literal : (c d : Clause) → 2 ≤ length d → Same d c → (y : ℤ) × List·Memᴰ y c
 some-literal c [] h s = absurd (omega arith)
 some-literal c (y ∷ d) h s = (y, s .0 y (here refl))
 
-module _ (form : Form) (order : Clause → Clause) where
+module _ (form : Form) (g : ℕ) (order : Clause → Clause) where
   -- a choice that is ready stays so where another is taken
-  pub still-ready : (n m : ℕ) (F : Formula) (c d : Clause) → Fits n F → Ready F c (as-choice n order c) → Disjoint c d → Ready F d (as-choice m order d) → Ready (after-form form F (as-choice n order c)) d (as-choice m order d)
+  pub still-ready : (n m : ℕ) (F : Formula) (c d : Clause) → Fits n F → Ready F c (as-choice g n order c) → Disjoint c d → Ready F d (as-choice g m order d) → Ready (after-form form F (as-choice g n order c)) d (as-choice g m order d)
   still-ready n m F c d f r p v =
-      let k = as-choice n order c in
-      let f = fits-below n F f in
+      let k = as-choice g n order c in
+      let f = fits-below g n F f in
       let y = some-literal d (order d) (v .long) (v .same) in
       let apart : Disjoint (order c) d = λ x j. p x (r .same .0 x j) in
       record {
@@ -127,26 +127,26 @@ module _ (form : Form) (order : Clause → Clause) where
         alone = λ x j. after-alone F c k f r d (v .standing) (y .0) (y .1) apart form x (v .same .0 x j) (v .alone x j);
       }
 
-  pub choices-sound : (n : ℕ) (F : Formula) (cs : List Clause) → Fits n F → ((c : Clause) → List·Memᴰ c cs → (m : ℕ) → Ready F c (as-choice m order c)) → Parted cs →
-      Sound F (choices-events form order n F cs) (lines (choices-events form order n F cs)) (after F (lines (choices-events form order n F cs))) [] × Known n (choices-events form order n F cs) F
+  pub choices-sound : (n : ℕ) (F : Formula) (cs : List Clause) → Fits n F → ((c : Clause) → List·Memᴰ c cs → (m : ℕ) → Ready F c (as-choice g m order c)) → Parted cs →
+      Sound F (choices-events form g order n F cs) (lines (choices-events form g order n F cs)) (after F (lines (choices-events form g order n F cs))) [] × Known n (choices-events form g order n F cs) F
   unfolding choices-events
   choices-sound n F [] f q p = (none-written F, λ c i. absurd (into-none i))
   choices-sound n F (c ∷ cs) f q p =
-      let ih = choices-sound (last-new k) E cs (after-fits F c k g r form) next (p .1) in
-      let t = subst (λ (X : Formula). Sound F (es ++ more X) (lines es ++ lines (more X)) (after X (lines (more X))) [] × Known n (es ++ more X) F) (sym (after-events F c k g r form)) (let h = choice-sound F c k g r form (ih .1) (ih .0) in (h .0, known-below n (h .1))) in
+      let ih = choices-sound (last-new k) E cs (after-fits F c k low r form) next (p .1) in
+      let t = subst (λ (X : Formula). Sound F (es ++ more X) (lines es ++ lines (more X)) (after X (lines (more X))) [] × Known n (es ++ more X) F) (sym (after-events F c k low r form)) (let h = choice-sound F c k low r form (ih .1) (ih .0) in (h .0, known-below g n (h .1))) in
       rw (lines-++ es (more (after F (lines es))), after-++ F (lines es) (lines (more (after F (lines es))))) t
     where
       k : Choice
-      k = as-choice n order c
+      k = as-choice g n order c
 
       es : List Event
       es = choice-events form F c k
 
       more : Formula → List Event
-      more X = choices-events form order (last-new k) X cs
+      more X = choices-events form g order (last-new k) X cs
 
-      g : Fits (k .below) F
-      g = fits-below n F f
+      low : Fits (k .below) F
+      low = fits-below g n F f
 
       r : Ready F c k
       r = q c (here refl) n
@@ -154,5 +154,5 @@ module _ (form : Form) (order : Clause → Clause) where
       E : Formula
       E = after-form form F k
 
-      next : (d : Clause) → List·Memᴰ d cs → (m : ℕ) → Ready E d (as-choice m order d)
+      next : (d : Clause) → List·Memᴰ d cs → (m : ℕ) → Ready E d (as-choice g m order d)
       next d i m = still-ready n m F c d f r (p .0 d i) (q d (there i) m)

@@ -15,7 +15,7 @@ use Rattle.theory_run.proofs.LogSound.{accepted-run}
 module _ (i : Input) (a : Accepted input-limits i) where
   -- in any settings
   any-settings : Settings
-  any-settings = record { form = counter-form; arrangement = as-listed }
+  any-settings = record { form = counter-form; arrangement = as-listed; step = 1 }
 
   pub unclashed-shorter : length (unclashed (i .formula)) ≤ length (i .formula)
   unfolding unclashed clearing

@@ -7,3 +7,4 @@ pub mod Sizes
 pub mod ChoicesSound
 pub mod LogSound
 pub mod Taken
+pub mod Room

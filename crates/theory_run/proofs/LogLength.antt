@@ -4,6 +4,7 @@ use mathlib.Core.List.{List, [], _∷_, _++_, append-assoc, List·Memᴰ, List·
 use mathlib.Core.Option.{Option, some, none}
 use Prim.Native.Nat.{ℕ, zero, suc, _+_, _*_, _≤_}
 use native.Mathlib.Omega.{arith}
+use native.Mathlib.Nat.{mul-le-mul-left}
 use lib.IntN.{ℤ, pos, negsuc, natAbs}
 use lib.ListN.{length, length-append}
 use Rattle.definition.specs.Lists.{sum-of, for-each}
@@ -30,23 +31,23 @@ use Rattle.theory_room.proofs.Chosen.{chosen-few}
 use Rattle.theory_room.proofs.Compaction.{choice-step}
 use Rattle.theory_room.specs.Step.{step-of}
 use Rattle.theory_text.specs.Accepted.{Accepted}
-use Rattle.theory_room.proofs.Runs.{Run, choosing, events-are, weight-most, log-to, log-proper, top-most}
+use Rattle.theory_room.proofs.Runs.{Run, top, choosing, events-are, weight-most, log-to, log-proper, top-most}
 use Rattle.theory_run.proofs.LogSound.{chosen-parted, accepted-run}
 use Rattle.theory_run.specs.Sizes.{Short}
-use Rattle.theory_run.proofs.Choices.{at-choice}
+use Rattle.theory_run.proofs.Choices.{events-of-others, others-are, no-others, others-first}
 use Rattle.theory_run.proofs.Cleared.{unclashed-shorter}
 
--- ---- the text of lines whose variables have five digits at most
+-- ---- the text of lines whose variables have six digits at most
 
-digits-short : (n : ℕ) → n ≤ 70_000 → length (digits n) ≤ 5
-digits-short n h = digits-within 4 n (omega arith)
+digits-short : (n : ℕ) → n ≤ 176_000 → length (digits n) ≤ 6
+digits-short n h = digits-within 5 n (omega arith)
 
-literal-short : (x : ℤ) → natAbs x ≤ 70_000 → length (literal-text x) ≤ 6
+literal-short : (x : ℤ) → natAbs x ≤ 176_000 → length (literal-text x) ≤ 7
 unfolding literal-text
 literal-short (pos n) h = omega (arith, digits-short n h)
 literal-short (negsuc n) h = omega (arith, digits-short (suc n) h)
 
-literals-short : (c : Clause) → Up-to 70_000 c → length (for-each c (λ l. literal-text l ++ bytes " ")) ≤ 7 * length c
+literals-short : (c : Clause) → Up-to 176_000 c → length (for-each c (λ l. literal-text l ++ bytes " ")) ≤ 8 * length c
 unfolding for-each bytes
 literals-short [] h = omega arith
 literals-short (x ∷ c) h =
@@ -58,7 +59,7 @@ literals-short (x ∷ c) h =
       literals-short c (λ y m. h y (there m)),
     )
 
-pub clause-short : (c : Clause) → Up-to 70_000 c → length (clause-text c) ≤ 7 * length c + 2
+pub clause-short : (c : Clause) → Up-to 176_000 c → length (clause-text c) ≤ 8 * length c + 2
 unfolding clause-text bytes
 clause-short c h = omega (arith, length-append (for-each c (λ l. literal-text l ++ bytes " ")) (bytes "0\n"), literals-short c h)
 
@@ -70,12 +71,12 @@ cells-least : (c : Clause) → length c + 1 ≤ cells c
 unfolding weight
 cells-least c = omega (arith, sum-least 3 (λ _. 3) (λ _. omega arith) c)
 
-line-short : (x : Line) → Up-to 70_000 (literals x) → length (log-line-text x) ≤ 7 * line-cells x
+line-short : (x : Line) → Up-to 176_000 (literals x) → length (log-line-text x) ≤ 8 * line-cells x
 unfolding log-line-text literals bytes
 line-short (addition c) h = omega (arith, clause-short c h, cells-least c)
 line-short (deletion c) h = omega (arith, length-append (bytes "d ") (clause-text c), clause-short c h, cells-least c)
 
-lines-short : (xs : List Line) → All-lines (Up-to 70_000) xs → length (log-text xs) ≤ 7 * sum-of line-cells xs
+lines-short : (xs : List Line) → All-lines (Up-to 176_000) xs → length (log-text xs) ≤ 8 * sum-of line-cells xs
 unfolding log-text for-each sum-of
 lines-short [] h = omega arith
 lines-short (x ∷ xs) h = omega (arith, length-append (log-line-text x) (log-text xs), line-short x (h x (here refl)), lines-short xs (λ y m. h y (there m)))
@@ -124,7 +125,7 @@ events-add-most b es h =
     omega (arith, sum-for-each (gained cells) es lines-of, sum-≤ (λ e. added cells (lines-of e)) (λ _. b) es h, sum-most b (λ _. b) (λ _. omega arith) es)
 
 -- ---- a run
-module _ (i : Input) (a : Accepted input-limits i) (s : Settings) where
+module _ (i : Input) (a : Accepted input-limits i) (s : Settings) (allowed : s .step ≤ 100) where
   run : Run s i
   run = accepted-run s i a
 
@@ -144,41 +145,23 @@ module _ (i : Input) (a : Accepted input-limits i) (s : Settings) where
   unfolding input-limits
   step-most = omega (arith, a .formula-few, a .clauses-few, a .literals-few)
 
-  -- the events of the choices ds, taken after cs
-  events-of-others : List Clause → List Clause → List Event
-  events-of-others cs ds = choices-events (s .form) (order-of s i) (used-after (order-of s i) (i .highest) cs) (standing-after-first s i cs) ds
-
-  choices-added : (cs ds : List Clause) → chosen s i ≡ cs ++ ds → added cells (lines (events-of-others cs ds)) ≤ length ds * 382_520
-  unfolding events-of-others choices-events
-  choices-added cs [] e = omega (arith, sum-++ (gained cells) (lines []) (lines []), ap (added cells) (lines-++ [] []))
+  choices-added : (cs ds : List Clause) → chosen s i ≡ cs ++ ds → added cells (lines (events-of-others i a s cs ds)) ≤ length ds * 382_520
+  choices-added cs [] e = omega (arith, ap (λ (es : List Event). added cells (lines es)) (no-others i a s cs), sum-++ (gained cells) (lines []) (lines []), ap (added cells) (lines-++ [] []))
   choices-added cs (c ∷ ds) e =
-      let F = standing-after-first s i cs in
-      let k = next-choice s i cs c in
-      let es = choice-events (s .form) F c k in
-      let rest = choices-events (s .form) (order-of s i) (last-new k) (after F (lines es)) ds in
-      let t = at-choice i a s cs ds c e in
-      let same : rest ≡ events-of-others (cs ++ (c ∷ [])) ds =
-      ap (λ (n : ℕ). choices-events (s .form) (order-of s i) n (after F (lines es)) ds) (t .next-below)
-      ∙ ap (λ (X : Formula). choices-events (s .form) (order-of s i) (used-after (order-of s i) (i .highest) (cs ++ (c ∷ []))) X ds) (sym (t .next-stands)) in
+      let es = choice-events (s .form) (standing-after-first s i cs) c (next-choice s i cs c) in
+      let rest = events-of-others i a s (cs ++ (c ∷ [])) ds in
       omega (
         arith,
+        ap (λ (zs : List Event). added cells (lines zs)) (others-are i a s cs ds c e),
         ap (added cells) (lines-++ es rest),
         sum-++ (gained cells) (lines es) (lines rest),
         choice-step s i run parted cs ds c e (s .form),
         step-most,
-        ap (λ (zs : List Event). added cells (lines zs)) same,
         choices-added (cs ++ (c ∷ [])) ds (e ∙ sym (append-assoc cs (c ∷ []) ds)),
       )
 
   choosing-added : added cells (lines (choosing s i)) ≤ length (chosen s i) * 382_520
-  unfolding choosing events-of-others standing-after-first events-of-first choices-events used-after lines for-each after
-  choosing-added =
-      let n : i .highest + 0 ≡ i .highest = omega arith in
-      omega (
-        arith,
-        choices-added [] (chosen s i) refl,
-        ap (λ (m : ℕ). added cells (lines (choices-events (s .form) (order-of s i) m (cleared (i .formula)) (chosen s i)))) n,
-      )
+  choosing-added = omega (arith, choices-added [] (chosen s i) refl, ap (λ (es : List Event). added cells (lines es)) (others-first i a s))
 
   log-cells : sum-of line-cells (log s i) ≤ 3_200_000_000
   unfolding log input-limits
@@ -199,11 +182,19 @@ module _ (i : Input) (a : Accepted input-limits i) (s : Settings) where
         a .literals-few,
       )
 
-  log-lines : All-lines (Up-to 70_000) (log s i)
+  -- a step of 100 at most
+  pub top-few : top s i ≤ 176_000
   unfolding input-limits
-  log-lines x m y j = omega (arith, log-to s i run x m .1 y j, chosen-few s i run parted .1, a .highest-few, top-most s i run)
+  top-few =
+      let few = chosen-few s i run parted in
+      let steps : length (chosen s i) * s .step ≤ length (chosen s i) * 100 = mul-le-mul-left (length (chosen s i)) allowed in
+      omega (arith, few .1, few .2, a .highest-few, top-most s i run)
 
-  pub log-text-length : length (log-text (log s i)) ≤ 22_400_000_000
+  log-lines : All-lines (Up-to 176_000) (log s i)
+  unfolding input-limits
+  log-lines x m y j = omega (arith, log-to s i run x m .1 y j, top-few)
+
+  pub log-text-length : length (log-text (log s i)) ≤ 25_600_000_000
   log-text-length = omega (arith, lines-short (log s i) log-lines, log-cells)
 
   pub log-length : length (log s i) ≤ 3_200_000_000

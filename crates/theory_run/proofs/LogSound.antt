@@ -59,7 +59,7 @@ module _ (s : Settings) (i : Input) (proper : Proper-all (i .formula)) (fits : F
       let F = cleared (i .formula) in
       parted F (facts .2) (λ c. choice-size c && unique F c) (λ c t. and-r (choice-size c) (unique F c) t) F (λ d m. m) (λ x. omega arith)
 
-  pub chosen-ready : (c : Clause) → List·Memᴰ c (chosen s i) → (n : ℕ) → Ready (cleared (i .formula)) c (as-choice n (order-of s i) c)
+  pub chosen-ready : (c : Clause) → List·Memᴰ c (chosen s i) → (n : ℕ) → Ready (cleared (i .formula)) c (as-choice (s .step) n (order-of s i) c)
   unfolding size
   chosen-ready c m n =
       let h = chosen-arranges s i proper fits in
@@ -68,7 +68,7 @@ module _ (s : Settings) (i : Input) (proper : Proper-all (i .formula)) (fits : F
       record {
         proper = o .2;
         proper-clause = o .0 .0;
-        long = ordered-size (i .highest) (order-of s i) (chosen s i) h c m n;
+        long = ordered-size (i .highest) (order-of s i) (chosen s i) h c m (s .step) n;
         standing = r .0;
         same = o .3;
         alone = λ x j. unique-at (cleared (i .formula)) c (r .3) x (o .3 .0 x j);
@@ -79,7 +79,7 @@ module _ (s : Settings) (i : Input) (proper : Proper-all (i .formula)) (fits : F
   unfolding choosing cleared
   events-sound =
       let f = i .formula in
-      let c = choices-sound (s .form) (order-of s i) (i .highest) (cleared f) (chosen s i) (facts .1) chosen-ready chosen-parted in
+      let c = choices-sound (s .form) (s .step) (order-of s i) (i .highest) (cleared f) (chosen s i) (facts .1) chosen-ready chosen-parted in
       let p = pure-sound (i .highest) (unclashed f) (choosing s i) (unclashed-proper proper fits .1) (c .1) (c .0) in
       clashes-sound (i .highest) f (clear-pure (unclashed f) ++ choosing s i) proper fits (p .1) (p .0) .0
 

@@ -26,7 +26,7 @@ use Rattle.theory_run.specs.Choices.{events-up-to}
 use Rattle.theory_run.specs.Sizes.{Sizes}
 use Rattle.theory_run.proofs.Choices.{at-choice}
 use Rattle.theory_run.proofs.Variables.{highest-is}
-use Rattle.theory_run.proofs.LogLength.{clause-short, log-text-length, log-length, parts-short}
+use Rattle.theory_run.proofs.LogLength.{top-few, clause-short, log-text-length, log-length, parts-short}
 
 -- the events, from the clashes on
 events-from-clashes : (s : Settings) (i : Input) → events s i ≡ clear-clashes (i .formula) ++ (clear-pure (unclashed (i .formula)) ++ choosing s i)
@@ -34,13 +34,13 @@ unfolding events choosing
 events-from-clashes s i = append-assoc (clear-clashes (i .formula)) (clear-pure (unclashed (i .formula))) (choosing s i)
 
 -- the text of clauses
-clauses-short : (f : Formula) → ((d : Clause) → List·Memᴰ d f → Up-to 70_000 d) → length (for-each f clause-text) ≤ 7 * literals-of f + 2 * length f
+clauses-short : (f : Formula) → ((d : Clause) → List·Memᴰ d f → Up-to 176_000 d) → length (for-each f clause-text) ≤ 8 * literals-of f + 2 * length f
 unfolding for-each literals-of sum-of
 clauses-short [] h = omega arith
 clauses-short (c ∷ f) h =
     omega (arith, length-append (clause-text c) (for-each f clause-text), clause-short c (h c (here refl)), clauses-short f (λ d m. h d (there m)))
 
-formula-short : (n : ℕ) (f : Formula) → n ≤ 70_000 → length f ≤ 300_000 → ((d : Clause) → List·Memᴰ d f → Up-to 70_000 d) → length (formula-text n f) ≤ 7 * literals-of f + 2 * length f + 20
+formula-short : (n : ℕ) (f : Formula) → n ≤ 176_000 → length f ≤ 300_000 → ((d : Clause) → List·Memᴰ d f → Up-to 176_000 d) → length (formula-text n f) ≤ 8 * literals-of f + 2 * length f + 20
 unfolding formula-text bytes
 formula-short n f p q h =
     let t = bytes "p cnf " ++ digits n ++ bytes " " ++ digits (length f) ++ bytes "\n" in
@@ -51,12 +51,12 @@ formula-short n f p q h =
       length-append (bytes "p cnf " ++ digits n ++ bytes " ") (digits (length f)),
       length-append (bytes "p cnf " ++ digits n) (bytes " "),
       length-append (bytes "p cnf ") (digits n),
-      digits-within 4 n (omega arith),
+      digits-within 5 n (omega arith),
       digits-within 5 (length f) (omega arith),
       clauses-short f h,
     )
 
-module _ (i : Input) (a : Accepted input-limits i) (s : Settings) where
+module _ (i : Input) (a : Accepted input-limits i) (s : Settings) (allowed : s .step ≤ 100) where
   pub sizes : Sizes s i
   unfolding input-limits numbers-of lines for-each clearing
   sizes =
@@ -68,14 +68,14 @@ module _ (i : Input) (a : Accepted input-limits i) (s : Settings) where
       let c : length f ≤ 20_000 = omega (arith, a .formula-few, a .clauses-few) in
       let m = clauses-limit s i r v c (a .literals-few) in
       let l = literals-limit s i r v c (a .literals-few) in
-      let h : highest-used s i ≤ 16_000 = omega (arith, highest-is s i r, top-most s i r, few .1) in
+      let h : highest-used s i ≤ 176_000 = omega (arith, highest-is s i r, top-few i a s allowed) in
       record {
-        log-text-short = omega (arith, log-text-length i a s);
-        log-short = omega (arith, log-length i a s);
-        parts-short = parts-short i a s;
-        clashes-short = parts-short i a s [] (clear-clashes f) (clear-pure (unclashed f) ++ choosing s i) (events-from-clashes s i);
-        pure-short = parts-short i a s (clear-clashes f) (clear-pure (unclashed f)) (choosing s i) (events-from-clashes s i);
-        choice-short = λ cs ds c e. let t = at-choice i a s cs ds c e in parts-short i a s (events-up-to s i cs) (choice-events (s .form) (standing-after-first s i cs) c (next-choice s i cs c)) (t .rest) (t .split);
+        log-text-short = omega (arith, log-text-length i a s allowed);
+        log-short = omega (arith, log-length i a s allowed);
+        parts-short = parts-short i a s allowed;
+        clashes-short = parts-short i a s allowed [] (clear-clashes f) (clear-pure (unclashed f) ++ choosing s i) (events-from-clashes s i);
+        pure-short = parts-short i a s allowed (clear-clashes f) (clear-pure (unclashed f)) (choosing s i) (events-from-clashes s i);
+        choice-short = λ cs ds c e. let t = at-choice i a s cs ds c e in parts-short i a s allowed (events-up-to s i cs) (choice-events (s .form) (standing-after-first s i cs) c (next-choice s i cs c)) (t .rest) (t .split);
         highest-is = highest-is s i r;
         highest-few = h;
         chosen-proper = chosen-proper s i r parted .0;

@@ -14,26 +14,26 @@ use Rattle.theory_room.specs.Choices.{as-choice}
 use Rattle.theory_run.proofs.ChoicesSound.{fits-below, after-events, after-fits, still-ready}
 
 -- all these choices can be taken where F stands
-abbrev pub All-ready : (Clause → Clause) → Formula → List Clause → Type 0
-All-ready order F cs = (c : Clause) → List·Memᴰ c cs → (m : ℕ) → Ready F c (as-choice m order c)
+abbrev pub All-ready : ℕ → (Clause → Clause) → Formula → List Clause → Type 0
+All-ready g order F cs = (c : Clause) → List·Memᴰ c cs → (m : ℕ) → Ready F c (as-choice g m order c)
 
-module _ (form : Form) (order : Clause → Clause) where
+module _ (form : Form) (g : ℕ) (order : Clause → Clause) where
   -- the events of one choice
-  pub choice-alone : (n : ℕ) (f : Formula) (c : Clause) → choices-events form order n f (c ∷ []) ≡ choice-events form f c (as-choice n order c)
+  pub choice-alone : (n : ℕ) (f : Formula) (c : Clause) → choices-events form g order n f (c ∷ []) ≡ choice-events form f c (as-choice g n order c)
   unfolding choices-events
-  choice-alone n f c = append-nil (choice-events form f c (as-choice n order c))
+  choice-alone n f c = append-nil (choice-events form f c (as-choice g n order c))
 
   -- a choice is ready where those before it have been taken
-  pub ready-after : (n : ℕ) (F : Formula) (cs ds : List Clause) → Fits n F → All-ready order F (cs ++ ds) → Parted (cs ++ ds) → All-ready order (after F (lines (choices-events form order n F cs))) ds
+  pub ready-after : (n : ℕ) (F : Formula) (cs ds : List Clause) → Fits n F → All-ready g order F (cs ++ ds) → Parted (cs ++ ds) → All-ready g order (after F (lines (choices-events form g order n F cs))) ds
   unfolding choices-events lines for-each after
   ready-after n F [] ds f q p = q
   ready-after n F (b ∷ cs) ds f q p =
-      let k = as-choice n order b in
+      let k = as-choice g n order b in
       let es = choice-events form F b k in
       let r = q b (here refl) n in
-      let g = fits-below n F f in
+      let low = fits-below g n F f in
       let E = after F (lines es) in
-      let fits : Fits (last-new k) E = rw (after-events F b k g r form) (after-fits F b k g r form) in
-      let rest = choices-events form order (last-new k) E cs in
-      let ih = ready-after (last-new k) E cs ds fits (λ d i m. subst (λ (X : Formula). Ready X d (as-choice m order d)) (sym (after-events F b k g r form)) (still-ready form order n m F b d f r (p .0 d i) (q d (there i) m))) (p .1) in
-      subst (λ (X : Formula). All-ready order X ds) (sym (ap (after F) (lines-++ es rest) ∙ after-++ F (lines es) (lines rest))) ih
+      let fits : Fits (last-new k) E = rw (after-events F b k low r form) (after-fits F b k low r form) in
+      let rest = choices-events form g order (last-new k) E cs in
+      let ih = ready-after (last-new k) E cs ds fits (λ d i m. subst (λ (X : Formula). Ready X d (as-choice g m order d)) (sym (after-events F b k low r form)) (still-ready form g order n m F b d f r (p .0 d i) (q d (there i) m))) (p .1) in
+      subst (λ (X : Formula). All-ready g order X ds) (sym (ap (after F) (lines-++ es rest) ∙ after-++ F (lines es) (lines rest))) ih

@@ -30,26 +30,26 @@ unfolding choice-events lines for-each
 choice-lines-same counter-form F c d k = ap (λ (xs : List Line). xs ++ []) (taken-same F c d k)
 choice-lines-same order-form F c d k = ap (λ (xs : List Line). xs ++ lines (order-events k (after F xs))) (taken-same F c d k)
 
-pub taken-lines : (form : Form) (order : Clause → Clause) (n : ℕ) (F : Formula) (cs : List Clause) → lines (taken-events form n F (map order cs)) ≡ lines (choices-events form order n F cs)
+pub taken-lines : (form : Form) (g : ℕ) (order : Clause → Clause) (n : ℕ) (F : Formula) (cs : List Clause) → lines (taken-events form g n F (map order cs)) ≡ lines (choices-events form g order n F cs)
 unfolding choices-events
-taken-lines form order n F [] = refl
-taken-lines form order n F (c ∷ cs) =
-    let k = as-choice n order c in
+taken-lines form g order n F [] = refl
+taken-lines form g order n F (c ∷ cs) =
+    let k = as-choice g n order c in
     let es = choice-events form F c k in
     let fs = choice-events form F (order c) k in
     let e : lines fs ≡ lines es = choice-lines-same form F (order c) c k in
-    lines-++ fs (taken-events form (last-new k) (after F (lines fs)) (map order cs))
-    ∙ rw e (ap (λ (ls : List Line). lines es ++ ls) (taken-lines form order (last-new k) (after F (lines es)) cs))
-    ∙ sym (lines-++ es (choices-events form order (last-new k) (after F (lines es)) cs))
+    lines-++ fs (taken-events form g (last-new k) (after F (lines fs)) (map order cs))
+    ∙ rw e (ap (λ (ls : List Line). lines es ++ ls) (taken-lines form g order (last-new k) (after F (lines es)) cs))
+    ∙ sym (lines-++ es (choices-events form g order (last-new k) (after F (lines es)) cs))
 
-pub taken-used : (order : Clause → Clause) (n : ℕ) (cs : List Clause) → used-after (λ l. l) n (map order cs) ≡ used-after order n cs
+pub taken-used : (g : ℕ) (order : Clause → Clause) (n : ℕ) (cs : List Clause) → used-after g (λ l. l) n (map order cs) ≡ used-after g order n cs
 unfolding used-after
-taken-used order n [] = refl
-taken-used order n (c ∷ cs) = taken-used order (last-new (as-choice n order c)) cs
+taken-used g order n [] = refl
+taken-used g order n (c ∷ cs) = taken-used g order (last-new (as-choice g n order c)) cs
 
 -- ---- each at its turn
 
-takeable-more : {form : Form} {size step more : ℕ} {F : Formula} {c : Clause} {k : Choice} → size ≤ more → Takeable form size step F c k → Takeable form more step F c k
+takeable-more : {size step more : ℕ} {F : Formula} {c : Clause} {k : Choice} → size ≤ more → Takeable size step F c k → Takeable more step F c k
 takeable-more w t = record {
   proper = t .proper;
   fits = t .fits;
@@ -57,7 +57,6 @@ takeable-more w t = record {
   least = t .least;
   most = t .most;
   reach = t .reach;
-  new-few = t .new-few;
   space = omega (arith, t .space);
   step-cells = t .step-cells;
   touched-few = t .touched-few;
@@ -66,7 +65,7 @@ takeable-more w t = record {
 }
 
 module _ (s : Settings) (i : Input) (a : Accepted input-limits i) (size : ℕ) (w : workspace-need i ≤ size) where
-  all-from : (cs ds : List Clause) → chosen s i ≡ cs ++ ds → All-takeable (s .form) size (step-of i) (used-after (order-of s i) (i .highest) cs) (standing-after-first s i cs) (map (order-of s i) ds)
+  all-from : (cs ds : List Clause) → chosen s i ≡ cs ++ ds → All-takeable (s .form) (s .step) size (step-of i) (used-after (s .step) (order-of s i) (i .highest) cs) (standing-after-first s i cs) (map (order-of s i) ds)
   all-from cs [] e = finished
   all-from cs (c ∷ ds) e =
       let k = next-choice s i cs c in
@@ -76,5 +75,5 @@ module _ (s : Settings) (i : Input) (a : Accepted input-limits i) (size : ℕ) (
       (rw (t .next-below, choice-lines-same (s .form) F (order-of s i c) c k, ← t .next-stands)
       (all-from (cs ++ (c ∷ [])) ds (e ∙ sym (append-assoc cs (c ∷ []) ds))))
 
-  pub all-takeable : All-takeable (s .form) size (step-of i) (i .highest) (cleared (i .formula)) (map (order-of s i) (chosen s i))
+  pub all-takeable : All-takeable (s .form) (s .step) size (step-of i) (i .highest) (cleared (i .formula)) (map (order-of s i) (chosen s i))
   all-takeable = rw (choices-taken i a s .start-below, choices-taken i a s .start-stands) at (all-from [] (chosen s i) refl)

@@ -52,33 +52,33 @@ unfolding choice-events lines for-each
 choice-highest counter-form c k u f = omega (arith, taken-highest c k u f, highest-in-++ (lines-of (take-choice f c k)) [])
 choice-highest order-form c k u f = omega (arith, taken-highest c k u f, highest-in-++ (lines-of (take-choice f c k)) (lines (order-events k (after f (lines-of (take-choice f c k))))))
 
-choices-highest : (form : Form) (order : Clause → Clause) (n : ℕ) (f : Formula) (cs : List Clause) → Arranges n order cs → used-after order n cs ≤ max n (highest-in (lines (choices-events form order n f cs)))
+choices-highest : (form : Form) (g : ℕ) (order : Clause → Clause) (n : ℕ) (f : Formula) (cs : List Clause) → Arranges n order cs → used-after g order n cs ≤ max n (highest-in (lines (choices-events form g order n f cs)))
 unfolding choices-events used-after
-choices-highest form order n f [] h = omega arith
-choices-highest form order n f (c ∷ cs) h =
-    let k = as-choice n order c in
+choices-highest form g order n f [] h = omega arith
+choices-highest form g order n f (c ∷ cs) h =
+    let k = as-choice g n order c in
     let es = choice-events form f c k in
-    let rest = choices-events form order (last-new k) (after f (lines es)) cs in
+    let rest = choices-events form g order (last-new k) (after f (lines es)) cs in
     omega (
       arith,
-      last-new-above (order c) n,
-      choice-highest form c k (ordered-formed n order (c ∷ cs) h c (here refl) n (omega arith)) f,
-      choices-highest form order (last-new k) (after f (lines es)) cs (others n order c cs h),
+      last-new-above g (order c) n,
+      choice-highest form c k (ordered-formed n order (c ∷ cs) h c (here refl) g n (omega arith)) f,
+      choices-highest form g order (last-new k) (after f (lines es)) cs (others g n order c cs h),
       ap highest-in (lines-++ es rest),
       highest-in-++ (lines es) (lines rest),
     )
 
 -- ---- of a run
 module _ (s : Settings) (i : Input) (h : Run s i) where
-  pub highest-is : highest-used s i ≡ used-after (order-of s i) (i .highest) (chosen s i)
+  pub highest-is : highest-used s i ≡ used-after (s .step) (order-of s i) (i .highest) (chosen s i)
   unfolding highest-used log choosing
   highest-is =
       let f = i .formula in
       omega (
         arith,
         highest-in-le (top s i) (log s i) (λ x m. highest-le (top s i) (literals x) (log-to s i h x m .1)),
-        used-least (order-of s i) (i .highest) (chosen s i),
-        choices-highest (s .form) (order-of s i) (i .highest) (cleared f) (chosen s i) (arranges s i h),
+        used-least (s .step) (order-of s i) (i .highest) (chosen s i),
+        choices-highest (s .form) (s .step) (order-of s i) (i .highest) (cleared f) (chosen s i) (arranges s i h),
         ap highest-in (ap lines (events-are s i) ∙ lines-++ (clearing f) (choosing s i)),
         highest-in-++ (lines (clearing f)) (lines (choosing s i)),
       )

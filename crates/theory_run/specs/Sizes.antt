@@ -1,4 +1,4 @@
--- How long the log gets, how high its variables, and how much stands; proved as `sizes` in proofs/Sizes, for a formula that was accepted and any settings.
+-- How long the log gets, how high its variables, and how much stands; proved as `sizes` in proofs/Sizes, for a formula that was accepted and any settings with a step that is allowed.
 use mathlib.Core.Path.{_≡_}
 use mathlib.Core.List.{List, [], _∷_, _++_}
 use Prim.Native.Nat.{_+_, _≤_, _<_, _^_}
@@ -33,9 +33,9 @@ pub record Sizes (s : Settings) (i : Input) : Type 0 where
   pub pure-short : Short (lines (clear-clashes (i .formula))) (lines (clear-pure (unclashed (i .formula))))
   pub choice-short : (cs ds : List Clause) (c : Clause) → chosen s i ≡ cs ++ (c ∷ ds) →
       Short (lines (events-up-to s i cs)) (lines (choice-events (s .form) (standing-after-first s i cs) c (next-choice s i cs c)))
-  -- H
-  pub highest-is : highest-used s i ≡ used-after (order-of s i) (i .highest) (chosen s i)
-  pub highest-few : highest-used s i ≤ 16_000
+  -- H, whether it passes 70,000 or not
+  pub highest-is : highest-used s i ≡ used-after (s .step) (order-of s i) (i .highest) (chosen s i)
+  pub highest-few : highest-used s i ≤ 176_000
   -- the choices: no literal stands in two, so that there are few
   pub chosen-proper : Proper (choice-literals (chosen s i))
   pub chosen-reach : Fit-all (i .highest) (choice-literals (chosen s i))

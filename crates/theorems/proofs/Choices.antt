@@ -36,5 +36,5 @@ choices-taken s i c m t u =
     let k = cleared-eliminates F in
     let stays = eliminates-keeps k c m t u in
     let in-list = mem-those (λ d. choice-size d && unique (cleared F) d) (cleared F) c stays (and-i (choice-size c) (unique (cleared F) c) u (unique-after k c stays t)) in
-    let r = into-++ (clear-clashes F ++ clear-pure (unclashed F)) (into-choices (s .form) _ (i .highest) (cleared F) (chosen s i) c in-list) in
+    let r = into-++ (clear-clashes F ++ clear-pure (unclashed F)) (into-choices (s .form) (s .step) _ (i .highest) (cleared F) (chosen s i) c in-list) in
     record { stays = stays; choice = r .choice; goes = r .goes }

@@ -1,6 +1,7 @@
 pub mod Demand3
 pub mod Choices
 pub mod ShortLog
+pub mod Step
 pub mod Texts
 pub mod WayBack
 pub mod Premise

@@ -30,7 +30,7 @@ unfolding first-clause
 choice-f = choice-of first-clause 6
 
 order : Settings
-order = record { form = order-form; arrangement = as-listed }
+order = record { form = order-form; arrangement = as-listed; step = 1 }
 
 first-goes-into : Goes-into choice-f (events order input-f) first-clause
 unfolding first-clause input-f choice-f order Lists.computing Checked.computing Literals.computing Text.computing Reading.computing Standing.computing Clearing.computing Counter.computing Order.computing Alignment.computing Reencoding.computing

@@ -16,7 +16,7 @@ use Rattle.definition.specs.Assignments.{Assignment}
 use Rattle.definition.specs.LogReading.{read-line-clause, allowed-clause, read-line-fields, read-line, read-log}
 use Rattle.definition.specs.Answer.{Answer, begins-with, read-answer-word, read-answer-line, read-answer}
 use Rattle.definition.specs.Reencoding.{Settings}
-use Rattle.definition.specs.Calls.{reencode, assigned, highest-allowed, read-back, carry-answer, walk-back, buffer-after, read-input}
+use Rattle.definition.specs.Calls.{fitted, reencode, assigned, highest-allowed, read-back, carry-answer, walk-back, buffer-after, read-input}
 use Rattle.theory_base.proofs.Members.{any-mem, all-at}
 use Rattle.theory_text.proofs.Accepted.{input-read}
 use Rattle.theorems.specs.Refusals.{formula-numbers, log-numbers, answer-numbers, reencode-numbers, read-back-numbers, walk-back-numbers, Listed, accepted, refused, Demand-1}
@@ -166,11 +166,12 @@ module _ (x : ℕ) where
 input-listed : (t : Bytes) → Listed formula-numbers (read-input t)
 input-listed t = subst (Listed formula-numbers) (sym (input-read t)) (formula-listed input-limits t)
 
-reencode-listed : (s : Settings) (workspace log-room formula-room : ℕ) (t : Bytes) → Listed reencode-numbers (reencode s workspace log-room formula-room t)
-unfolding reencode formula-numbers reencode-numbers any all
-reencode-listed s workspace log-room formula-room t =
-    bind-listed (listed-among tt (input-listed t)) (λ i.
-    refuse-listed 11 _ tt (refuse-listed 12 _ tt (refuse-listed 13 _ tt accepted)))
+reencode-listed : (s : Settings) (workspace log-room formula-room table-room : ℕ) (t : Bytes) → Listed reencode-numbers (reencode s workspace log-room formula-room table-room t)
+unfolding reencode fitted formula-numbers reencode-numbers any all
+reencode-listed s workspace log-room formula-room table-room t =
+    refuse-listed 15 _ tt
+    (bind-listed (listed-among tt (input-listed t)) (λ i.
+    refuse-listed 11 _ tt (refuse-listed 16 _ tt (refuse-listed 17 _ tt (refuse-listed 12 _ tt (refuse-listed 13 _ tt accepted))))))
 
 read-back-listed : (workspace : ℕ) (t : Bytes) → Listed read-back-numbers (read-back workspace t)
 unfolding read-back formula-numbers read-back-numbers any all

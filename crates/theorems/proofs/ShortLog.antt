@@ -113,7 +113,7 @@ unfolding choice-events
 choice-bounded f c k p b = (taken-bounded f c k p b, tt)
 
 -- what holds of the events of each choice holds along all of them
-module _ (P : Formula → Event → Type 0) (form : Form) (each : (f : Formula) (c : Clause) (k : Choice) → Proper (k .literals) → 2 ≤ length (k .literals) → Along P f (choice-events form f c k)) (order : Clause → Clause) where
+module _ (P : Formula → Event → Type 0) (form : Form) (each : (f : Formula) (c : Clause) (k : Choice) → Proper (k .literals) → 2 ≤ length (k .literals) → Along P f (choice-events form f c k)) (g : ℕ) (order : Clause → Clause) where
   choices-along : (n : ℕ) (f : Formula) (cs : List Clause) → Arranges n order cs → Along P f (choices-events form g order n f cs)
   unfolding choices-events size
   choices-along n f [] h = tt
@@ -121,7 +121,7 @@ module _ (P : Formula → Event → Type 0) (form : Form) (each : (f : Formula) 
       let k = as-choice g n order c in
       let es = choice-events form f c k in
       along-++ P f es (choices-events form g order (last-new k) (after f (lines es)) cs)
-      (each f c k (ordered-proper n order (c ∷ cs) h c (here refl) .0) (ordered-size n order (c ∷ cs) h c (here refl) n))
+      (each f c k (ordered-proper n order (c ∷ cs) h c (here refl) .0) (ordered-size n order (c ∷ cs) h c (here refl) g n))
       (choices-along (last-new k) (after f (lines es)) cs (others g n order c cs h))
 
 -- ---- a run
@@ -135,14 +135,14 @@ module _ (s : Settings) (i : Input) (h : Run s i) where
 
   run-exact : Along Exact (i .formula) (events s i)
   unfolding choosing
-  run-exact = run-along Exact clearing-exact (choices-along Exact (s .form) (choice-exact (s .form)) (order-of s i) (i .highest) (cleared (i .formula)) (chosen s i) (arranges s i h))
+  run-exact = run-along Exact clearing-exact (choices-along Exact (s .form) (choice-exact (s .form)) (s .step) (order-of s i) (i .highest) (cleared (i .formula)) (chosen s i) (arranges s i h))
 
   run-bounded : s .form ≡ counter-form → Along Bounded (i .formula) (events s i)
   unfolding choosing
   run-bounded e =
       let F = cleared (i .formula) in
       run-along Bounded clearing-bounded
-      (subst (λ (form : Form). Along Bounded F (choices-events form (order-of s i) (i .highest) F (chosen s i))) (sym e) (choices-along Bounded counter-form choice-bounded (order-of s i) (i .highest) F (chosen s i) (arranges s i h)))
+      (subst (λ (form : Form). Along Bounded F (choices-events form (s .step) (order-of s i) (i .highest) F (chosen s i))) (sym e) (choices-along Bounded counter-form choice-bounded (s .step) (order-of s i) (i .highest) F (chosen s i) (arranges s i h)))
 
 pub short-log : Short-log-holds
 unfolding Short-log-holds log

@@ -10,18 +10,18 @@ use Rattle.theory_text.specs.Accepted.{Accepted}
 use Rattle.theory_text.proofs.FormulaText.{formula-read-back}
 use Rattle.theory_text.proofs.LogText as LogText
 use Rattle.theory_room.proofs.Runs.{Run, log-proper}
-use Rattle.theory_room.proofs.Room.{room}
-use Rattle.theory_room.proofs.Limits.{result-proper, result-fits, log-line-limit, highest-limit, clauses-limit, literals-limit}
+use Rattle.theory_run.proofs.Room.{room}
+use Rattle.theory_room.proofs.Limits.{result-proper, result-fits, log-line-limit, clauses-limit, literals-limit}
 use Rattle.theorems.specs.Demand3.{standing}
 use Rattle.theorems.specs.Texts.{Texts-hold}
-use Rattle.theory_run.proofs.LogSound.{chosen-parted, accepted-run}
+use Rattle.theory_run.proofs.LogSound.{accepted-run}
 
 pub texts : Texts-hold
 unfolding Texts-hold standing input-limits read-back-limits
 texts t i e s = record {
-  formula-read = formula-read-back read-back-limits (highest-used s i) (result s i) (highest-limit s i run v c l) (clauses-limit s i run v c l) (literals-limit s i run v c l) (result-fits s i run) (result-proper s i run);
-  log-read = λ j b. LogText.log-read (log s i) j b (λ x m. (log-proper s i run x m, log-line-limit s i run v c l x m));
-  room = room s i run (chosen-parted s i (a .proper) (a .fits));
+  formula-read = λ h. formula-read-back read-back-limits (highest-used s i) (result s i) h (clauses-limit s i run v c l) (literals-limit s i run v c l) (result-fits s i run) (result-proper s i run);
+  log-read = λ h j b. LogText.log-read (log s i) j b (λ x m. (log-proper s i run x m, log-line-limit s i run 70_000 h x m));
+  room = room i a s;
 }
   where
     a : Accepted input-limits i

@@ -48,7 +48,7 @@ pub walked : Way-back-holds
 unfolding Way-back-holds Demand-3-holds Texts-hold
 walked s t i workspace room j u named w = record {
   line = answer-text (i .variables) back;
-  given = walk-succeeds workspace room j t (log-text (log s i)) u i kept named (standing s i j) (answer-text (i .variables) back) (w .accepted) (texts t i (w .accepted) s .log-read j (w .kept)) (w .answered)
+  given = walk-succeeds workspace room j t (log-text (log s i)) u i kept named (standing s i j) (answer-text (i .variables) back) (w .accepted) (texts t i (w .accepted) s .log-read (w .low) j (w .kept)) (w .answered)
       (w .workspace-enough) found (carried-line room i kept (standing s i j) (assigned named) (w .satisfied) satisfied (w .room-enough));
   plan = answered .named;
   readable = answered .reads;

@@ -27,9 +27,9 @@ log-numbers = 31 ∷ 34 ∷ []
 unfoldable pub answer-numbers : List ℕ
 answer-numbers = 41 ∷ 42 ∷ 43 ∷ []
 
--- reencoding: 1 to 4, 7 to 9, 11, 12, 13
+-- reencoding: M-118's 15, "tested first of all"; 1 to 4, 7 to 9, 11, M-118's 16 and 17, 12, 13
 unfoldable pub reencode-numbers : List ℕ
-reencode-numbers = formula-numbers ++ (11 ∷ 12 ∷ 13 ∷ [])
+reencode-numbers = 15 ∷ formula-numbers ++ (11 ∷ 16 ∷ 17 ∷ 12 ∷ 13 ∷ [])
 
 -- the new formula read back: 1 to 4, 7 to 9, with 2 and 9 at the read-back limits, and 11
 unfoldable pub read-back-numbers : List ℕ
@@ -53,7 +53,7 @@ pub record Demand-1 : Type 1 where
   pub log : (kept : ℕ) (t : Bytes) → Listed log-numbers (read-log kept t)
   pub answer : (x : ℕ) (t : Bytes) → Listed answer-numbers (read-answer x t)
   -- each call, whatever the sizes of the workspace and the buffers
-  pub reencoding : (s : Settings) (workspace log-room formula-room : ℕ) (t : Bytes) → Listed reencode-numbers (reencode s workspace log-room formula-room t)
+  pub reencoding : (s : Settings) (workspace log-room formula-room table-room : ℕ) (t : Bytes) → Listed reencode-numbers (reencode s workspace log-room formula-room table-room t)
   pub reading-back : (workspace : ℕ) (t : Bytes) → Listed read-back-numbers (read-back workspace t)
   pub walking-back : (workspace room kept : ℕ) (t log answer : Bytes) → Listed walk-back-numbers (walk-back workspace room kept t log answer)
   -- after a refusal "output buffers become all zero"

@@ -13,10 +13,11 @@ use Rattle.theory_base.specs.Cells.{cells-of}
 use Rattle.theorems.specs.Demand3.{standing}
 
 pub record Texts (s : Settings) (i : Input) : Type 0 where
+  -- where 16 does not refuse the run, so that its texts are written,
   -- the new formula's text, read under the read-back limits, gives H and the standing clauses in order
-  pub formula-read : read-formula read-back-limits (formula-text (highest-used s i) (result s i)) ≡ value (as-read (highest-used s i) (length (result s i)) (result s i))
+  pub formula-read : highest-used s i ≤ 70_000 → read-formula read-back-limits (formula-text (highest-used s i) (result s i)) ≡ value (as-read (highest-used s i) (length (result s i)) (result s i))
   -- the log's text, read with j lines kept, gives these lines
-  pub log-read : (j : ℕ) → j ≤ length (log s i) → read-log j (log-text (log s i)) ≡ value (take j (log s i))
+  pub log-read : highest-used s i ≤ 70_000 → (j : ℕ) → j ≤ length (log s i) → read-log j (log-text (log s i)) ≡ value (take j (log s i))
   -- at every line, what stands fits the workspace with its index: an element for each clause and three for each literal
   pub room : (j : ℕ) → cells-of (standing s i j) ≤ workspace-need i
 

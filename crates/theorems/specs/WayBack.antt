@@ -11,7 +11,7 @@ use Rattle.definition.specs.Text.{Bytes, bytes}
 use Rattle.definition.specs.Assignments.{satisfies, carried-back}
 use Rattle.definition.specs.Log.{log-text}
 use Rattle.definition.specs.Answer.{read-answer}
-use Rattle.definition.specs.Reencoding.{Settings, log}
+use Rattle.definition.specs.Reencoding.{Settings, log, highest-used}
 use Rattle.definition.specs.Calls.{read-input, assigned, answer-text, highest-allowed, log-workspace-need, walk-back}
 use Rattle.theorems.specs.Demand3.{standing}
 
@@ -20,6 +20,8 @@ pub record Walk (s : Settings) (t : Bytes) (i : Input) (workspace room j : ℕ) 
   -- the formula is accepted, and the log has that many lines
   pub accepted : read-input t ≡ value i
   pub kept : j ≤ length (log s i)
+  -- it was written: H does not pass 70,000, where 16 refuses
+  pub low : highest-used s i ≤ 70_000
   -- the answer is in the layout, and satisfies what stands
   pub answered : read-answer (highest-allowed i (take j (log s i))) u ≡ value named
   pub satisfied : T (satisfies (assigned named) (standing s i j))

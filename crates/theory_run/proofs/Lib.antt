@@ -8,3 +8,4 @@ pub mod ChoicesSound
 pub mod LogSound
 pub mod Taken
 pub mod Room
+pub mod Table

@@ -116,7 +116,7 @@ one-long true x = omega arith
 one-long false x = omega arith
 
 -- the clause with the literal itself, written into an array
-module _ (l : ℤ) (i n below : ℕ) (f : SFits w32 l) (h : i ≤ 64) (k : below + 64 ≤ log-reach) (z y : ℤ) (p : SFits w32 z) (q : SFits w32 y)
+module _ (l : ℤ) (i n below : ℕ) (f : SFits w32 l) (h : i ≤ 64) (k : below ≤ log-reach + 1) (z y : ℤ) (p : SFits w32 z) (q : SFits w32 y)
     (o : z ≡ signed-of true (below + i)) (u : y ≡ signed-of false (below + (i - 1))) where
   abbrev A : Clause
   A = only-if (ltb i n) (toZ w32 (ofZ w32 z) ∷ [])

@@ -145,7 +145,7 @@ fn delete_positive(
     size: u32,
     below: u32,
 ) -> Progress
-    requires { ⌜ (1 ≤ i) × (i ≤ size) × (size ≤ 64) × (below + 64 ≤ log-reach) × (natAbs l ≤ log-reach) ⌝ }
+    requires { ⌜ (1 ≤ i) × (i ≤ size) × (size ≤ 64) × (below ≤ log-reach + 1) × (natAbs l ≤ log-reach) ⌝ }
     requires { ⌜ Deletable (first-deletion l i size below ∷ []) (now work) (now newest) p ⌝ }
     ensures { λ r. ⌜ Deletes (first-deletion l i size below ∷ []) (now (work .entry)) (now (newest .entry)) (now (log .entry)) p (now (work .exit)) (now (log .exit)) r ⌝ }
 {

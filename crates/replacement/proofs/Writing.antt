@@ -155,7 +155,7 @@ module _ (n below p : ℕ) (m : ℤ) where
         (r ≡ to + length (instead-by n below m p)) × (new ≡ sets old to (instead-by n below m p))
     none-put old to a b = (a ∙ ap (λ (c : Clause). to + length c) none-is, b ∙ ap (sets old to) none-is)
 
-  module _ (e : p ≡ 0 → ⊥) (h : p ≤ 64) (k : below + 64 ≤ log-reach) (z : ℤ) (f : SFits w32 z) (q : z ≡ signed-of false (below + (p - 1))) where
+  module _ (e : p ≡ 0 → ⊥) (h : p ≤ 64) (k : below ≤ log-reach + 1) (z : ℤ) (f : SFits w32 z) (q : z ≡ signed-of false (below + (p - 1))) where
     abbrev A : Clause
     A = only-if (ltb 1 p) (toZ w32 (ofZ w32 z) ∷ [])
 

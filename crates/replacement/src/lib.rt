@@ -79,7 +79,7 @@ pub fn put_if(work: &mut [i32], to: usize, wanted: bool, l: i32) -> usize
 
 // Writes what stands for a literal whose negation has a place in a choice of `size` literals.
 fn put_instead(work: &mut [i32], to: usize, l: i32, place: u32, size: u32, below: u32) -> usize
-    requires { ⌜ (place ≤ 64) × (below + 64 ≤ log-reach) ⌝ }
+    requires { ⌜ (place ≤ 64) × (below ≤ log-reach + 1) ⌝ }
     requires { ⌜ to + length (instead-by size below l place) ≤ length (now work) ⌝ }
     ensures next { λ r. ⌜ r ≡ to + length (instead-by size below l place) ⌝ }
     ensures written { λ _. ⌜ now (work .exit) ≡ sets (now (work .entry)) to (instead-by size below l place) ⌝ }

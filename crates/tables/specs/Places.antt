@@ -33,4 +33,4 @@ pub record Places (t : List ℕ) (l : Clause) : Type 0 where
 pub record Small (l : Clause) (below : ℕ) : Type 0 where
   pub few : length l ≤ 64
   pub old : Fit-all input-reach l
-  pub new : below + 64 ≤ log-reach
+  pub new : below + length l ≤ log-reach + 1

@@ -30,7 +30,7 @@ delete-positive-requires c κs =
         start .pre .0 .0,
         start .pre .0 .1,
         start .pre .0 .2 .few,
-        start .pre .0 .2 .new,
+        omega (arith, start .pre .0 .2 .new),
         literal-reach (now (start .args .choice)) (start .args .below) (start .args .i) (start .pre .0 .0)
             (start .pre .0 .1) (start .pre .0 .2) (sfits-of (l .given)) (start .pre .1),
       ),

@@ -57,7 +57,7 @@ put-instead-requires c κs =
           place-within (start .pre .0 .1) x,
           start .pre .0 .2 .few,
         ),
-        start .pre .0 .2 .new,
+        omega (arith, start .pre .0 .2 .new),
       ),
       writing-room (loop .inv) (loop-test .taken) (start .pre .0 .0) (omega (arith, start .pre .1)) e
           (rw (replaced-each k (take (start .args .n) (drop (start .args .from) (now (start .args .work)))))

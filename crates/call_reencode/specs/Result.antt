@@ -1,17 +1,17 @@
 -- From a run to the answer, and what is promised before the buffers are made zero.
 use mathlib.Core.Path.{_≡_}
-use mathlib.Core.Bool.{cond}
+use mathlib.Core.Bool.{true, cond}
 use mathlib.Core.List.{List, _++_}
-use Prim.Native.Nat.{ℕ, _≤_, _<_, _^_}
+use Prim.Native.Nat.{ℕ, _*_, _≤_, _<_, _^_}
 use lib.Dec.{ltb}
 use lib.IntN.{ℤ}
 use lib.ListN.{length, take, drop}
-use Rattle.definition.specs.Checked.{Checked, value, refuse-if}
+use lib.Seq.{sets}
+use Rattle.definition.specs.Checked.{Checked, value}
 use Rattle.definition.specs.Text.{Bytes}
-use Rattle.definition.specs.Reading.{Input}
 use Rattle.definition.specs.Log.{formula-text}
-use Rattle.definition.specs.Reencoding.{Settings}
-use Rattle.definition.specs.Calls.{Reencoded, reencoded}
+use Rattle.definition.specs.Calls.{Reencoded, step-allowed}
+use Rattle.records.specs.Rows.{rows-of}
 use Rattle.text.specs.Output.{Put}
 use Rattle.store.specs.Store.{Formed}
 use Rattle.progress.specs.Progress.{standing}
@@ -47,14 +47,15 @@ pub record Finishes (work : List ℤ) (log-room : ℕ) (formula : Bytes) (r : Re
   pub written : Put formula 0 (formula-text (r .highest) (standing work (r .progress))) bytes new-formula
   pub answer : a ≡ answer-by log-room (length formula) r (length (standing work (r .progress))) bytes
 
--- the result of an input, if both texts fit their buffers
-abbrev pub fitted : Settings → Input → Bytes → Bytes → Checked Reencoded
-fitted s i log formula =
-    let r = reencoded s i in
-    refuse-if (ltb (length log) (length (r .log))) 12 (refuse-if (ltb (length formula) (length (r .formula))) 13 (value r))
+-- a step that is allowed
+abbrev pub Stepped : ℕ → Type 0
+Stepped g = step-allowed g ≡ true
 
--- the answer is that of an outcome, and both texts are written where it is a result
-pub record Answers (o : Checked Reencoded) (log formula : Bytes) (a : Code.Reencoding) (new-log new-formula : Bytes) : Type 0 where
+-- the answer is that of an outcome, and where it is a result, both texts and the rows of the table are written
+pub record Answers (o : Checked Reencoded) (room : ℕ) (log formula : Bytes) (rows : List ℕ) (a : Code.Reencoding) (new-log new-formula : Bytes) (new-rows : List ℕ) : Type 0 where
   pub answer : a ≡ outcome-of o
   pub log-written : (r : Reencoded) → o ≡ value r → new-log ≡ r .log ++ drop (length (r .log)) log
   pub formula-written : (r : Reencoded) → o ≡ value r → new-formula ≡ r .formula ++ drop (length (r .formula)) formula
+  pub rows-written : (r : Reencoded) → o ≡ value r → new-rows ≡ sets rows 0 (rows-of (r .table))
+  -- there is a record for each choice, and the table has so many
+  pub records-few : (r : Reencoded) → o ≡ value r → (length (r .table) ≡ r .tally .choices) × (3 * length (r .table) ≤ length rows) × (r .tally .choices ≤ room)

@@ -1,14 +1,19 @@
 // Reencoding: the published call.
 ghost use mathlib.Core.Path.{_≡_};
-ghost use Prim.Native.Nat.{_<_};
-ghost use lib.ListN.{length};
-ghost use Rattle.definition.specs.Calls.{buffer-after};
+ghost use mathlib.Core.List.{List, _++_};
+ghost use Prim.Native.Nat.{_≤_, _<_};
+ghost use lib.ListN.{length, drop};
+ghost use Rattle.definition.specs.Calls.{reencoded, step-allowed, fitted, buffer-after};
+ghost use Rattle.records.specs.declared.ChoiceRecord.{ChoiceRecord};
+ghost use Rattle.records.specs.Rows.{no-record, records-in};
 ghost use Rattle.store.specs.Store.{Formed, stored};
 ghost use Rattle.run.specs.Settings.{settings-of};
-ghost use Rattle.run.specs.Run.{input-in, Run-ready};
+ghost use Rattle.run.specs.Run.{input-in, row-numbers, Run-ready};
 ghost use Rattle.call_reencode.specs.Counting.{standing-bit};
-ghost use Rattle.call_reencode.specs.Outcome.{outcome-of, outcome as outcome-defined};
-ghost use Rattle.call_reencode.specs.Result.{Left, Finishes, fitted, Answers};
+ghost use Rattle.call_reencode.specs.Outcome.{outcome-of, shown-table, outcome as outcome-defined};
+ghost use Rattle.call_reencode.specs.Result.{Left, Finishes, Stepped, Answers};
+use records::ChoiceRecord;
+use run::Ran;
 use run::Reached;
 use run::Settings;
 
@@ -86,26 +91,33 @@ fn run_all(
     work: &mut [i32],
     log: &mut [u8],
     formula: &mut [u8],
+    rows: &mut [u32],
+    room: usize,
     end: usize,
     highest: u32,
     settings: Settings,
 ) -> Reencoding
-    requires { ⌜ Run-ready (now work) end highest ⌝ }
-    ensures { λ r. ⌜ Answers (fitted (settings-of settings) (input-in (now (work .entry)) end highest) (now (log .entry)) (now (formula .entry))) (now (log .entry)) (now (formula .entry)) r (now (log .exit)) (now (formula .exit)) ⌝ }
+    requires { ⌜ Run-ready (now work) end highest (settings .step) (now rows) ⌝ }
+    ensures { λ r. ⌜ Answers (fitted room (length (now (log .entry))) (length (now (formula .entry))) (reencoded (settings-of settings) (input-in (now (work .entry)) end highest))) room (now (log .entry)) (now (formula .entry)) (now (rows .entry)) r (now (log .exit)) (now (formula .exit)) (now (rows .exit)) ⌝ }
 {
-    let r = run::run(work, log, end, highest, settings);
-    finish(work, log, formula, r)
+    match run::run(work, log, rows, room, end, highest, settings) {
+        Ran::Done(r) => finish(work, log, formula, r),
+        Ran::Refused(n) => Reencoding::Refused(n),
+    }
 }
 
 // Reads the formula and tests the workspace, then runs.
-fn reencode_into(
+fn read_and_run(
     text: &[u8],
     settings: Settings,
     work: &mut [i32],
     log: &mut [u8],
     formula: &mut [u8],
+    rows: &mut [u32],
+    room: usize,
 ) -> Reencoding
-    ensures { λ r. ⌜ Answers (outcome-defined settings (now (text .entry)) (now (work .entry)) (now (log .entry)) (now (formula .entry))) (now (log .entry)) (now (formula .entry)) r (now (log .exit)) (now (formula .exit)) ⌝ }
+    requires { ⌜ Stepped (settings .step) × (length (now rows) ≡ row-numbers) ⌝ }
+    ensures { λ r. ⌜ Answers (outcome-defined settings (now (text .entry)) (now (work .entry)) (now (log .entry)) (now (formula .entry)) room) room (now (log .entry)) (now (formula .entry)) (now (rows .entry)) r (now (log .exit)) (now (formula .exit)) (now (rows .exit)) ⌝ }
 {
     let most = dimacs::input_limits();
     match dimacs::read(text, most, work) {
@@ -115,29 +127,104 @@ fn reencode_into(
             if work.len() < need {
                 return Reencoding::Refused(11);
             }
-            run_all(&mut work[..need], log, formula, n, v, settings)
+            run_all(&mut work[..need], log, formula, rows, room, n, v, settings)
         }
     }
 }
 
-// Reencodes a formula: the log and the new formula go into the two buffers; on a refusal both are made zero.
+// Whether a step is from 1 to 100.
+fn is_step(g: u32) -> bool
+    ensures { λ r. ⌜ r ≡ step-allowed g ⌝ }
+{
+    if 1 <= g {
+        g <= 100
+    } else {
+        false
+    }
+}
+
+// Tests the step, then reads and runs.
+fn reencode_into(
+    text: &[u8],
+    settings: Settings,
+    work: &mut [i32],
+    log: &mut [u8],
+    formula: &mut [u8],
+    rows: &mut [u32],
+    room: usize,
+) -> Reencoding
+    requires { ⌜ length (now rows) ≡ row-numbers ⌝ }
+    ensures { λ r. ⌜ Answers (outcome-defined settings (now (text .entry)) (now (work .entry)) (now (log .entry)) (now (formula .entry)) room) room (now (log .entry)) (now (formula .entry)) (now (rows .entry)) r (now (log .exit)) (now (formula .exit)) (now (rows .exit)) ⌝ }
+{
+    let g = settings.step;
+    if is_step(g) {
+        read_and_run(text, settings, work, log, formula, rows, room)
+    } else {
+        Reencoding::Refused(15)
+    }
+}
+
+// ---- the call on rows: what is refused leaves zeros
+
+// The outcome, and how many records of the table are to be filled from the rows.
+pub struct Made {
+    pub answer: Reencoding,
+    pub records: usize,
+}
+
+// Reencodes a formula: the log and the new formula go into the two buffers, the table's records into the rows; on a refusal all are made zero.
+pub fn reencode_rows(
+    text: &[u8],
+    settings: Settings,
+    work: &mut [i32],
+    log: &mut [u8],
+    formula: &mut [u8],
+    rows: &mut [u32],
+    room: usize,
+) -> Made
+    requires { ⌜ length (now rows) ≡ row-numbers ⌝ }
+    ensures outcome { λ r. ⌜ r .answer ≡ outcome-of (outcome-defined settings (now (text .entry)) (now (work .entry)) (now (log .entry)) (now (formula .entry)) room) ⌝ }
+    ensures log_after { λ _. ⌜ now (log .exit) ≡ buffer-after 0 (outcome-defined settings (now (text .entry)) (now (work .entry)) (now (log .entry)) (now (formula .entry)) room) (λ o. o .log) (now (log .entry)) ⌝ }
+    ensures formula_after { λ _. ⌜ now (formula .exit) ≡ buffer-after 0 (outcome-defined settings (now (text .entry)) (now (work .entry)) (now (log .entry)) (now (formula .entry)) room) (λ o. o .formula) (now (formula .entry)) ⌝ }
+    ensures fits { λ r. ⌜ r .records ≤ room ⌝ }
+    ensures table_after { λ r. ⌜ ((t : List ChoiceRecord) → length t ≡ room → records-in (now (rows .exit)) 0 (r .records) ++ drop (r .records) t ≡ buffer-after no-record (outcome-defined settings (now (text .entry)) (now (work .entry)) (now (log .entry)) (now (formula .entry)) room) shown-table t) ⌝ }
+{
+    match reencode_into(text, settings, work, log, formula, rows, room) {
+        Reencoding::Done(t) => Made {
+            answer: Reencoding::Done(t),
+            records: t.choices,
+        },
+        Reencoding::Refused(n) => {
+            text::zero_all(log);
+            text::zero_all(formula);
+            records::zero_rows(rows);
+            Made {
+                answer: Reencoding::Refused(n),
+                records: room,
+            }
+        }
+    }
+}
+
+// ---- the call
+
+// Reencodes a formula: the log and the new formula go into the two buffers, a record for each choice into the table; on a refusal all three are made zero.
 pub fn reencode(
     text: &[u8],
     settings: Settings,
     work: &mut [i32],
     log: &mut [u8],
     formula: &mut [u8],
+    table: &mut [ChoiceRecord],
 ) -> Reencoding
-    ensures outcome { λ r. ⌜ r ≡ outcome-of (outcome-defined settings (now (text .entry)) (now (work .entry)) (now (log .entry)) (now (formula .entry))) ⌝ }
-    ensures log_after { λ _. ⌜ now (log .exit) ≡ buffer-after 0 (outcome-defined settings (now (text .entry)) (now (work .entry)) (now (log .entry)) (now (formula .entry))) (λ o. o .log) (now (log .entry)) ⌝ }
-    ensures formula_after { λ _. ⌜ now (formula .exit) ≡ buffer-after 0 (outcome-defined settings (now (text .entry)) (now (work .entry)) (now (log .entry)) (now (formula .entry))) (λ o. o .formula) (now (formula .entry)) ⌝ }
+    ensures outcome { λ r. ⌜ r ≡ outcome-of (outcome-defined settings (now (text .entry)) (now (work .entry)) (now (log .entry)) (now (formula .entry)) (length (now (table .entry)))) ⌝ }
+    ensures log_after { λ _. ⌜ now (log .exit) ≡ buffer-after 0 (outcome-defined settings (now (text .entry)) (now (work .entry)) (now (log .entry)) (now (formula .entry)) (length (now (table .entry)))) (λ o. o .log) (now (log .entry)) ⌝ }
+    ensures formula_after { λ _. ⌜ now (formula .exit) ≡ buffer-after 0 (outcome-defined settings (now (text .entry)) (now (work .entry)) (now (log .entry)) (now (formula .entry)) (length (now (table .entry)))) (λ o. o .formula) (now (formula .entry)) ⌝ }
+    ensures table_after { λ _. ⌜ now (table .exit) ≡ buffer-after no-record (outcome-defined settings (now (text .entry)) (now (work .entry)) (now (log .entry)) (now (formula .entry)) (length (now (table .entry)))) shown-table (now (table .entry)) ⌝ }
 {
-    match reencode_into(text, settings, work, log, formula) {
-        Reencoding::Done(t) => Reencoding::Done(t),
-        Reencoding::Refused(n) => {
-            text::zero_all(log);
-            text::zero_all(formula);
-            Reencoding::Refused(n)
-        }
-    }
+    let room = table.len();
+    let mut rows = [0u32; run::ROW_NUMBERS];
+    let r = reencode_rows(text, settings, work, log, formula, &mut rows, room);
+    records::fill(table, &rows, r.records);
+    r.answer
 }

@@ -5,6 +5,7 @@ use mathlib.Core.List.{List, [], map}
 use Prim.Native.Nat.{ℕ, _+_, _≤_, _<_, _^_}
 use lib.IntN.{ℤ}
 use lib.ListN.{length, take, drop, replicate}
+use lib.Seq.{sets}
 use Rattle.definition.specs.Literals.{Clause, Formula}
 use Rattle.definition.specs.Text.{Bytes}
 use Rattle.definition.specs.Events.{Event, choice-of}
@@ -21,7 +22,13 @@ use Rattle.progress.specs.Progress.{standing, Good, Runs}
 use Rattle.tables.specs.Sizes.{input-reach, input-size}
 use Rattle.index.specs.Index.{Indexed, Roomy}
 use Rattle.pairs.specs.Pairs.{slots}
+use Rattle.theory_run.specs.Table.{taken-records}
+use Rattle.records.specs.Rows.{rows-of}
+use Rattle.pass_number.specs.Numbering as Numbering
+use Rattle.pass_number.specs.Numbering.{weighed}
 use Rattle.run.specs.declared.Reached.{Reached}
+use Rattle.run.specs.declared.Ran as Code
+use Rattle.run.specs.declared.Ran.the-variants as Ran
 
 -- ---- chosen
 
@@ -44,7 +51,8 @@ pub record Chosen (a : Arrangement) (F : Formula) (size r : ℕ) (chosen : List 
 pub record One-ready (form : Form) (step : ℕ) (work : List ℤ) (p : Progress) (l : Clause) (below : ℕ) : Type 0 where
   pub good : Good below (choice-events form (standing work p) l (choice-of l below)) work p
   pub clause : Clause
-  pub takeable : Takeable form (length work) step (standing work p) clause (choice-of l below)
+  pub takeable : Takeable (length work) step (standing work p) clause (choice-of l below)
+  pub new-few : below + length l ≤ 70_001
 
 -- the same in an indexed workspace with room for the step
 pub record Placed-ready (form : Form) (work : List ℤ) (newest : List ℕ) (p : Progress) (l : Clause) (below : ℕ) : Type 0 where
@@ -62,42 +70,64 @@ pub record Lent (places counts list : List ℕ) : Type 0 where
   pub counts-zero : counts ≡ replicate slots 0
   pub long : length list ≡ list-size
 
--- ---- the choice at a place of the store of choices, where n is the highest variable used
+-- ---- the choice at a place of the store of choices, with the step g, where n is the highest variable used
 
 -- its events, if it stands
-abbrev pub events-at : Form → Formula → List ℤ → ℕ → ℕ → List Event
-events-at form F s at n = cond (deleted-at s at) [] (choice-events form F (clause-at s at) (choice-of (clause-at s at) (below-new n)))
+abbrev pub events-at : Form → ℕ → Formula → List ℤ → ℕ → ℕ → List Event
+events-at form g F s at n = cond (deleted-at s at) [] (choice-events form F (clause-at s at) (choice-of (clause-at s at) (below-new g n)))
 
 -- the highest variable used after it
-abbrev pub used-at : List ℤ → ℕ → ℕ → ℕ
-used-at s at n = cond (deleted-at s at) n (last-new (choice-of (clause-at s at) (below-new n)))
+abbrev pub used-at : ℕ → List ℤ → ℕ → ℕ → ℕ
+used-at g s at n = cond (deleted-at s at) n (last-new (choice-of (clause-at s at) (below-new g n)))
 
 -- how many choices it is
 abbrev pub count-at : List ℤ → ℕ → ℕ
 count-at s at = cond (deleted-at s at) 0 1
 
-pub record At-ready (form : Form) (step : ℕ) (work : List ℤ) (r : Reached) (chosen : List ℤ) (at : ℕ) : Type 0 where
+pub record At-ready (form : Form) (g step : ℕ) (work : List ℤ) (r : Reached) (chosen : List ℤ) (at : ℕ) : Type 0 where
   pub inside : r .progress .end ≤ length work
   pub formed : Formed (take (r .progress .end) work)
   pub at-inside : at < length chosen
   pub rest : Formed (drop at chosen)
   pub few : r .choices < 2 ^ 31
-  pub one : deleted-at chosen at ≡ false → One-ready form step work (r .progress) (clause-at chosen at) (below-new (r .highest))
+  pub step-least : 1 ≤ g
+  pub step-most : g ≤ 100
+  pub low : r .highest ≤ 70_000
+  pub one : deleted-at chosen at ≡ false → One-ready form step work (r .progress) (clause-at chosen at) (below-new g (r .highest))
 
-pub record Taken-at (form : Form) (work : List ℤ) (log : Bytes) (r : Reached) (chosen : List ℤ) (at : ℕ) (new-work : List ℤ) (new-log : Bytes) (q : Reached) : Type 0 where
-  pub runs : Runs (events-at form (standing work (r .progress)) chosen at (r .highest)) work log (r .progress) new-work new-log (q .progress)
+pub record Taken-at (form : Form) (g : ℕ) (work : List ℤ) (log : Bytes) (r : Reached) (chosen : List ℤ) (at : ℕ) (new-work : List ℤ) (new-log : Bytes) (q : Reached) : Type 0 where
+  pub runs : Runs (events-at form g (standing work (r .progress)) chosen at (r .highest)) work log (r .progress) new-work new-log (q .progress)
   pub choices : q .choices ≡ r .choices + count-at chosen at
-  pub highest : q .highest ≡ used-at chosen at (r .highest)
+  pub highest : q .highest ≡ used-at g chosen at (r .highest)
 
 -- ---- all choices taken, literals in the order in which they are taken
 
-pub record All-ready (form : Form) (step : ℕ) (work : List ℤ) (p : Progress) (chosen : List ℤ) (n : ℕ) : Type 0 where
-  pub good : Good n (taken-events form n (standing work p) (stored chosen)) work p
+pub record All-ready (form : Form) (g step : ℕ) (work : List ℤ) (p : Progress) (chosen : List ℤ) (n : ℕ) : Type 0 where
+  pub good : Good n (taken-events form g n (standing work p) (stored chosen)) work p
   pub few : length chosen < 2 ^ 31
   pub chosen-formed : Formed chosen
-  pub takeable : All-takeable form (length work) step n (standing work p) (stored chosen)
+  pub takeable : All-takeable form g (length work) step n (standing work p) (stored chosen)
+  pub step-least : 1 ≤ g
+  pub step-most : g ≤ 100
+  -- no variable passes 70,000
+  pub low : used-after g (λ l. l) n (stored chosen) ≤ 70_000
 
-pub record Taken-all (form : Form) (work : List ℤ) (log : Bytes) (p : Progress) (ls : List Clause) (n : ℕ) (new-work : List ℤ) (new-log : Bytes) (r : Reached) : Type 0 where
-  pub runs : Runs (taken-events form n (standing work p) ls) work log p new-work new-log (r .progress)
+pub record Taken-all (form : Form) (g : ℕ) (work : List ℤ) (log : Bytes) (p : Progress) (ls : List Clause) (n : ℕ) (new-work : List ℤ) (new-log : Bytes) (r : Reached) : Type 0 where
+  pub runs : Runs (taken-events form g n (standing work p) ls) work log p new-work new-log (r .progress)
   pub choices : r .choices ≡ length ls
-  pub highest : r .highest ≡ used-after (λ l. l) n ls
+  pub highest : r .highest ≡ used-after g (λ l. l) n ls
+
+-- ---- all choices numbered, then taken
+
+pub record Take-ready (form : Form) (g step : ℕ) (work : List ℤ) (p : Progress) (chosen : List ℤ) (n : ℕ) (w rows : List ℕ) : Type 0 where
+  pub good : Good n (taken-events form g n (standing work p) (stored chosen)) work p
+  pub few : length chosen < 2 ^ 31
+  pub takeable : All-takeable form g (length work) step n (standing work p) (stored chosen)
+  pub number-ready : Numbering.All-ready g chosen w rows n
+
+-- 16 where H would pass 70,000; 17 where the table is shorter than the choices; else they are taken, and their rows written
+pub record Took-all (form : Form) (g : ℕ) (work : List ℤ) (log : Bytes) (p : Progress) (ls : List Clause) (n : ℕ) (w rows : List ℕ) (room : ℕ) (new-work : List ℤ) (new-log : Bytes) (new-rows : List ℕ) (r : Code.Ran) : Type 0 where
+  pub high : 70_000 < used-after g (λ l. l) n ls → r ≡ Ran.Refused 16
+  pub short : used-after g (λ l. l) n ls ≤ 70_000 → room < length ls → r ≡ Ran.Refused 17
+  pub taken : used-after g (λ l. l) n ls ≤ 70_000 → length ls ≤ room → (q : Reached) × (r ≡ Ran.Done q) × Taken-all form g work log p ls n new-work new-log q
+  pub written : new-rows ≡ sets rows 0 (rows-of (taken-records g (λ l. l) (weighed w) n ls))

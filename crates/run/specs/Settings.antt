@@ -16,4 +16,4 @@ named-arrangement Arrangement.AsListed = as-listed
 named-arrangement Arrangement.Alignment = alignment
 
 abbrev pub settings-of : Code-settings.Settings → Settings
-settings-of s = record { form = named-form (s .form); arrangement = named-arrangement (s .arrangement) }
+settings-of s = record { form = named-form (s .form); arrangement = named-arrangement (s .arrangement); step = s .step }

@@ -4,8 +4,8 @@ ghost use mathlib.Core.List.{[], _∷_};
 ghost use Prim.Native.Nat.{_+_, _*_, _<_, _^_};
 ghost use lib.ListN.{length, take, replicate};
 ghost use Rattle.definition.specs.Alignment.{arranged};
-ghost use Rattle.definition.specs.Counter.{below-new};
-ghost use Rattle.definition.specs.Reencoding.{choice-events};
+ghost use Rattle.definition.specs.Clearing.{clear-clashes};
+ghost use Rattle.definition.specs.Reencoding.{choice-events, resolved-into};
 ghost use Rattle.definition.specs.Events.{choice-of};
 ghost use Rattle.theory_room.specs.Choices.{clearing};
 ghost use Rattle.tables.specs.Sizes.{input-size};
@@ -13,10 +13,11 @@ ghost use Rattle.tables.specs.Places.{Places};
 ghost use Rattle.store.specs.Store.{stored};
 ghost use Rattle.index.specs.Index.{nodes, Indexed};
 ghost use Rattle.progress.specs.Progress.{standing, Runs};
+ghost use Rattle.pass_clashes.specs.Weights.{Weighed};
 ghost use Rattle.pass_align.specs.Aligned.{Proper-store, Choices, Mapped};
 ghost use Rattle.run.specs.Settings.{named-form, named-arrangement, settings-of};
 ghost use Rattle.pairs.specs.Pairs.{slots};
-ghost use Rattle.run.specs.Choices.{Choosable, Chosen, list-size, Lent, One-ready, Placed-ready, At-ready, Taken-at, All-ready, Taken-all};
+ghost use Rattle.run.specs.Choices.{Choosable, Chosen, list-size, Lent, One-ready, Placed-ready, At-ready, Taken-at, All-ready, Taken-all, Take-ready, Took-all};
 ghost use Rattle.run.specs.Run.{Clear-ready, input-in, Run-ready, Ran-all};
 use progress::Progress;
 
@@ -32,20 +33,30 @@ pub enum Arrangement {
     Alignment,
 }
 
-// What the caller asks for.
+// What the caller asks for; the step is from 1 to 100.
 pub struct Settings {
     pub form: Form,
     pub arrangement: Arrangement,
+    pub step: u32,
 }
 
 // The most clauses that a choice replaces in order form: those of an input.
 const LIST: usize = 20000;
+
+// The rows of the most choices that an input can have, 1,600.
+pub const ROW_NUMBERS: usize = 4800;
 
 // How far a run has come, how many choices it took, and the highest variable used.
 pub struct Reached {
     pub progress: Progress,
     pub choices: usize,
     pub highest: u32,
+}
+
+// The outcome of a run: how far it came, or the number of the refusal.
+pub enum Ran {
+    Done(Reached),
+    Refused(u8),
 }
 
 // ---- clearing
@@ -55,16 +66,18 @@ fn clear(
     work: &mut [i32],
     newest: &mut [u32],
     table: &mut [u32],
+    weights: &mut [u32],
     log: &mut [u8],
     p: Progress,
     step: usize,
 ) -> Progress
-    requires { ⌜ Clear-ready step (now work) p × Indexed (now work) (p .end) (now newest) × (now table ≡ replicate input-size 0) ⌝ }
+    requires { ⌜ Clear-ready step (now work) p × Indexed (now work) (p .end) (now newest) × (now table ≡ replicate input-size 0) × (now weights ≡ replicate input-size 0) ⌝ }
     ensures runs { λ r. ⌜ Runs (clearing (standing (now (work .entry)) p)) (now (work .entry)) (now (log .entry)) p (now (work .exit)) (now (log .exit)) r ⌝ }
     ensures indexed { λ r. ⌜ Indexed (now (work .exit)) (r .end) (now (newest .exit)) ⌝ }
     ensures table { λ _. ⌜ now (table .exit) ≡ replicate input-size 0 ⌝ }
+    ensures weighed { λ r. ⌜ Weighed (resolved-into (λ d. 1) (clear-clashes (standing (now (work .entry)) p))) (length (standing (now (work .entry)) p)) (standing (now (work .exit)) r) (now (weights .exit)) ⌝ }
 {
-    let q = pass_clashes::clear_clashes(work, newest, table, log, p, step);
+    let q = pass_clashes::clear_clashes(work, newest, table, weights, log, p, step);
     pass_pure::delete_pure(work, log, q)
 }
 
@@ -99,13 +112,6 @@ fn choose(
 }
 
 // ---- taking, with lent tables: a choice's places, counts of its pairs, a list of clauses
-
-// The number below the new variables of the next choice, where some variable is the highest used.
-fn next_below(highest: u32) -> u32
-    ensures { λ r. ⌜ r ≡ below-new highest ⌝ }
-{
-    highest
-}
 
 // Takes a choice whose places are set in counter form and, if that is named, in order form.
 fn take_placed(
@@ -190,12 +196,13 @@ fn take_at(
     log: &mut [u8],
     r: Reached,
     form: Form,
+    g: u32,
     chosen: &[i32],
     at: usize,
     step: usize,
 ) -> Reached
-    requires { ⌜ At-ready (named-form form) step (now work) r (now chosen) at × Indexed (now work) (r .progress .end) (now newest) × Lent (now places) (now counts) (now list) ⌝ }
-    ensures taken { λ q. ⌜ Taken-at (named-form form) (now (work .entry)) (now (log .entry)) r (now (chosen .entry)) at (now (work .exit)) (now (log .exit)) q ⌝ }
+    requires { ⌜ At-ready (named-form form) g step (now work) r (now chosen) at × Indexed (now work) (r .progress .end) (now newest) × Lent (now places) (now counts) (now list) ⌝ }
+    ensures taken { λ q. ⌜ Taken-at (named-form form) g (now (work .entry)) (now (log .entry)) r (now (chosen .entry)) at (now (work .exit)) (now (log .exit)) q ⌝ }
     ensures indexed { λ q. ⌜ Indexed (now (work .exit)) (q .progress .end) (now (newest .exit)) ⌝ }
     ensures lent { λ _. ⌜ Lent (now (places .exit)) (now (counts .exit)) (now (list .exit)) ⌝ }
 {
@@ -204,7 +211,7 @@ fn take_at(
     }
     let next = store::next_at(chosen, at);
     let first = at + 1;
-    let below = next_below(r.highest);
+    let below = pass_number::next_below(r.highest, g);
     let before = r.progress;
     let literals = &chosen[first..next];
     let p = take_one(
@@ -227,7 +234,7 @@ fn take_at(
     }
 }
 
-// Takes the choices in list order.
+// Takes the choices in list order, with the step g.
 fn take(
     work: &mut [i32],
     newest: &mut [u32],
@@ -235,12 +242,13 @@ fn take(
     log: &mut [u8],
     p: Progress,
     form: Form,
+    g: u32,
     chosen: &[i32],
     highest: u32,
     step: usize,
 ) -> Reached
-    requires { ⌜ All-ready (named-form form) step (now work) p (now chosen) highest × Indexed (now work) (p .end) (now newest) × (now places ≡ replicate input-size 0) ⌝ }
-    ensures { λ r. ⌜ Taken-all (named-form form) (now (work .entry)) (now (log .entry)) p (stored (now (chosen .entry))) highest (now (work .exit)) (now (log .exit)) r ⌝ }
+    requires { ⌜ All-ready (named-form form) g step (now work) p (now chosen) highest × Indexed (now work) (p .end) (now newest) × (now places ≡ replicate input-size 0) ⌝ }
+    ensures { λ r. ⌜ Taken-all (named-form form) g (now (work .entry)) (now (log .entry)) p (stored (now (chosen .entry))) highest (now (work .exit)) (now (log .exit)) r ⌝ }
 {
     let mut counts = [0u32; pairs::SLOTS];
     let mut list = [0u32; LIST];
@@ -260,6 +268,7 @@ fn take(
             log,
             r,
             form,
+            g,
             chosen,
             at,
             step,
@@ -279,17 +288,50 @@ fn step_of(newest: &[u32], end: usize) -> usize
     5 * index::nodes(newest) + end + 2520
 }
 
+// Takes the choices, if their variables stay within 70,000 and the table has a record for each; their rows are written.
+fn take_all(
+    work: &mut [i32],
+    newest: &mut [u32],
+    places: &mut [u32],
+    weights: &[u32],
+    log: &mut [u8],
+    rows: &mut [u32],
+    room: usize,
+    p: Progress,
+    form: Form,
+    g: u32,
+    chosen: &[i32],
+    highest: u32,
+    step: usize,
+) -> Ran
+    requires { ⌜ Take-ready (named-form form) g step (now work) p (now chosen) highest (now weights) (now rows) × Indexed (now work) (p .end) (now newest) × (now places ≡ replicate input-size 0) ⌝ }
+    ensures { λ r. ⌜ Took-all (named-form form) g (now (work .entry)) (now (log .entry)) p (stored (now (chosen .entry))) highest (now (weights .entry)) (now (rows .entry)) room (now (work .exit)) (now (log .exit)) (now (rows .exit)) r ⌝ }
+{
+    let m = pass_number::number(chosen, weights, rows, highest, g);
+    if 70000 < m.highest {
+        return Ran::Refused(16);
+    }
+    if room < m.choices {
+        return Ran::Refused(17);
+    }
+    Ran::Done(take(
+        work, newest, places, log, p, form, g, chosen, highest, step,
+    ))
+}
+
 // Clears an indexed store, then chooses and takes its choices.
 fn run_indexed(
     work: &mut [i32],
     newest: &mut [u32],
     log: &mut [u8],
+    rows: &mut [u32],
+    room: usize,
     end: usize,
     highest: u32,
     settings: Settings,
-) -> Reached
-    requires { ⌜ Run-ready (now work) end highest × Indexed (now work) end (now newest) ⌝ }
-    ensures { λ r. ⌜ Ran-all (settings-of settings) (input-in (now (work .entry)) end highest) (now (work .entry)) (now (log .entry)) end (now (work .exit)) (now (log .exit)) r ⌝ }
+) -> Ran
+    requires { ⌜ Run-ready (now work) end highest (settings .step) (now rows) × Indexed (now work) end (now newest) ⌝ }
+    ensures { λ r. ⌜ Ran-all (settings-of settings) (input-in (now (work .entry)) end highest) (now (work .entry)) (now (log .entry)) end (now (rows .entry)) room (now (work .exit)) (now (log .exit)) (now (rows .exit)) r ⌝ }
 {
     let start = Progress {
         end,
@@ -298,36 +340,61 @@ fn run_indexed(
     };
     let form = settings.form;
     let arrangement = settings.arrangement;
+    let g = settings.step;
     let step = step_of(newest, end);
     let mut places = [0u32; tables::INPUT_SIZE];
-    let p = clear(work, newest, &mut places, log, start, step);
-    let mut chosen = [0i32; 9600];
-    let n = choose(work, newest, p, &mut chosen, arrangement);
-    take(
+    let mut weights = [0u32; tables::INPUT_SIZE];
+    let p = clear(
         work,
         newest,
         &mut places,
+        &mut weights,
         log,
+        start,
+        step,
+    );
+    let mut chosen = [0i32; 9600];
+    let n = choose(work, newest, p, &mut chosen, arrangement);
+    take_all(
+        work,
+        newest,
+        &mut places,
+        &weights,
+        log,
+        rows,
+        room,
         p,
         form,
+        g,
         &chosen[..n],
         highest,
         step,
     )
 }
 
-// Enters the clauses of the store in an index, then runs over both.
+// Enters the clauses of the store in an index, then runs over both. The rows are of 1,600 choices at most; there is a record for so many choices as `room` says.
 pub fn run(
     work: &mut [i32],
     log: &mut [u8],
+    rows: &mut [u32],
+    room: usize,
     end: usize,
     highest: u32,
     settings: Settings,
-) -> Reached
-    requires { ⌜ Run-ready (now work) end highest ⌝ }
-    ensures { λ r. ⌜ Ran-all (settings-of settings) (input-in (now (work .entry)) end highest) (now (work .entry)) (now (log .entry)) end (now (work .exit)) (now (log .exit)) r ⌝ }
+) -> Ran
+    requires { ⌜ Run-ready (now work) end highest (settings .step) (now rows) ⌝ }
+    ensures { λ r. ⌜ Ran-all (settings-of settings) (input-in (now (work .entry)) end highest) (now (work .entry)) (now (log .entry)) end (now (rows .entry)) room (now (work .exit)) (now (log .exit)) (now (rows .exit)) r ⌝ }
 {
     let mut newest = [0u32; tables::LOG_SIZE];
     index::enter_all(work, &mut newest, end);
-    run_indexed(work, &mut newest, log, end, highest, settings)
+    run_indexed(
+        work,
+        &mut newest,
+        log,
+        rows,
+        room,
+        end,
+        highest,
+        settings,
+    )
 }

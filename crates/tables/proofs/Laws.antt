@@ -10,7 +10,7 @@ use lib.IntN.{ℤ, pos, negsuc, negℤ, natAbs}
 use lib.ListN.{length, getD, set, drop, length-set, replicate, List·getD-eq-default}
 use lib.Seq.{getD-set-same, getD-set-other}
 use borrow.Author.Tests.{eqb-true, eqb-false, eq-eqb, ne-eqb, ltb-true, ltb-false}
-use Rattle.definition.specs.Lists.{any}
+use Rattle.definition.specs.Lists.{any, sum-of}
 use Rattle.definition.specs.Literals.{Clause, same, holds}
 use Rattle.theory_base.proofs.Tests.{by-test, of-true, to-true}
 use Rattle.theory_base.proofs.Members.{same-eq, same-refl, unlike, natAbs-neg, holds-snoc}
@@ -80,6 +80,16 @@ entry-set-all t (x ∷ c) v l h =
     go true true = refl
     go true false = refl
     go false b = refl
+
+-- ---- the entries of a clause's literals, added up
+
+pub sum-step : (t : List ℕ) (s : Clause) (i : ℕ) → i < length s → sum-of (entry-of t) (drop i s) ≡ entry-of t (getD s i (pos 0)) + sum-of (entry-of t) (drop (i + 1) s)
+unfolding sum-of
+sum-step t s i h = rw (drop-step s i (pos 0) h) refl
+
+pub sum-end : (t : List ℕ) (s : Clause) (i : ℕ) → length s ≤ i → sum-of (entry-of t) (drop i s) ≡ 0
+unfolding sum-of
+sum-end t s i h = rw (drop-end s i h) refl
 
 -- ---- back to zeros
 

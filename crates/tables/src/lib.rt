@@ -3,7 +3,7 @@ ghost use mathlib.Core.Path.{_≡_};
 ghost use Prim.Native.Nat.{_≤_, _<_, _^_};
 ghost use lib.IntN.{natAbs};
 ghost use lib.ListN.{length, getD, set};
-ghost use Rattle.definition.specs.Lists.{all};
+ghost use Rattle.definition.specs.Lists.{all, sum-of};
 ghost use Rattle.definition.specs.Literals.{Clause};
 ghost use Rattle.definition.specs.Clearing.{choice-size};
 ghost use Rattle.literals.specs.Literal.{index-of};
@@ -67,6 +67,20 @@ pub fn set_entries(table: &mut [u32], clause: &[i32], value: u32)
         set_entry(table, clause[i], value);
         i += 1;
     }
+}
+
+// The entries of a clause's literals, added up.
+pub fn sum_entries(table: &[u32], clause: &[i32]) -> u32
+    requires { ⌜ sum-of (entry-at-literal (now table)) (now clause) < 2 ^ 32 ⌝ }
+    ensures { λ r. ⌜ r ≡ sum-of (entry-at-literal (now (table .entry))) (now (clause .entry)) ⌝ }
+{
+    let mut sum = 0;
+    let mut i = 0;
+    while i < clause.len() {
+        sum += entry_of(table, clause[i]);
+        i += 1;
+    }
+    sum
 }
 
 // Sets the entry of each literal of a clause to its place there, from 1 on.

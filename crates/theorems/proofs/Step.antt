@@ -13,11 +13,10 @@ use Rattle.definition.specs.Standing.{after}
 use Rattle.definition.specs.Events.{Event, choice-of}
 use Rattle.definition.specs.Clearing.{clear-clashes, clear-pure}
 use Rattle.definition.specs.Counter.{below-new, last-new}
-use Rattle.definition.specs.Reencoding.{Form, Settings, lines, choice-events, choices-events, resolved-into, unclashed, cleared, events, chosen}
+use Rattle.definition.specs.Reencoding.{Form, Settings, lines, choice-events, choices-events, unclashed, cleared, events, chosen}
 use Rattle.theory_counter.proofs.NewVariables.{below-new-least}
 use Rattle.theory_room.specs.Choices.{order-of}
-use Rattle.theory_run.specs.Table.{taken-records}
-use Rattle.theory_run.proofs.Table.{table-is, taken-records-length}
+use Rattle.theory_run.proofs.Table.{table-length}
 use Rattle.theorems.specs.Step.{First-new, unstepped, Stepping-holds}
 
 -- ---- the first new variable: a multiple of g is n itself, where the remainder is 0, or the next
@@ -69,5 +68,5 @@ stepping s i =
       as-before = λ e.
           ap (λ (g : ℕ). clear-clashes f ++ clear-pure (unclashed f) ++ choices-events (s .form) g (order-of s i) (i .highest) (cleared f) (chosen s i)) e
           ∙ ap (λ (xs : List Event). clear-clashes f ++ clear-pure (unclashed f) ++ xs) (unstepped-is (s .form) (order-of s i) (i .highest) (cleared f) (chosen s i));
-      one-each = rw (table-is s i) (taken-records-length (s .step) (order-of s i) (resolved-into (λ d. 1) (clear-clashes f)) (i .highest) (chosen s i));
+      one-each = table-length s i;
     }

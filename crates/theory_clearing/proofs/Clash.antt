@@ -161,21 +161,31 @@ module _ (F : Formula) (c : Clash) (p : Proper-all F) (q : Is-clash F c) where
   unfolding resolvent
   resolvent-mem x i = List·Memᴰ·append-cases (rest-one c) i
 
-  -- v and -v stand nowhere any more
-  after-absent : (x : ℤ) → Absent x (without-both F c) → (List·Memᴰ x (rest-one c) → ⊥) → (List·Memᴰ x (rest-other c) → ⊥) → Absent x (after F (clash-lines c))
-  after-absent x l a b d i j = ⊎-elim (λ k. l d k j) (λ k. ⊎-elim a b (resolvent-mem x (rw (k .0) at j))) (after-mem d i)
+  -- v and -v are not in the resolvent
+  pub v-unresolved : List·Memᴰ (c .v) (resolvent c) → ⊥
+  v-unresolved i =
+      ⊎-elim (λ j. without-mem (c .v) (c .one) (c .v) j .1 refl)
+      (λ j. proper-unopposed (c .other) other-proper (c .v) (without-mem (negℤ (c .v)) (c .other) (c .v) j .0) (q .other-holds))
+      (resolvent-mem (c .v) i)
+
+  pub negation-unresolved : List·Memᴰ (negℤ (c .v)) (resolvent c) → ⊥
+  negation-unresolved i =
+      ⊎-elim (λ j. proper-unopposed (c .one) one-proper (c .v) (q .one-holds) (without-mem (c .v) (c .one) (negℤ (c .v)) j .0))
+      (λ j. without-mem (negℤ (c .v)) (c .other) (negℤ (c .v)) j .1 refl)
+      (resolvent-mem (negℤ (c .v)) i)
+
+  -- and stand nowhere any more
+  after-absent : (x : ℤ) → Absent x (without-both F c) → (List·Memᴰ x (resolvent c) → ⊥) → Absent x (after F (clash-lines c))
+  after-absent x l a d i j = ⊎-elim (λ k. l d k j) (λ k. a (rw (k .0) at j)) (after-mem d i)
 
   pub v-gone : Absent (c .v) (after F (clash-lines c))
-  v-gone = after-absent (c .v) (λ d i. one-gone (c .v) (q .one-holds) d (mem-removed other-removed i)) (λ i. without-mem (c .v) (c .one) (c .v) i .1 refl)
-      (λ i. proper-unopposed (c .other) other-proper (c .v) (without-mem (negℤ (c .v)) (c .other) (c .v) i .0) (q .other-holds))
+  v-gone = after-absent (c .v) (λ d i. one-gone (c .v) (q .one-holds) d (mem-removed other-removed i)) v-unresolved
 
   pub negation-gone : Absent (negℤ (c .v)) (after F (clash-lines c))
-  negation-gone = after-absent (negℤ (c .v)) (other-gone (negℤ (c .v)) (q .other-holds))
-      (λ i. proper-unopposed (c .one) one-proper (c .v) (q .one-holds) (without-mem (c .v) (c .one) (negℤ (c .v)) i .0))
-      (λ i. without-mem (negℤ (c .v)) (c .other) (negℤ (c .v)) i .1 refl)
+  negation-gone = after-absent (negℤ (c .v)) (other-gone (negℤ (c .v)) (q .other-holds)) negation-unresolved
 
   -- the literals of the resolvent are A's or B's, so they stood in a ULC; and those that stand after stood before
-  resolvent-parents : (x : ℤ) → List·Memᴰ x (resolvent c) → In-parents c x
+  pub resolvent-parents : (x : ℤ) → List·Memᴰ x (resolvent c) → In-parents c x
   resolvent-parents x i =
       ⊎-elim (λ n. inl (without-mem (c .v) (c .one) x n .0)) (λ n. inr (without-mem (negℤ (c .v)) (c .other) x n .0)) (resolvent-mem x i)
 
@@ -289,6 +299,10 @@ module _ (F : Formula) (c : Clash) (p : Proper-all F) (q : Is-clash F c) where
   -- no literal of A or B stands in what is left
   parents-gone : (x : ℤ) → In-parents c x → Absent x (without-both F c)
   parents-gone x m d i = ⊎-elim (λ j. one-gone x j d (mem-removed other-removed i)) (λ j. other-gone x j d i) m
+
+  -- each clause that stands after stood before and has none of their literals, or is the resolvent
+  pub stood-apart : (d : Clause) → List·Memᴰ d (after F (clash-lines c)) → (List·Memᴰ d F × ((x : ℤ) → List·Memᴰ x d → In-parents c x → ⊥)) ⊎ ((d ≡ resolvent c) × (opposed (resolvent c) ≡ false))
+  stood-apart d i = ⊎-elim (λ k. inl (stood-before d k, λ x j m. parents-gone x m d k j)) (λ k. inr k) (after-mem d i)
 
   -- where the resolvent is not added, they stand nowhere any more
   pub opposed-gone : opposed (resolvent c) ≡ true → (x : ℤ) → In-parents c x → Absent x (after F (clash-lines c))

@@ -4,3 +4,4 @@ pub mod Clashing
 pub mod Pure
 pub mod Pass
 pub mod Cleared
+pub mod Weights

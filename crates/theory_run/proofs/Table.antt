@@ -83,6 +83,9 @@ unfolding taken-records
 taken-records-length g order count n [] = refl
 taken-records-length g order count n (c ∷ cs) = omega (arith, taken-records-length g order count (last-new (as-choice g n order c)) cs)
 
+pub table-length : (s : Settings) (i : Input) → length (table s i) ≡ length (chosen s i)
+table-length s i = rw (table-is s i) (taken-records-length (s .step) (order-of s i) (resolved-into (λ d. 1) (clear-clashes (i .formula))) (i .highest) (chosen s i))
+
 -- a store of choices has their literals in order: a count on these that gives what the other gives on the clauses
 pub records-of-ordered : (g : ℕ) (order : Clause → Clause) (count other : Clause → ℕ) (n : ℕ) (cs : List Clause) → ((c : Clause) → List·Memᴰ c cs → other (order c) ≡ count c) →
     taken-records g (λ l. l) other n (map order cs) ≡ taken-records g order count n cs

@@ -5,4 +5,5 @@ pub mod Copying
 pub mod Opposed
 pub mod Adding
 pub mod Resolved
+pub mod Weighing
 pub mod Scanning

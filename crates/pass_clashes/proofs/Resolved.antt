@@ -1,42 +1,46 @@
 -- A clash is cleared: the resolvent holds neither literal of the variable, so its two clauses stay where they are and are the only ones with them. Assumes nothing.
 use mathlib.Core.Path.{_≡_, refl, sym, ap, ap₂, subst, _∙_}
-use mathlib.Core.Logic.{⊎-elim}
 use mathlib.Core.Bool.{Bool, true, false, not, _&&_}
-use mathlib.Core.List.{List, [], _∷_, _++_, map, append-nil, List·Memᴰ, List·Memᴰ·append-cases}
-use Prim.Native.Nat.{ℕ, _≤_, _<_}
+use mathlib.Core.List.{List, [], _∷_, _++_, map, append-nil, append-assoc, List·Memᴰ}
+use Prim.Native.Nat.{ℕ, _+_, _-_, _≤_, _<_}
 use native.Mathlib.Omega.{arith}
 use lib.IntN.{ℤ, pos, negℤ, natAbs}
 use lib.ListN.{length, take, drop, length-append, length-drop}
-use lib.Seq.{length-take-le, take-take, take-at}
+use lib.Seq.{length-take-le, take-take, take-at, take-add, drop-at}
 use Rattle.definition.specs.Lists.{bit, only-if}
-use Rattle.definition.specs.Literals.{Clause, Formula, without, opposed}
+use Rattle.definition.specs.Literals.{Clause, Formula, opposed}
 use Rattle.definition.specs.Text.{Bytes}
 use Rattle.definition.specs.Standing.{addition, after}
+use Rattle.definition.specs.Calls.{numbers-of}
 use Rattle.definition.specs.Events.{Clash, clash-cleared}
 use Rattle.definition.specs.Clearing.{times, resolvent, clash-lines}
 use Rattle.definition.specs.Reencoding.{lines, lines-of}
-use Rattle.theory_base.proofs.Members.{proper-unopposed, holds-false}
+use Rattle.theory_base.proofs.Clauses.{numbers-first}
+use Rattle.theory_base.proofs.Members.{holds-false}
 use Rattle.theory_base.proofs.Replay.{after-++, after-additions}
 use Rattle.theory_soundness.proofs.Times.{times-++, times-cons, times-nil}
-use Rattle.theory_soundness.proofs.Without.{without-mem}
 use Rattle.theory_clearing.specs.Clashing.{mentions}
+use Rattle.theory_clearing.proofs.Clash.{v-unresolved, negation-unresolved}
 use Rattle.marks.specs.Marks.{marked, Without-mark}
-use Rattle.literals.specs.Literal.{negative, header-literals}
+use Rattle.literals.specs.Literal.{negative, header-of, header-literals}
 use Rattle.store.specs.Store.{Formed, stored, clause-at, past}
 use Rattle.store.proofs.Laws.{place-within, formed-next, prefix-header, prefix-clause}
 use Rattle.progress.specs.declared.Progress.{Progress}
-use Rattle.progress.specs.Progress.{Log-room, Runs}
+use Rattle.progress.specs.Progress.{Log-room, standing, Runs}
 use Rattle.progress.specs.Growth.{entries, Grown}
 use Rattle.progress.proofs.Laws.{lines-one, written-then, room-rest, Holds, runs-lines}
-use Rattle.progress.proofs.Growing.{grown-holds}
+use Rattle.progress.proofs.Growing.{entries-one, grown-holds}
+use Rattle.tables.specs.Sizes.{input-size}
 use Rattle.index.specs.Index.{Indexed}
 use Rattle.index.specs.Reading.{Stands-at}
 use Rattle.index.proofs.Laws.{indexed-part}
 use Rattle.pass_clashes.specs.Clashes.{clash-there}
 use Rattle.pass_clashes.specs.Marking.{Unmarked}
 use Rattle.pass_clashes.specs.Resolving.{added-by, parent-lines, Resolvable, Parents, Parents-gone, Ended}
+use Rattle.pass_clashes.specs.Weights.{reweighed, Reweighs}
 use Rattle.pass_clashes.proofs.Marking.{neither}
 use Rattle.pass_clashes.proofs.Adding.{is-clash, parents}
+use Rattle.pass_clashes.proofs.Weighing.{dropped-reweighs, added-reweighs}
 
 -- a clause keeps its place in a longer store
 longer-standing : (t : List ℤ) (end at : ℕ) → end ≤ length t → Formed t → Stands-at (take end t) at → Stands-at t at × (clause-at t at ≡ clause-at (take end t) at)
@@ -66,26 +70,20 @@ clash-parts c = lines-one (clash-cleared c) ∙ go (opposed (resolvent c))
     go true = refl
     go false = refl
 
+pub after-clash : (F : Formula) (c : Clash) → after F (lines (clash-cleared c ∷ [])) ≡ after F (clash-lines c)
+unfolding lines-of
+after-clash F c = ap (after F) (lines-one (clash-cleared c))
+
+added-is : (c : Clash) → opposed (resolvent c) ≡ false → added-by c ≡ resolvent c ∷ []
+unfolding only-if
+added-is c o = rw o refl
+
 module _ {work : List ℤ} {newest : List ℕ} {p : Progress} {v x y : ℕ} (r : Resolvable work newest p v x y) where
   abbrev s : List ℤ
   s = take (p .end) work
 
   abbrev c : Clash
   c = clash-there s v x y
-
-  v-gone : List·Memᴰ (pos v) (resolvent c) → ⊥
-  unfolding resolvent
-  v-gone i =
-      ⊎-elim (λ j. without-mem (pos v) (c .one) (pos v) j .1 refl)
-      (λ j. proper-unopposed (c .other) (r .good .proper (c .other) (is-clash r .other-stands)) (pos v) (without-mem (negℤ (pos v)) (c .other) (pos v) j .0) (is-clash r .other-holds))
-      (List·Memᴰ·append-cases (without (pos v) (c .one)) i)
-
-  negation-gone : List·Memᴰ (negℤ (pos v)) (resolvent c) → ⊥
-  unfolding resolvent
-  negation-gone i =
-      ⊎-elim (λ j. parents r .apart (without-mem (pos v) (c .one) (negℤ (pos v)) j .0))
-      (λ j. without-mem (negℤ (pos v)) (c .other) (negℤ (pos v)) j .1 refl)
-      (List·Memᴰ·append-cases (without (pos v) (c .one)) i)
 
   module _ {new : List ℤ} {later : List ℕ} {log mid-log : Bytes} {q : Progress} (d : Grown (added-by c) work newest log p new later mid-log q) where
     abbrev t : List ℤ
@@ -106,6 +104,22 @@ module _ {work : List ℤ} {newest : List ℕ} {p : Progress} {v x y : ℕ} (r :
         let e : take (p .end) t ≡ s = ap (take (p .end)) (d .filled) ∙ take-at s (entries (added-by c)) (p .end) n in
         subst (λ (z : List ℤ). Stands-at t at × (clause-at t at ≡ clause-at z at)) e (longer-standing t (p .end) at (omega (arith, size, d .next)) (there .formed) (rw e k))
 
+    -- a resolvent that is added stands behind what was filled
+    module _ (o : opposed (resolvent c) ≡ false) where
+      pub resolvent-inside : (p .end + 1 ≤ q .end) × (q .end ≤ length new)
+      resolvent-inside = omega (arith, d .next, ap numbers-of (added-is c o), numbers-first (resolvent c) [], there .inside)
+
+      pub resolvent-there : take (q .end - (p .end + 1)) (drop (p .end + 1) new) ≡ resolvent c
+      resolvent-there =
+          let first = p .end + 1 in
+          let n = q .end - first in
+          let header = header-of (length (resolvent c)) ∷ [] in
+          let e : first + n ≡ q .end = omega (arith, resolvent-inside) in
+          let k : length (s ++ header) ≡ first = length-append s header ∙ ap (λ (i : ℕ). i + 1) (length-take-le (p .end) work (r .good .inside)) in
+          sym (drop-at (take first new) (take n (drop first new)) first (length-take-le first new (omega (arith, resolvent-inside))))
+          ∙ ap (drop first) (sym (take-add first n new) ∙ ap (λ (i : ℕ). take i new) e ∙ d .filled ∙ ap (λ (f : Formula). s ++ entries f) (added-is c o) ∙ ap (λ (l : List ℤ). s ++ l) (entries-one (resolvent c)) ∙ sym (append-assoc s header (resolvent c)))
+          ∙ drop-at (s ++ header) (resolvent c) first k
+
     one-kept : Stands-at t x × (clause-at t x ≡ c .one)
     one-kept = kept x (parents r .one-stands)
 
@@ -119,10 +133,10 @@ module _ {work : List ℤ} {newest : List ℕ} {p : Progress} {v x y : ℕ} (r :
     parents-kept = record {
       one-stands = one-kept .0;
       one-holds = rw (one-kept .1) (parents r .one-holds);
-      one-once = ap (times (pos v)) (there .stands) ∙ times-kept (pos v) (stored s) c v-gone ∙ parents r .one-once;
+      one-once = ap (times (pos v)) (there .stands) ∙ times-kept (pos v) (stored s) c (v-unresolved (stored s) c (r .good .proper) (is-clash r)) ∙ parents r .one-once;
       other-stands = other-kept .0;
       other-holds = rw (other-kept .1) (parents r .other-holds);
-      other-once = ap (times (negℤ (pos v))) (there .stands) ∙ times-kept (negℤ (pos v)) (stored s) c negation-gone ∙ parents r .other-once;
+      other-once = ap (times (negℤ (pos v))) (there .stands) ∙ times-kept (negℤ (pos v)) (stored s) c (negation-unresolved (stored s) c (r .good .proper) (is-clash r)) ∙ parents r .other-once;
       apart = λ i. parents r .apart (rw (one-kept .1) at i);
       small = parents r .small;
       one-proper = rw (one-kept .1) (parents r .one-proper);
@@ -147,6 +161,17 @@ module _ {work : List ℤ} {newest : List ℕ} {p : Progress} {v x y : ℕ} (r :
 
     pub resolved-indexed : {u : List ℤ} {new-log : Bytes} {w : Progress} → Parents-gone (clash-there t v x y) t mid-log q u new-log w → Indexed (u ++ drop (q .end) new) (w .end) later
     resolved-indexed {u} g = subst (λ (k : ℕ). Indexed (u ++ drop (q .end) new) k later) (sym (g .kept)) (indexed-part (d .indexed) (g .same-entries))
+
+  -- the weights
+  module _ {log new-log : Bytes} {out : List ℤ} {z : Progress} (g : Runs (clash-cleared c ∷ []) work log p out new-log z) where
+    stands-then : standing out z ≡ after (stored s) (clash-lines c)
+    stands-then = g .stands ∙ after-clash (stored s) c
+
+    pub reweighs-dropped : (w : List ℕ) → opposed (resolvent c) ≡ true → Reweighs (clash-cleared c ∷ []) (stored s) w (standing out z) w
+    reweighs-dropped w o = rw stands-then (dropped-reweighs (stored s) v (c .one) (c .other) (r .good .proper) (r .good .fits) (is-clash r) w o)
+
+    pub reweighs-added : (w : List ℕ) {u : List ℕ} {d : Clause} → length w ≡ input-size → d ≡ resolvent c → u ≡ reweighed w d v → Reweighs (clash-cleared c ∷ []) (stored s) w (standing out z) u
+    reweighs-added w n e h = rw (stands-then, h, e) (added-reweighs (stored s) v (c .one) (c .other) (r .good .proper) (r .good .fits) (is-clash r) w n)
 
 -- ---- the marks of the clashes that end
 module _ (c : Clash) (m new : List ℕ) where

@@ -8,13 +8,14 @@ use native.Mathlib.Omega.{arith}
 use lib.Dec.{ltb}
 use lib.IntN.{ℤ, natAbs}
 use lib.ListN.{length, take, replicate}
+use lib.Seq.{length-take-le}
 use borrow.Author.Tests.{ltb-true, ltb-false}
 use Rattle.definition.specs.Literals.{Formula}
 use Rattle.definition.specs.Text.{Bytes}
 use Rattle.definition.specs.Standing.{after}
 use Rattle.definition.specs.Events.{Clash, Event, clash-cleared}
 use Rattle.definition.specs.Clearing.{clash-at, clash-lines, clear-clashes}
-use Rattle.definition.specs.Reencoding.{lines, lines-of}
+use Rattle.definition.specs.Reencoding.{lines, resolved-into}
 use Rattle.theory_base.specs.Cells.{cells-of}
 use Rattle.theory_base.specs.Clauses.{Proper-all, Fits}
 use Rattle.theory_base.proofs.Tests.{by-test, second-fails}
@@ -27,15 +28,19 @@ use Rattle.marks.specs.Marks.{input-words, marked, lowest-from}
 use Rattle.marks.specs.declared.Lowest.the-variants.{At, Nothing}
 use Rattle.marks.proofs.Laws.{lowest-marked, none-past}
 use Rattle.tables.specs.Sizes.{input-reach, input-size}
+use Rattle.store.proofs.Laws.{few-stored}
 use Rattle.index.specs.Index.{Indexed, Roomy}
 use Rattle.progress.specs.declared.Progress.{Progress}
 use Rattle.progress.specs.Progress.{standing, Runs}
-use Rattle.progress.proofs.Laws.{lines-none, lines-one, runs-nothing, runs-join, good-first, good-rest}
+use Rattle.progress.proofs.Laws.{lines-none, runs-nothing, runs-join, good-first, good-rest}
 use Rattle.pass_clashes.specs.Marking.{Marks-clashes}
 use Rattle.pass_clashes.specs.Clashes.{clash-there, Clashing}
 use Rattle.pass_clashes.specs.Resolving.{Resolvable, Ended}
+use Rattle.pass_clashes.specs.Weights.{Weighed, Light, Reweighs}
 use Rattle.pass_clashes.specs.Scan.{Clash-ready, Searching, Scanned, turns-left}
 use Rattle.pass_clashes.specs.declared.Scan.{Scan}
+use Rattle.pass_clashes.proofs.Resolved.{after-clash}
+use Rattle.pass_clashes.proofs.Weighing.{light-then, reweighs-none, reweighs-join, zeros-light, zeros-weighed}
 
 -- ---- what the other events need where the first ran
 ready-rest : (xs ys : List Event) {step : ℕ} {work new : List ℤ} {log new-log : Bytes} {p r : Progress} → Clash-ready step (xs ++ ys) work p → Runs xs work log p new new-log r
@@ -52,17 +57,13 @@ ready-rest xs ys {work = work} {new = new} {p = p} {r = r} k g a b = record {
     after-more : (us : List Event) → after (standing new r) (lines us) ≡ after (standing work p) (lines (xs ++ us))
     after-more us = ap (λ (F : Formula). after F (lines us)) (g .stands) ∙ sym (after-++ (standing work p) (lines xs) (lines us)) ∙ ap (after (standing work p)) (sym (lines-++ xs us))
 
--- what stands after no event, and after one clash
+-- what stands after no event
 after-none : (F : Formula) → after F (lines []) ≡ F
 unfolding after
 after-none F = ap (after F) lines-none
 
-after-clash : (F : Formula) (c : Clash) → after F (lines (clash-cleared c ∷ [])) ≡ after F (clash-lines c)
-unfolding lines-of
-after-clash F c = ap (after F) (lines-one (clash-cleared c))
-
 -- ---- the lowest mark
-module _ {step : ℕ} {work : List ℤ} {newest table m : List ℕ} {z : Scan} (s : Searching step work newest table m z) where
+module _ {step : ℕ} {work : List ℤ} {newest table weights m : List ℕ} {z : Scan} (s : Searching step work newest table weights m z) where
   abbrev F : Formula
   F = standing work (z .progress)
 
@@ -82,9 +83,15 @@ module _ {step : ℕ} {work : List ℤ} {newest table m : List ℕ} {z : Scan} (
     none-marked : (k : ℕ) → marked m k ≡ false
     none-marked k = none-below (k + 1) (λ i a _. lowest-marked m (32 * z .word) .none-marked e i a) k (omega arith)
 
-    pub scanned-none : (log : Bytes) → Scanned step work log z work newest table log m (record { progress = z .progress; word = length m })
+    pub scanned-none : (log : Bytes) → Scanned step work weights log z work newest table weights log m (record { progress = z .progress; word = length m })
     scanned-none log =
-        record { events = []; runs = stays log; rest = refl; searching = record { ready = s .ready; indexed = s .indexed; zeros = s .zeros; exact = s .exact; passed = λ k _. none-marked k; size = s .size } }
+        record {
+          events = [];
+          runs = stays log;
+          rest = refl;
+          searching = record { ready = s .ready; indexed = s .indexed; zeros = s .zeros; light = s .light; exact = s .exact; passed = λ k _. none-marked k; size = s .size };
+          reweighs = reweighs-none F weights;
+        }
 
   pub none-fewer : z .word < length m → turns-left work (record { progress = z .progress; word = length m }) < turns-left work z
   none-fewer h = omega (arith, s .size)
@@ -113,6 +120,9 @@ module _ {step : ℕ} {work : List ℤ} {newest table m : List ℕ} {z : Scan} (
 
       pub there-clashes : clashes (standing mid q) v ≡ true
       there-clashes = ap (λ (G : Formula). clashes G v) same ∙ lowest-clashes
+
+      pub light-there : Light (standing mid q) weights
+      light-there = subst (λ (G : Formula). Light G weights) (sym same) (s .light)
 
       module _ {x y : ℕ} (h : Clashing (take (q .end) mid) v x y) where
         abbrev c : Clash
@@ -153,7 +163,11 @@ module _ {step : ℕ} {work : List ℤ} {newest table m : List ℕ} {z : Scan} (
           pub clash-fewer : turns-left new (record { progress = w; word = v / 32 }) < turns-left work z
           clash-fewer = omega (arith, ap length stands-then, after-shorter F c (s .ready .good .proper) is-clash, lowest .0)
 
-          module _ {later zeros : List ℕ} (new-m : List ℕ) (u : Ended c m new-m) (l : length new-m ≡ length m) (i : Indexed new (w .end) later) (n : zeros ≡ replicate input-size 0) where
+          module _ {later zeros heavier : List ℕ} (new-m : List ℕ) (u : Ended c m new-m) (l : length new-m ≡ length m) (i : Indexed new (w .end) later) (n : zeros ≡ replicate input-size 0)
+              (j : Reweighs (clash-cleared c ∷ []) (standing mid q) weights (standing new w) heavier) where
+            reweighs-all : Reweighs (clash-cleared c ∷ []) F weights (standing new w) heavier
+            reweighs-all = subst (λ (G : Formula). Reweighs (clash-cleared c ∷ []) G weights (standing new w) heavier) same j
+
             exact-then : Marks-clashes (standing new w) new-m
             exact-then n =
                 u n ∙ ap (λ (b : Bool). not (ends c n) && b) (s .exact n) ∙ sym (clashes-after F c (s .ready .good .proper) is-clash n)
@@ -162,7 +176,7 @@ module _ {step : ℕ} {work : List ℤ} {newest table m : List ℕ} {z : Scan} (
             passed-then : (n : ℕ) → n < 32 * (v / 32) → marked new-m n ≡ false
             passed-then n i = u n ∙ sym (second-fails (not (ends c n)) (marked m n) (below n (omega arith)))
 
-            pub scanned-clash : Scanned step work log z new later zeros new-log new-m (record { progress = w; word = v / 32 })
+            pub scanned-clash : Scanned step work weights log z new later zeros heavier new-log new-m (record { progress = w; word = v / 32 })
             scanned-clash =
                 let e : clash-cleared c ∷ clear-clashes (standing new w) ≡ clear-clashes F = ap (λ (G : Formula). clash-cleared c ∷ clear-clashes G) stands-then ∙ sym left-are in
                 record {
@@ -175,33 +189,50 @@ module _ {step : ℕ} {work : List ℤ} {newest table m : List ℕ} {z : Scan} (
                         (rw (after-clash F c) (after-proper F c (s .ready .good .proper) is-clash)) (rw (after-clash F c) (after-fits F c (s .ready .good .proper) is-clash input-reach (s .ready .good .fits)));
                     indexed = i;
                     zeros = n;
+                    light = light-then (s .light) reweighs-all;
                     exact = exact-then;
                     passed = passed-then;
                     size = l ∙ s .size;
                   };
+                  reweighs = reweighs-all;
                 }
 
 -- ---- the loop
-pub scanned-start : {step : ℕ} {work : List ℤ} {newest table m : List ℕ} {p : Progress} (log : Bytes) → Clash-ready step (clear-clashes (standing work p)) work p → Indexed work (p .end) newest → table ≡ replicate input-size 0 →
-    Marks-clashes (standing work p) m → length m ≡ input-words → Scanned step work log (record { progress = p; word = 0 }) work newest table log m (record { progress = p; word = 0 })
-scanned-start {step} {work} {newest} {table} {m} {p} log r i n e l =
-    let s : Searching step work newest table m (record { progress = p; word = 0 }) = record { ready = r; indexed = i; zeros = n; exact = e; passed = λ v h. absurd (omega arith); size = l } in
-    record { events = []; runs = stays s log; rest = refl; searching = s }
+pub scanned-start : {step : ℕ} {work : List ℤ} {newest table weights m : List ℕ} {p : Progress} (log : Bytes) → Clash-ready step (clear-clashes (standing work p)) work p → Indexed work (p .end) newest →
+    table ≡ replicate input-size 0 → weights ≡ replicate input-size 0 → Marks-clashes (standing work p) m → length m ≡ input-words →
+    Scanned step work weights log (record { progress = p; word = 0 }) work newest table weights log m (record { progress = p; word = 0 })
+scanned-start {step} {work} {newest} {table} {weights} {m} {p} log r i n u e l =
+    let few = few-stored (take (p .end) work) in
+    let s : Searching step work newest table weights m (record { progress = p; word = 0 }) = record {
+      ready = r;
+      indexed = i;
+      zeros = n;
+      light = zeros-light u (omega (arith, few, length-take-le (p .end) work (r .good .inside), r .good .inside, r .good .small));
+      exact = e;
+      passed = λ v h. absurd (omega arith);
+      size = l;
+    } in
+    record { events = []; runs = stays s log; rest = refl; searching = s; reweighs = reweighs-none (standing work p) weights }
 
-pub scanned-then : {step : ℕ} {a b c : List ℤ} {l m n : Bytes} {f g h i j k : List ℕ} {x y z : Scan} → Scanned step a l x b f g m h y → Scanned step b m y c i j n k z → Scanned step a l x c i j n k z
+pub scanned-then : {step : ℕ} {a b c : List ℤ} {l m n : Bytes} {f g h i j k t u w : List ℕ} {x y z : Scan} → Scanned step a t l x b f g u m h y → Scanned step b u m y c i j w n k z → Scanned step a t l x c i j w n k z
 scanned-then {c = c} {z = z} s t = record {
   events = s .events ++ t .events;
   runs = runs-join (s .runs) (t .runs);
   rest = append-assoc (s .events) (t .events) (clear-clashes (standing c (z .progress))) ∙ ap (λ (es : List Event). s .events ++ es) (t .rest) ∙ s .rest;
   searching = t .searching;
+  reweighs = reweighs-join (s .reweighs) (t .reweighs);
 }
 
-pub scanned-end : {step : ℕ} {work new : List ℤ} {log new-log : Bytes} {newest table m : List ℕ} {y z : Scan} → Scanned step work log y new newest table new-log m z → length m ≤ z .word →
-    Runs (clear-clashes (standing work (y .progress))) work log (y .progress) new new-log (z .progress)
-scanned-end {work = work} {new = new} {log = log} {new-log = new-log} {m = m} {y = y} {z = z} s h =
-    let e : s .events ≡ clear-clashes (standing work (y .progress)) =
-    sym (append-nil (s .events)) ∙ ap (λ (es : List Event). s .events ++ es) (sym (clear-clashes-none (standing new (z .progress)) none)) ∙ s .rest in
-    subst (λ (es : List Event). Runs es work log (y .progress) new new-log (z .progress)) e (s .runs)
-  where
-    none : (v : ℕ) → clashes (standing new (z .progress)) v ≡ false
-    none v = sym (s .searching .exact v) ∙ none-below (s .searching) (v + 1) (λ k a _. none-past m k (omega arith)) v (omega arith)
+module _ {step : ℕ} {work new : List ℤ} {log new-log : Bytes} {newest table weights heavier m : List ℕ} {y z : Scan} (s : Scanned step work weights log y new newest table heavier new-log m z) (h : length m ≤ z .word) where
+  none-left : (v : ℕ) → clashes (standing new (z .progress)) v ≡ false
+  none-left v = sym (s .searching .exact v) ∙ none-below (s .searching) (v + 1) (λ k a _. none-past m k (omega arith)) v (omega arith)
+
+  all-happened : s .events ≡ clear-clashes (standing work (y .progress))
+  all-happened = sym (append-nil (s .events)) ∙ ap (λ (es : List Event). s .events ++ es) (sym (clear-clashes-none (standing new (z .progress)) none-left)) ∙ s .rest
+
+  pub scanned-end : Runs (clear-clashes (standing work (y .progress))) work log (y .progress) new new-log (z .progress)
+  scanned-end = subst (λ (es : List Event). Runs es work log (y .progress) new new-log (z .progress)) all-happened (s .runs)
+
+  pub scanned-weighed : weights ≡ replicate input-size 0 → Weighed (resolved-into (λ d. 1) (clear-clashes (standing work (y .progress)))) (length (standing work (y .progress))) (standing new (z .progress)) heavier
+  scanned-weighed e =
+      zeros-weighed e (subst (λ (es : List Event). Reweighs es (standing work (y .progress)) weights (standing new (z .progress)) heavier) all-happened (s .reweighs))

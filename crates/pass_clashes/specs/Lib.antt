@@ -1,4 +1,5 @@
 pub mod Marking
 pub mod Clashes
 pub mod Resolving
+pub mod Weights
 pub mod Scan

@@ -1,19 +1,20 @@
-// Clearing clashes: a variable stands in one unique literal clause and its negation in another. One pass over the store marks the variables that clash; from then on marks are only cleared, and the lowest is next; its two clauses are looked up in the index.
+// Clearing clashes: a variable stands in one unique literal clause and its negation in another. One pass over the store marks the variables that clash; from then on marks are only cleared, and the lowest is next; its two clauses are looked up in the index. A table of weights of literals counts the input clauses of each clause that stands.
 ghost use mathlib.Core.Path.{_≡_};
 ghost use mathlib.Core.Bool.{true, false};
 ghost use mathlib.Core.List.{[], _∷_};
 ghost use Prim.Native.Nat.{_+_, _≤_, _<_, _^_};
 ghost use lib.Dec.{ltb};
 ghost use lib.IntN.{pos, natAbs};
-ghost use lib.ListN.{length, take, drop, getD, replicate};
+ghost use lib.ListN.{length, take, drop, getD, set, replicate};
 ghost use lib.Seq.{sets};
 ghost use Rattle.definition.specs.Lists.{any};
 ghost use Rattle.definition.specs.Literals.{without, opposed};
 ghost use Rattle.definition.specs.Events.{clash-cleared};
 ghost use Rattle.definition.specs.Clearing.{clear-clashes, resolvent};
+ghost use Rattle.definition.specs.Reencoding.{resolved-into};
 ghost use Rattle.theory_base.specs.Clauses.{Proper-all, Fit-all};
 ghost use Rattle.theory_clearing.specs.Clashing.{clashes};
-ghost use Rattle.literals.specs.Literal.{signed-of};
+ghost use Rattle.literals.specs.Literal.{signed-of, index-of};
 ghost use Rattle.tables.specs.Sizes.{input-reach, input-size};
 ghost use Rattle.tables.specs.Entries.{entry-of, tallied, with-entries};
 ghost use Rattle.marks.specs.Marks.{input-words};
@@ -24,6 +25,7 @@ ghost use Rattle.progress.specs.Growth.{Grown};
 ghost use Rattle.pass_clashes.specs.Marking.{both, Marked-both, Unmarked, unique-part, Marks-clashes};
 ghost use Rattle.pass_clashes.specs.Clashes.{clash-there, Clashing};
 ghost use Rattle.pass_clashes.specs.Resolving.{opposite-in, part-without, Copied, joined, Joinable, added-by, parent-lines, Resolvable, Parents, Parents-gone, Ended};
+ghost use Rattle.pass_clashes.specs.Weights.{Weighed, reweighed, weight, Light, Reweighs};
 ghost use Rattle.pass_clashes.specs.Scan.{Clash-ready, Searching, Scanned, turns-left};
 use marks::Lowest;
 use progress::Progress;
@@ -304,11 +306,36 @@ fn unmark_entry(marks: &mut [u32], store: &[i32], at: usize)
     unmark_variables(marks, &store[first..next]);
 }
 
-// Clears the clash of v whose clauses are at x and y, and the marks of the clashes that end with it: that of v; where the resolvent is not added, those of all variables of the two clauses.
+// Takes the weight of a variable or its negation away; the result is what it was.
+fn take_weight(weights: &mut [u32], is_negative: bool, v: u32) -> u32
+    ensures answer { λ r. ⌜ r ≡ entry-of (now (weights .entry)) (signed-of «is_negative» v) ⌝ }
+    ensures taken { λ _. ⌜ now (weights .exit) ≡ set (now (weights .entry)) (index-of (signed-of «is_negative» v)) 0 ⌝ }
+{
+    let l = literals::signed(is_negative, v);
+    let n = tables::entry_of(weights, l);
+    tables::set_entry(weights, l, 0);
+    n
+}
+
+// Gives the first literal of a resolvent, if it has one, the weights of v and -v, and 1.
+fn weigh(weights: &mut [u32], clause: &[i32], v: u32)
+    requires { ⌜ weight (now weights) < 2 ^ 31 ⌝ }
+    ensures { λ _. ⌜ now (weights .exit) ≡ reweighed (now (weights .entry)) (now (clause .entry)) v ⌝ }
+{
+    if 0 < clause.len() {
+        let a = take_weight(weights, false, v);
+        let b = take_weight(weights, true, v);
+        let n = tables::entry_of(weights, clause[0]);
+        tables::set_entry(weights, clause[0], a + b + n + 1);
+    }
+}
+
+// Clears the clash of v whose clauses are at x and y, and the marks of the clashes that end with it: that of v; where the resolvent is not added, those of all variables of the two clauses. A resolvent that is added is weighed.
 fn resolve(
     work: &mut [i32],
     newest: &mut [u32],
     table: &mut [u32],
+    weights: &mut [u32],
     log: &mut [u8],
     marks: &mut [u32],
     p: Progress,
@@ -316,11 +343,12 @@ fn resolve(
     x: usize,
     y: usize,
 ) -> Progress
-    requires { ⌜ Resolvable (now work) (now newest) p v x y × (now table ≡ replicate input-size 0) ⌝ }
+    requires { ⌜ Resolvable (now work) (now newest) p v x y × (now table ≡ replicate input-size 0) × Light (standing (now work) p) (now weights) ⌝ }
     ensures runs { λ r. ⌜ Runs (clash-cleared (clash-there (take (p .end) (now (work .entry))) v x y) ∷ []) (now (work .entry)) (now (log .entry)) p (now (work .exit)) (now (log .exit)) r ⌝ }
     ensures ended { λ _. ⌜ Ended (clash-there (take (p .end) (now (work .entry))) v x y) (now (marks .entry)) (now (marks .exit)) ⌝ }
     ensures indexed { λ r. ⌜ Indexed (now (work .exit)) (r .end) (now (newest .exit)) ⌝ }
     ensures table { λ _. ⌜ now (table .exit) ≡ replicate input-size 0 ⌝ }
+    ensures weights { λ r. ⌜ Reweighs (clash-cleared (clash-there (take (p .end) (now (work .entry))) v x y) ∷ []) (standing (now (work .entry)) p) (now (weights .entry)) (standing (now (work .exit)) r) (now (weights .exit)) ⌝ }
 {
     let end = p.end;
     if is_tautology(table, &work[..end], v, x, y) {
@@ -331,6 +359,8 @@ fn resolve(
     marks::clear(marks, v);
     let q = add_resolvent(work, newest, log, p, v, x, y);
     let grown = q.end;
+    let first = end + 1;
+    weigh(weights, &work[first..grown], v);
     delete_parents(&mut work[..grown], log, q, v, x, y)
 }
 
@@ -347,13 +377,14 @@ fn clear_next(
     work: &mut [i32],
     newest: &mut [u32],
     table: &mut [u32],
+    weights: &mut [u32],
     log: &mut [u8],
     marks: &mut [u32],
     s: Scan,
     step: usize,
 ) -> Scan
-    requires { ⌜ Searching step (now work) (now newest) (now table) (now marks) s × (s .word < length (now marks)) ⌝ }
-    ensures scanned { λ r. ⌜ Scanned step (now (work .entry)) (now (log .entry)) s (now (work .exit)) (now (newest .exit)) (now (table .exit)) (now (log .exit)) (now (marks .exit)) r ⌝ }
+    requires { ⌜ Searching step (now work) (now newest) (now table) (now weights) (now marks) s × (s .word < length (now marks)) ⌝ }
+    ensures scanned { λ r. ⌜ Scanned step (now (work .entry)) (now (weights .entry)) (now (log .entry)) s (now (work .exit)) (now (newest .exit)) (now (table .exit)) (now (weights .exit)) (now (log .exit)) (now (marks .exit)) r ⌝ }
     ensures fewer { λ r. ⌜ turns-left (now (work .exit)) r < turns-left (now (work .entry)) s ⌝ }
 {
     let before = s.progress;
@@ -362,7 +393,9 @@ fn clear_next(
             let p = progress::make_room(work, newest, before, step);
             let end = p.end;
             let at = find_clash(work, newest, end, v);
-            let q = resolve(work, newest, table, log, marks, p, v, at.one, at.other);
+            let x = at.one;
+            let y = at.other;
+            let q = resolve(work, newest, table, weights, log, marks, p, v, x, y);
             Scan {
                 progress: q,
                 word: marks::word_of(v),
@@ -380,42 +413,46 @@ fn clear_marked(
     work: &mut [i32],
     newest: &mut [u32],
     table: &mut [u32],
+    weights: &mut [u32],
     log: &mut [u8],
     marks: &mut [u32],
     p: Progress,
     step: usize,
 ) -> Progress
-    requires { ⌜ Clash-ready step (clear-clashes (standing (now work) p)) (now work) p × Indexed (now work) (p .end) (now newest) × (now table ≡ replicate input-size 0) ⌝ }
+    requires { ⌜ Clash-ready step (clear-clashes (standing (now work) p)) (now work) p × Indexed (now work) (p .end) (now newest) × (now table ≡ replicate input-size 0) × (now weights ≡ replicate input-size 0) ⌝ }
     requires { ⌜ Marks-clashes (standing (now work) p) (now marks) × (length (now marks) ≡ input-words) ⌝ }
     ensures runs { λ r. ⌜ Runs (clear-clashes (standing (now (work .entry)) p)) (now (work .entry)) (now (log .entry)) p (now (work .exit)) (now (log .exit)) r ⌝ }
     ensures indexed { λ r. ⌜ Indexed (now (work .exit)) (r .end) (now (newest .exit)) ⌝ }
     ensures table { λ _. ⌜ now (table .exit) ≡ replicate input-size 0 ⌝ }
+    ensures weighed { λ r. ⌜ Weighed (resolved-into (λ d. 1) (clear-clashes (standing (now (work .entry)) p))) (length (standing (now (work .entry)) p)) (standing (now (work .exit)) r) (now (weights .exit)) ⌝ }
 {
     let mut s = Scan {
         progress: p,
         word: 0,
     };
     while s.word < marks.len() {
-        s = clear_next(work, newest, table, log, marks, s, step);
+        s = clear_next(work, newest, table, weights, log, marks, s, step);
     }
     s.progress
 }
 
-// Clears all clashes of the store, the lowest variable first. There is room for what stands and so many elements more; a table of zeros is lent.
+// Clears all clashes of the store, the lowest variable first. There is room for what stands and so many elements more; a table of zeros is lent, and another takes the weights by which the input clauses of each clause are counted.
 pub fn clear_clashes(
     work: &mut [i32],
     newest: &mut [u32],
     table: &mut [u32],
+    weights: &mut [u32],
     log: &mut [u8],
     p: Progress,
     step: usize,
 ) -> Progress
-    requires { ⌜ Clash-ready step (clear-clashes (standing (now work) p)) (now work) p × Indexed (now work) (p .end) (now newest) × (now table ≡ replicate input-size 0) ⌝ }
+    requires { ⌜ Clash-ready step (clear-clashes (standing (now work) p)) (now work) p × Indexed (now work) (p .end) (now newest) × (now table ≡ replicate input-size 0) × (now weights ≡ replicate input-size 0) ⌝ }
     ensures runs { λ r. ⌜ Runs (clear-clashes (standing (now (work .entry)) p)) (now (work .entry)) (now (log .entry)) p (now (work .exit)) (now (log .exit)) r ⌝ }
     ensures indexed { λ r. ⌜ Indexed (now (work .exit)) (r .end) (now (newest .exit)) ⌝ }
     ensures table { λ _. ⌜ now (table .exit) ≡ replicate input-size 0 ⌝ }
+    ensures weighed { λ r. ⌜ Weighed (resolved-into (λ d. 1) (clear-clashes (standing (now (work .entry)) p))) (length (standing (now (work .entry)) p)) (standing (now (work .exit)) r) (now (weights .exit)) ⌝ }
 {
     let mut marks = [0u32; marks::INPUT_WORDS];
     mark_clashes(&mut marks, work, p);
-    clear_marked(work, newest, table, log, &mut marks, p, step)
+    clear_marked(work, newest, table, weights, log, &mut marks, p, step)
 }

@@ -31,7 +31,7 @@ use Rattle.progress.proofs.Laws.{written-none, written-then, room-first
 entries-++ : (f g : Formula) → entries (f ++ g) ≡ entries f ++ entries g
 entries-++ f g = for-each-++ f g entry
 
-entries-one : (c : Clause) → entries (c ∷ []) ≡ entry c
+pub entries-one : (c : Clause) → entries (c ∷ []) ≡ entry c
 unfolding for-each
 entries-one c = append-nil (entry c)
 

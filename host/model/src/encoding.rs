@@ -7,7 +7,7 @@ use crate::order::put_in_order;
 use crate::reading::Formula;
 use crate::standing::Standing;
 use crate::texts::Line;
-use crate::{Arrangement, Form};
+use crate::{Arrangement, ChoiceRecord, Form, Settings};
 
 /// How often the remarkable cases occurred.
 #[derive(Debug, Clone, Default, PartialEq, Eq)]
@@ -71,60 +71,88 @@ pub struct Encoding {
     pub input_clauses: usize,
     /// For each place: the places that its clause came from.
     parents: Vec<Vec<usize>>,
+    /// For each place: the number of input clauses that went into its clause.
+    input_counts: Vec<usize>,
     /// The choices as they were taken, and the places they stood at.
     pub choices: Vec<(usize, Vec<i32>)>,
+    /// A record for each choice, in the same order.
+    pub table: Vec<ChoiceRecord>,
     /// The highest variable used, at least V.
     pub highest: i32,
     pub tally: Tally,
 }
 
+/// The least number above all used that is 1 more than a multiple of the step.
+fn first_above(used: i32, step: u32) -> i32 {
+    let is_wanted = |number: &i32| (number - 1) % step as i32 == 0;
+    (used + 1..).find(is_wanted).expect("numbers do not end")
+}
+
 impl Encoding {
-    pub fn run(formula: &Formula, form: Form, arrangement: Arrangement) -> Encoding {
+    /// The step is from 1 to 100.
+    pub fn run(formula: &Formula, settings: Settings) -> Encoding {
         let mut encoding = Encoding {
             standing: Standing::new(&formula.clauses),
             log: Vec::new(),
             input_clauses: formula.clauses.len(),
             parents: vec![Vec::new(); formula.clauses.len()],
+            input_counts: vec![1; formula.clauses.len()],
             choices: Vec::new(),
+            table: Vec::new(),
             highest: formula.variables,
             tally: Tally::default(),
         };
         clear_clashes(&mut encoding, formula.variables);
         delete_pure(&mut encoding);
-
-        let places = choice_places(&encoding.standing);
-        let mut choices: Vec<Vec<i32>> = places.iter().map(|&p| encoding.clause(p)).collect();
-        if arrangement == Arrangement::Alignment {
-            match align(&mut choices, &encoding.standing.clauses()) {
-                Outcome::Aligned { chained } => {
-                    encoding.tally.aligned += 1;
-                    encoding.tally.chained_links += usize::from(chained);
-                }
-                Outcome::Unalignable => encoding.tally.unalignable += 1,
-                Outcome::Unlinked => {}
-            }
-        }
-        encoding.choices = places.into_iter().zip(choices.iter().cloned()).collect();
-
-        for choice in choices {
-            let first = encoding.highest + 1;
-            let steps: Vec<i32> = (first..).take(choice.len() - 1).collect();
-            encoding.highest += steps.len() as i32;
-            let own = take_choice(&mut encoding, &choice, &steps);
-            if form == Form::Order {
-                put_in_order(&mut encoding, &choice, &steps, &own);
-            }
+        encoding.choose(settings.arrangement);
+        for (place, choice) in encoding.choices.clone() {
+            encoding.take(place, &choice, settings);
         }
         encoding
     }
 
-    /// Writes an addition and does it; the answer is the new clause's place.
+    /// Finds the choices, and aligns them if that is wished.
+    fn choose(&mut self, arrangement: Arrangement) {
+        let places = choice_places(&self.standing);
+        let mut choices: Vec<Vec<i32>> = places.iter().map(|&p| self.clause(p)).collect();
+        if arrangement == Arrangement::Alignment {
+            match align(&mut choices, &self.standing.clauses()) {
+                Outcome::Aligned { chained } => {
+                    self.tally.aligned += 1;
+                    self.tally.chained_links += usize::from(chained);
+                }
+                Outcome::Unalignable => self.tally.unalignable += 1,
+                Outcome::Unlinked => {}
+            }
+        }
+        self.choices = places.into_iter().zip(choices).collect();
+    }
+
+    /// Takes one choice, with new variables that follow the first one by one.
+    fn take(&mut self, place: usize, choice: &[i32], settings: Settings) {
+        let first = first_above(self.highest, settings.step);
+        let new: Vec<i32> = (first..).take(choice.len() - 1).collect();
+        self.highest = *new.last().expect("a choice has at least five literals");
+        self.table.push(ChoiceRecord {
+            first,
+            length: choice.len(),
+            clauses: self.input_counts[place],
+        });
+        let own = take_choice(self, choice, &new);
+        if settings.form == Form::Order {
+            put_in_order(self, choice, &new, &own);
+        }
+    }
+
+    /// Writes an addition and does it; the answer is the new clause's place. What went into the parents went into it.
     pub fn add(&mut self, literals: Vec<i32>, parents: &[usize]) -> usize {
         self.log.push(Line {
             deletion: false,
             literals: literals.clone(),
         });
         self.parents.push(parents.to_vec());
+        let counts = parents.iter().map(|&parent| self.input_counts[parent]);
+        self.input_counts.push(counts.sum());
         self.standing.add(literals)
     }
 

@@ -7,7 +7,7 @@ use crate::reading::Formula;
 use crate::standing::holds_opposites;
 use crate::texts::{formula_text, Line};
 use crate::walk_back::{highest_allowed, is_true, replay};
-use crate::{Arrangement, Form};
+use crate::{Arrangement, Form, Settings};
 use std::collections::HashSet;
 
 /// An xorshift generator.
@@ -231,10 +231,16 @@ fn cover(random: &mut Random, chosen: &[Vec<i32>], others: &mut [Vec<i32>]) {
     }
 }
 
+fn choices_of(formula: &Formula) -> Vec<Vec<i32>> {
+    let settings = Settings::new(Form::Counter, Arrangement::AsListed);
+    let choices = Encoding::run(formula, settings).choices;
+    choices.into_iter().map(|(_, choice)| choice).collect()
+}
+
 /// Up to three literals of each choice of the formula, of some choices all.
 fn some_literals_of_choices(random: &mut Random, formula: &Formula) -> Vec<i32> {
     let mut some = Vec::new();
-    for (_, mut choice) in Encoding::run(formula, Form::Counter, Arrangement::AsListed).choices {
+    for mut choice in choices_of(formula) {
         random.shuffle(&mut choice);
         if !random.chance(20) {
             choice.truncate(random.below(4));
@@ -254,7 +260,7 @@ pub fn freed(random: &mut Random, mut formula: Formula) -> Formula {
 
 /// The formula with more pairs of its choices: of each choice some or all, a few in both orders.
 pub fn paired(random: &mut Random, mut formula: Formula) -> Formula {
-    for (_, choice) in Encoding::run(&formula, Form::Counter, Arrangement::AsListed).choices {
+    for choice in choices_of(&formula) {
         let mut pairs = pairs(&choice);
         random.shuffle(&mut pairs);
         if random.chance(50) {
@@ -269,6 +275,35 @@ pub fn paired(random: &mut Random, mut formula: Formula) -> Formula {
         }
     }
     random.shuffle(&mut formula.clauses);
+    formula
+}
+
+/// The formula with one choice that is an input clause cut into two to four clauses, which clash on new variables.
+pub fn cut_apart(random: &mut Random, mut formula: Formula) -> Formula {
+    let settings = Settings::new(Form::Counter, Arrangement::AsListed);
+    let mut choices = Encoding::run(&formula, settings).choices;
+    choices.retain(|&(place, _)| place < formula.clauses.len());
+    if choices.is_empty() {
+        return formula;
+    }
+    let (place, literals) = random.one_of(&choices);
+    let mut parts: Vec<Vec<i32>> = vec![Vec::new(); random.between(2, 4)];
+    for &literal in literals {
+        let part = random.below(parts.len());
+        parts[part].push(literal);
+    }
+    for part in 1..parts.len() {
+        formula.variables += 1;
+        let clashing = random.sign(formula.variables);
+        let before = random.below(part);
+        parts[before].push(clashing);
+        parts[part].push(-clashing);
+    }
+    parts.iter_mut().for_each(|part| random.shuffle(part));
+    formula.clauses.splice(place..=place, parts);
+    if random.chance(50) {
+        random.shuffle(&mut formula.clauses);
+    }
     formula
 }
 

@@ -1,5 +1,5 @@
-//! A plain model of document 01 (choice clauses, counters and the way back) and of M-100, M-112, M-130 and
-//! M-152 in document 02.
+//! A plain model of document 01 (choice clauses, counters and the way back) and of M-100, M-112, M-118, M-130
+//! and M-152 in document 02.
 //!
 //! Three calls: [`reencode`], [`read_back`] and [`walk_back`]. Each gives its
 //! result or the number of its refusal.
@@ -24,6 +24,7 @@ pub mod walk_back;
 pub use walk_back::walk_back;
 
 use encoding::Encoding;
+use log_reading::HIGHEST_VARIABLE;
 use reading::{read_formula, INPUT_LIMITS, READ_BACK_LIMITS};
 use texts::{formula_text, log_text};
 
@@ -40,6 +41,62 @@ pub enum Arrangement {
     Alignment,
 }
 
+/// What the caller asks of a reencoding.
+#[derive(Debug, Clone, Copy, PartialEq, Eq)]
+pub struct Settings {
+    pub form: Form,
+    pub arrangement: Arrangement,
+    /// g: a choice's first new variable is 1 more than a multiple of it.
+    pub step: u32,
+}
+
+impl Settings {
+    /// With step 1, which skips no number.
+    pub fn new(form: Form, arrangement: Arrangement) -> Settings {
+        Settings {
+            form,
+            arrangement,
+            step: 1,
+        }
+    }
+}
+
+/// What the caller lends for a reencoding.
+#[derive(Debug, Clone, Copy, PartialEq, Eq)]
+pub struct Room {
+    /// In 32-bit entries.
+    pub workspace: u64,
+    /// In bytes.
+    pub log: usize,
+    /// In bytes.
+    pub formula: usize,
+    /// In records.
+    pub table: usize,
+}
+
+impl Room {
+    /// The greatest of each.
+    pub fn enough() -> Room {
+        Room {
+            workspace: u64::MAX,
+            log: usize::MAX,
+            formula: usize::MAX,
+            table: usize::MAX,
+        }
+    }
+}
+
+/// One record of the table, for one choice.
+#[derive(Debug, Clone, Copy, PartialEq, Eq)]
+pub struct ChoiceRecord {
+    /// Its first new variable.
+    pub first: i32,
+    /// Its number of literals.
+    pub length: usize,
+    /// The number of input clauses resolved into it, 1 for an input clause itself.
+    pub clauses: usize,
+}
+
 #[derive(Debug, Clone, PartialEq, Eq)]
 pub struct Reencoded {
     pub choices: usize,
@@ -50,29 +107,33 @@ pub struct Reencoded {
     pub lines: usize,
     pub log: Vec<u8>,
     pub formula: Vec<u8>,
+    /// In the order in which the choices are taken.
+    pub table: Vec<ChoiceRecord>,
 }
 
-/// Refuses with 1 to 4 or 7 to 9, then 11, 12, 13.
-pub fn reencode(
-    text: &[u8],
-    form: Form,
-    arrangement: Arrangement,
-    workspace: u64,
-    log_room: usize,
-    formula_room: usize,
-) -> Result<Reencoded, u8> {
+/// Refuses with 15, then 1 to 4 or 7 to 9, then 11, 16, 17, 12, 13.
+pub fn reencode(text: &[u8], settings: Settings, room: Room) -> Result<Reencoded, u8> {
+    if !(1..=100).contains(&settings.step) {
+        return Err(15);
+    }
     let formula = read_formula(text, &INPUT_LIMITS)?;
-    if workspace < formula.workspace_needed() {
+    if room.workspace < formula.workspace_needed() {
         return Err(11);
     }
-    let encoding = Encoding::run(&formula, form, arrangement);
+    let encoding = Encoding::run(&formula, settings);
+    if i64::from(encoding.highest) > HIGHEST_VARIABLE {
+        return Err(16);
+    }
+    if encoding.table.len() > room.table {
+        return Err(17);
+    }
     let standing = encoding.standing.clauses();
     let log = log_text(&encoding.log);
-    if log.len() > log_room {
+    if log.len() > room.log {
         return Err(12);
     }
     let new_formula = formula_text(encoding.highest, &standing);
-    if new_formula.len() > formula_room {
+    if new_formula.len() > room.formula {
         return Err(13);
     }
     Ok(Reencoded {
@@ -82,6 +143,7 @@ pub fn reencode(
         lines: encoding.log.len(),
         log,
         formula: new_formula,
+        table: encoding.table,
     })
 }
 

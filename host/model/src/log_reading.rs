@@ -4,7 +4,8 @@ use crate::reading::number;
 use crate::texts::Line;
 use std::collections::HashSet;
 
-const HIGHEST_VARIABLE: i64 = 70_000;
+/// The highest variable of a log and of a new formula.
+pub const HIGHEST_VARIABLE: i64 = 70_000;
 
 /// One line without its LF, if it is in the layout.
 fn read_line(line: &[u8]) -> Option<Line> {

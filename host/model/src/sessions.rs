@@ -12,3 +12,6 @@ pub const SIX: &str = "p cnf 6 1\n1 2 3 4 5 6 0\n";
 /// A choice of five, two of its pairs in two copies each.
 pub const COPIES: &str =
     "p cnf 5 9\n1 2 3 4 5 0\n-1 -2 0\n-1 -3 0\n-2 -1 0\n-3 -1 0\n-4 0\n-4 0\n-5 0\n-5 0\n";
+
+/// Three clauses that two clashes join to a choice of six.
+pub const CHAIN: &str = "p cnf 8 3\n1 2 3 0\n-3 4 5 0\n-5 6 7 8 0\n";

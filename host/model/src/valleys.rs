@@ -95,7 +95,7 @@ mod tests {
     use crate::encoding::Encoding;
     use crate::generator::text_of;
     use crate::reading::{read_formula, INPUT_LIMITS};
-    use crate::{Arrangement, Form};
+    use crate::{Arrangement, Form, Settings};
 
     #[test]
     fn a_crowd_is_in_range_of_each_other() {
@@ -124,8 +124,8 @@ mod tests {
             Ok(formula.clone())
         );
         for form in [Form::Counter, Form::Order] {
-            let listed = Encoding::run(&formula, form, Arrangement::AsListed);
-            let aligned = Encoding::run(&formula, form, Arrangement::Alignment);
+            let listed = Encoding::run(&formula, Settings::new(form, Arrangement::AsListed));
+            let aligned = Encoding::run(&formula, Settings::new(form, Arrangement::Alignment));
             assert_eq!((aligned.choices.len(), aligned.tally.aligned), (49, 1));
             assert_ne!(listed.log, aligned.log);
         }

@@ -8,15 +8,18 @@ use model::generator::{
 use model::reading::{read_formula, INPUT_LIMITS};
 use model::texts::log_text;
 use model::walk_back::satisfies;
-use model::{read_back, reencode, walk_back, Arrangement, Form};
+use model::{read_back, reencode, walk_back, Arrangement, Form, Room, Settings};
 use std::collections::BTreeMap;
 
-fn one_way(random: &mut Random) -> (Form, Arrangement) {
+/// One way, with one of the steps.
+fn one_way(random: &mut Random, steps: &[u32]) -> Settings {
     let form = *random.one_of(&[Form::Counter, Form::Order]);
-    (
-        form,
-        *random.one_of(&[Arrangement::AsListed, Arrangement::Alignment]),
-    )
+    let arrangement = *random.one_of(&[Arrangement::AsListed, Arrangement::Alignment]);
+    let step = *random.one_of(steps);
+    Settings {
+        step,
+        ..Settings::new(form, arrangement)
+    }
 }
 
 #[test]
@@ -34,22 +37,27 @@ fn damaged_formulas() {
         for _ in 0..random.below(3) {
             text = damage(&mut random, &text);
         }
-        let (form, arrangement) = one_way(&mut random);
-        let workspace = 8_192 + random.below(4_000) as u64;
-        let (log_room, formula_room) = (random.below(1_000), random.below(400));
-        match reencode(&text, form, arrangement, workspace, log_room, formula_room) {
+        let settings = one_way(&mut random, &[0, 1, 1, 1, 1, 2, 3, 7, 39, 100, 101]);
+        let room = Room {
+            workspace: 8_192 + random.below(4_000) as u64,
+            log: random.below(1_000),
+            formula: random.below(400),
+            table: random.below(3),
+        };
+        match reencode(&text, settings, room) {
             Ok(result) => {
                 *numbers.entry(0).or_default() += 1;
                 let (highest, clauses) = read_back(&result.formula, 1 << 40).unwrap();
                 assert_eq!((highest, clauses.len()), (result.highest, result.clauses));
-                assert!(result.log.len() <= log_room && result.formula.len() <= formula_room);
+                assert!(result.log.len() <= room.log && result.formula.len() <= room.formula);
+                assert!(result.table.len() == result.choices && result.choices <= room.table);
             }
             Err(number) => *numbers.entry(number).or_default() += 1,
         }
     }
     println!("{numbers:?}");
     let seen: Vec<u8> = numbers.keys().copied().collect();
-    assert_eq!(seen, [0, 1, 2, 3, 4, 7, 8, 11, 12, 13]);
+    assert_eq!(seen, [0, 1, 2, 3, 4, 7, 8, 11, 12, 13, 15, 17]);
 }
 
 #[test]
@@ -60,8 +68,8 @@ fn damaged_logs_and_answers() {
         let size = random.between(2, 7);
         let formula = planned(&mut random, size, 8);
         let Joined { mut text, formula } = one_of_three_joined(&mut random, formula);
-        let (form, arrangement) = one_way(&mut random);
-        let encoding = Encoding::run(&formula, form, arrangement);
+        let settings = one_way(&mut random, &[1, 1, 2, 7]);
+        let encoding = Encoding::run(&formula, settings);
         let mut lines = encoding.log.clone();
         if random.chance(30) {
             lines = damage_log(&mut random, &lines);

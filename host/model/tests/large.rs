@@ -2,7 +2,11 @@
 
 use model::generator::{clauses_apart, largest_with, text_of};
 use model::reading::{read_formula, Formula, Limits, INPUT_LIMITS, READ_BACK_LIMITS};
-use model::{read_back, reencode, walk_back, Arrangement, Form};
+use model::{read_back, reencode, walk_back, Arrangement, Form, Room, Settings};
+
+fn aligned(form: Form) -> Settings {
+    Settings::new(form, Arrangement::Alignment)
+}
 
 #[test]
 fn twenty_thousand_clauses() {
@@ -10,8 +14,7 @@ fn twenty_thousand_clauses() {
         let text = largest_with(size);
         for form in [Form::Counter, Form::Order] {
             let room = 1 << 30;
-            let result =
-                reencode(&text, form, Arrangement::Alignment, 1 << 40, room, room).unwrap();
+            let result = reencode(&text, aligned(form), Room::enough()).unwrap();
             assert!(result.choices > 100);
             let (highest, clauses) = read_back(&result.formula, 1 << 40).unwrap();
             assert_eq!((highest, clauses.len()), (result.highest, result.clauses));
@@ -33,8 +36,11 @@ fn workspace_of_a_free_choice_of_64() {
     let text = text_of(&clauses_apart(64, 1));
     for form in [Form::Counter, Form::Order] {
         let encode = |workspace| {
-            let room = 1 << 20;
-            reencode(&text, form, Arrangement::Alignment, workspace, room, room)
+            let room = Room {
+                workspace,
+                ..Room::enough()
+            };
+            reencode(&text, aligned(form), room)
         };
         let whole = encode(1 << 40).unwrap();
         assert_eq!((whole.choices, whole.highest), (1, 127));
@@ -53,9 +59,7 @@ fn eight_thousand_variables_in_free_choices() {
     ] {
         let text = text_of(&clauses_apart(size, count));
         for (form, tally) in [Form::Counter, Form::Order].into_iter().zip(tallies) {
-            let room = 1 << 30;
-            let result =
-                reencode(&text, form, Arrangement::Alignment, 1 << 40, room, room).unwrap();
+            let result = reencode(&text, aligned(form), Room::enough()).unwrap();
             assert_eq!((result.clauses, result.lines), tally);
             assert_eq!(result.choices, count);
             assert_eq!(result.highest, highest);
@@ -70,8 +74,8 @@ fn eight_thousand_variables_in_free_choices() {
 fn free_choices_walked_back() {
     for (size, count) in [(64, 125), (5, 1_600)] {
         let (text, room) = (text_of(&clauses_apart(size, count)), 1 << 30);
-        let arrangement = Arrangement::AsListed;
-        let result = reencode(&text, Form::Order, arrangement, 1 << 40, room, room).unwrap();
+        let settings = Settings::new(Form::Order, Arrangement::AsListed);
+        let result = reencode(&text, settings, Room::enough()).unwrap();
         let answer = format!("s SATISFIABLE\nv {}", clause(1..=8_000, 1));
         let (log, lines) = (&result.log, result.lines);
         let walked = walk_back(&text, log, lines, answer.as_bytes(), 1 << 40, room);
@@ -159,8 +163,14 @@ fn a_clause_left_out_adds_nothing() {
 fn twenty_thousand_clauses_left_out() {
     let encode = |more: &str, workspace| {
         let text = format!("p cnf 1 20000\n{}{more}", "1 -1 0\n".repeat(20_000));
-        let (form, arrangement) = (Form::Counter, Arrangement::AsListed);
-        reencode(text.as_bytes(), form, arrangement, workspace, 0, 100).map(|result| result.formula)
+        let settings = Settings::new(Form::Counter, Arrangement::AsListed);
+        let room = Room {
+            workspace,
+            log: 0,
+            formula: 100,
+            table: 0,
+        };
+        reencode(text.as_bytes(), settings, room).map(|result| result.formula)
     };
     let needed = 4 * 20_000 + 12 + 8_192;
     assert_eq!(encode("", needed), Ok(b"p cnf 1 0\n".to_vec()));

@@ -5,7 +5,7 @@ use model::generator::{all_but_one, clashing_at_1, forbidding};
 use model::reading::{read_formula, INPUT_LIMITS};
 use model::sessions::{COPIES, F, JOINED_E, SIX};
 use model::texts::{count_true, formula_text};
-use model::{read_back, reencode, walk_back, Arrangement, Form, Reencoded};
+use model::{read_back, reencode, walk_back, Arrangement, Form, Reencoded, Room, Settings};
 use std::slice::from_ref;
 
 const PLENTY: usize = 1 << 30;
@@ -13,27 +13,15 @@ const G_OUT: &str = "p cnf 10 8\n8 -7 0\n9 -8 0\n10 -9 0\n-7 6 0\n7 -8 6 0\n8 -9
                      9 -10 -6 0\n10 -6 0\n";
 
 fn encode(text: &str, form: Form) -> Reencoded {
-    reencode(
-        text.as_bytes(),
-        form,
-        Arrangement::AsListed,
-        1 << 40,
-        PLENTY,
-        PLENTY,
-    )
-    .unwrap()
+    reencode(text.as_bytes(), as_listed(form), Room::enough()).unwrap()
+}
+
+fn as_listed(form: Form) -> Settings {
+    Settings::new(form, Arrangement::AsListed)
 }
 
 fn refusal(text: &str) -> u8 {
-    reencode(
-        text.as_bytes(),
-        Form::Counter,
-        Arrangement::AsListed,
-        1 << 40,
-        PLENTY,
-        PLENTY,
-    )
-    .unwrap_err()
+    reencode(text.as_bytes(), as_listed(Form::Counter), Room::enough()).unwrap_err()
 }
 
 fn expect(text: &str, log: &str, formula: &str) {
@@ -384,7 +372,8 @@ fn two_choices(links: &[&str]) -> String {
 }
 
 fn log_with(arrangement: Arrangement, form: Form, text: &str) -> String {
-    let result = reencode(text.as_bytes(), form, arrangement, 1 << 40, PLENTY, PLENTY).unwrap();
+    let settings = Settings::new(form, arrangement);
+    let result = reencode(text.as_bytes(), settings, Room::enough()).unwrap();
     assert_eq!(result.choices, 2);
     String::from_utf8(result.log).unwrap()
 }
@@ -443,15 +432,14 @@ fn short_workspace_and_buffers_of_reencoding() {
     for form in [Form::Counter, Form::Order] {
         let whole = encode(F, form);
         let (log, formula) = (whole.log.len(), whole.formula.len());
-        let call = |workspace, log_room, formula_room| {
-            reencode(
-                F.as_bytes(),
-                form,
-                Arrangement::AsListed,
+        let call = |workspace, log, formula| {
+            let room = Room {
                 workspace,
-                log_room,
-                formula_room,
-            )
+                log,
+                formula,
+                table: 1,
+            };
+            reencode(F.as_bytes(), as_listed(form), room)
         };
         assert_eq!(call(needed, log, formula), Ok(whole));
         assert_eq!(call(needed - 1, log - 1, formula - 1), Err(11));
@@ -612,8 +600,11 @@ fn workspace_of_session_e_joined() {
     let text = JOINED_E.as_bytes();
     let needed = 40 * 4 + 4 * 3 + 12 * 3 + 8_192;
     let encode = |workspace| {
-        let (form, arrangement) = (Form::Counter, Arrangement::AsListed);
-        reencode(text, form, arrangement, workspace, PLENTY, PLENTY)
+        let room = Room {
+            workspace,
+            ..Room::enough()
+        };
+        reencode(text, as_listed(Form::Counter), room)
     };
     assert_eq!(encode(needed), Ok(encode(1 << 40).unwrap()));
     assert_eq!(encode(needed - 1), Err(11));

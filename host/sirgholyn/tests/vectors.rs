@@ -14,8 +14,8 @@ fn compare(text: &[u8]) -> u8 {
     let mut number = 0;
     for (form, arrangement) in WAYS {
         let (model_form, model_wish) = in_model(form, arrangement);
-        let most = usize::MAX;
-        let expected = model::reencode(text, model_form, model_wish, u64::MAX, most, most);
+        let settings = model::Settings::new(model_form, model_wish);
+        let expected = model::reencode(text, settings, model::Room::enough());
         let found = vectors::reencode(text, form, arrangement);
         let seen = || format!("{form:?} {arrangement:?} {}", String::from_utf8_lossy(text));
         match (expected, found) {

@@ -23,7 +23,11 @@ type Way = (Form, Arrangement);
 
 fn by_model(text: &[u8], (form, arrangement): Way, work: usize) -> Result<model::Reencoded, u8> {
     let (form, wish) = in_model(form, arrangement);
-    model::reencode(text, form, wish, work as u64, usize::MAX, usize::MAX)
+    let room = model::Room {
+        workspace: work as u64,
+        ..model::Room::enough()
+    };
+    model::reencode(text, model::Settings::new(form, wish), room)
 }
 
 /// Whether all clauses of the run and two entries for each of their literals are more than the rule asks for, so that
@@ -117,6 +121,8 @@ fn long_logs() {
             lines: new.lines,
             log: new.log,
             formula: new.formula,
+            // the library gives none, so it is not compared
+            table: Vec::new(),
         };
         let room = Room {
             work: work_for(&formula),

@@ -10,7 +10,7 @@ slice-aggregate-mark-clashes c = search needs
 
 mark-clashes-requires : tie.Need-mark-clashes-requires
 mark-clashes-requires c κs =
-    let start = c .before .before .before .before .before in
+    let start = c .before .before .before .before .before .before in
     (good-first [] _ (start .pre .0 .good), refl)
 
 slice-aggregate-clear-marked : tie.Need-slice-aggregate-clear-marked
@@ -31,6 +31,9 @@ same-length-3 c = search needs
 same-length-4 : tie.Need-same-length-4
 same-length-4 c = search needs
 
+same-length-5 : tie.Need-same-length-5
+same-length-5 c = search needs
+
 returns : tie.Need-returns
 returns c = search needs
 
@@ -46,4 +49,5 @@ clear-clashes-spec =
     same-length-2
     same-length-3
     same-length-4
+    same-length-5
     returns)

@@ -2,12 +2,14 @@
 //! gives. All that is written in the checker's language stands in this file.
 
 use crate::rows::{Call, Outcome, Row};
-use model::{Arrangement, Form};
+use model::{Arrangement, ChoiceRecord, Form, Room, Settings};
 
 /// What the rows' theorems share: settings, and tests of what a call gives. `computing` opens all that a
 /// row computes with.
 pub const GIVEN: &str = "-- Settings, and tests of what the definition's calls give.
-use mathlib.Core.Bool.{Bool, _&&_}
+use Prim.Native.Nat.{ℕ}
+use mathlib.Core.Bool.{Bool, true, false, _&&_}
+use mathlib.Core.List.{List, [], _∷_}
 use Prim.Native.String.{String}
 use lib.Dec.{eqb}
 use Rattle.definition.specs.Lists
@@ -21,6 +23,7 @@ use Rattle.definition.specs.Reading.{Input}
 use Rattle.definition.specs.Standing
 use Rattle.definition.specs.Assignments
 use Rattle.definition.specs.Clearing
+use Rattle.definition.specs.Events.{Choice-record}
 use Rattle.definition.specs.Counter
 use Rattle.definition.specs.Order
 use Rattle.definition.specs.Alignment
@@ -32,23 +35,45 @@ use Rattle.definition.specs.LogReading
 use Rattle.definition.specs.Answer
 use Rattle.definition.specs.Calls
 use Rattle.definition.specs.Calls.{Tally, Reencoded}
-use Rattle.definition.specs.Sessions.{counter, order, good, is-fault}
+use Rattle.definition.specs.Sessions.{good, is-fault}
 
-unfoldable pub counter-aligned : Settings
-counter-aligned = record { form = Reencoding.counter-form; arrangement = Alignment.alignment }
+-- settings by their step
+unfoldable pub counter-by : ℕ → Settings
+counter-by g = record { form = Reencoding.counter-form; arrangement = Alignment.as-listed; step = g }
 
-unfoldable pub order-aligned : Settings
-order-aligned = record { form = Reencoding.order-form; arrangement = Alignment.alignment }
+unfoldable pub counter-aligned-by : ℕ → Settings
+counter-aligned-by g = record { form = Reencoding.counter-form; arrangement = Alignment.alignment; step = g }
+
+unfoldable pub order-by : ℕ → Settings
+order-by g = record { form = Reencoding.order-form; arrangement = Alignment.as-listed; step = g }
+
+unfoldable pub order-aligned-by : ℕ → Settings
+order-aligned-by g = record { form = Reencoding.order-form; arrangement = Alignment.alignment; step = g }
 
 unfoldable pub same-tally : Tally → Tally → Bool
 same-tally a b =
     eqb (a .choices) (b .choices) && eqb (a .highest) (b .highest) && eqb (a .clauses) (b .clauses)
     && eqb (a .lines) (b .lines) && eqb (a .log-bytes) (b .log-bytes) && eqb (a .formula-bytes) (b .formula-bytes)
 
--- the result, the log and the new formula
-unfoldable pub reencoded : Tally → String → String → Reencoded → Bool
-reencoded tally log out r =
+-- a record by its first variable, its length and its count of input clauses
+unfoldable pub entry : ℕ → ℕ → ℕ → Choice-record
+entry v k n = record { first = v; length = k; clauses = n }
+
+unfoldable pub same-entry : Choice-record → Choice-record → Bool
+same-entry a b = eqb (a .first) (b .first) && eqb (a .length) (b .length) && eqb (a .clauses) (b .clauses)
+
+unfoldable pub same-table : List Choice-record → List Choice-record → Bool
+unfolding same-entry
+same-table [] [] = true
+same-table [] (b ∷ bs) = false
+same-table (a ∷ as') [] = false
+same-table (a ∷ as') (b ∷ bs) = same-entry a b && same-table as' bs
+
+-- the result, the log, the new formula and the table
+unfoldable pub reencoded : Tally → String → String → List Choice-record → Reencoded → Bool
+reencoded tally log out table r =
     same-tally tally (r .tally) && same-bytes (bytes log) (r .log) && same-bytes (bytes out) (r .formula)
+    && same-table table (r .table)
 
 -- what is read back, written again
 unfoldable pub read : String → Input → Bool
@@ -60,23 +85,25 @@ line out t = same-bytes (bytes out) t
 
 -- the choices, laid out like added lines
 unfoldable pub choices : String → Input → Bool
-choices out i = same-bytes (bytes out) (for-each (chosen counter i) clause-text)
+choices out i = same-bytes (bytes out) (for-each (chosen (counter-by 1) i) clause-text)
 
 unfoldable pub computing : Unit {0}
-unfolding counter order counter-aligned order-aligned good is-fault same-tally reencoded read line choices Lists.computing Checked.computing Literals.computing Text.computing Reading.computing Standing.computing Assignments.computing Clearing.computing Counter.computing Order.computing Alignment.computing Reencoding.computing Log.computing LogReading.computing Answer.computing Calls.computing
+unfolding counter-by order-by counter-aligned-by order-aligned-by good is-fault same-tally entry same-entry same-table reencoded read line choices Lists.computing Checked.computing Literals.computing Text.computing Reading.computing Standing.computing Assignments.computing Clearing.computing Counter.computing Order.computing Alignment.computing Reencoding.computing Log.computing LogReading.computing Answer.computing Calls.computing
 computing = tt
 ";
 
 /// The files of the rows' crate.
 pub const LIB: &str = "pub mod Given\npub mod Rows\n";
 
-const USES: &str = "use lib.Dec.{T}
+const USES: &str = "use mathlib.Core.List.{[], _∷_}
+use lib.Dec.{T}
 use Rattle.definition.specs.Text.{bytes}
 use Rattle.definition.specs.Reading.{input-limits, read-formula}
 use Rattle.definition.specs.Calls.{reencode, read-back, walk-back}
-use Rattle.definition.specs.Sessions.{counter, order, good, is-fault}
+use Rattle.definition.specs.Sessions.{good, is-fault}
 use Rattle.rows.specs.Given
-use Rattle.rows.specs.Given.{counter-aligned, order-aligned, reencoded, read, line, choices}
+use Rattle.rows.specs.Given.{counter-by, counter-aligned-by, order-by, order-aligned-by}
+use Rattle.rows.specs.Given.{entry, reencoded, read, line, choices}
 ";
 
 /// A theorem for each row, under its name.
@@ -97,9 +124,11 @@ pub fn row_text(row: &Row) -> String {
             tally,
             log,
             formula,
+            table,
         } => {
             let [tally, log, formula] = [tally_text(tally), quoted(log), quoted(formula)];
-            format!("good ({call}) (reencoded {tally} {log} {formula})")
+            let table = table_text(table);
+            format!("good ({call}) (reencoded {tally} {log} {formula} {table})")
         }
         Outcome::Read(text) => format!("good ({call}) (read {})", quoted(text)),
         Outcome::Line(text) => format!("good ({call}) (line {})", quoted(text)),
@@ -110,10 +139,14 @@ pub fn row_text(row: &Row) -> String {
 fn call_text(call: &Call) -> String {
     match call {
         Call::Reencode(call) => {
-            let settings = settings(call.form, call.arrangement);
-            let (work, log, formula) = (call.work, call.log_room, call.formula_room);
-            let text = quoted(&call.text);
-            format!("reencode {settings} {work} {log} {formula} (bytes {text})")
+            let (settings, text) = (settings(call.settings), quoted(&call.text));
+            let Room {
+                workspace,
+                log,
+                formula,
+                table,
+            } = call.room;
+            format!("reencode {settings} {workspace} {log} {formula} {table} (bytes {text})")
         }
         Call::ReadBack { work, text } => format!("read-back {work} (bytes {})", quoted(text)),
         Call::WalkBack(call) => {
@@ -126,13 +159,25 @@ fn call_text(call: &Call) -> String {
     }
 }
 
-fn settings(form: Form, arrangement: Arrangement) -> &'static str {
-    match (form, arrangement) {
-        (Form::Counter, Arrangement::AsListed) => "counter",
-        (Form::Counter, Arrangement::Alignment) => "counter-aligned",
-        (Form::Order, Arrangement::AsListed) => "order",
-        (Form::Order, Arrangement::Alignment) => "order-aligned",
-    }
+fn settings(settings: Settings) -> String {
+    let form = match settings.form {
+        Form::Counter => "counter",
+        Form::Order => "order",
+    };
+    let aligned = match settings.arrangement {
+        Arrangement::AsListed => "",
+        Arrangement::Alignment => "-aligned",
+    };
+    format!("({form}{aligned}-by {})", settings.step)
+}
+
+fn table_text(table: &[ChoiceRecord]) -> String {
+    let entry = |record: &ChoiceRecord| {
+        let (first, length, clauses) = (record.first, record.length, record.clauses);
+        format!("entry {first} {length} {clauses} ∷ ")
+    };
+    let entries: String = table.iter().map(entry).collect();
+    format!("({entries}[])")
 }
 
 fn tally_text([choices, highest, clauses, lines, log_bytes, formula_bytes]: &[usize; 6]) -> String {

@@ -1,15 +1,15 @@
 //! Random calls.
 
-use crate::rows::{Call, Reencode, Text, WalkBack, PLENTY};
+use crate::rows::{Call, Reencode, Text, WalkBack, PLENTY, PLENTY_OF_ROOM};
 use model::encoding::Encoding;
 use model::generator::{
-    answer_after, clauses_apart, damage, damage_log, freed, noise, one_of_three_joined, paired,
-    planned, Joined, Random,
+    answer_after, clauses_apart, cut_apart, damage, damage_log, freed, noise, one_of_three_joined,
+    paired, planned, Joined, Random,
 };
 use model::reading::Formula;
 use model::texts::log_text;
 use model::walk_back::workspace_needed;
-use model::{reencode, walk_back, Arrangement, Form};
+use model::{reencode, walk_back, Arrangement, Form, Room, Settings};
 
 pub const FORMS: [Form; 2] = [Form::Counter, Form::Order];
 pub const ARRANGEMENTS: [Arrangement; 2] = [Arrangement::AsListed, Arrangement::Alignment];
@@ -42,6 +42,13 @@ pub fn small_paired(random: &mut Random) -> Joined {
         clauses_apart(random.between(5, 6), 1)
     };
     let formula = paired(random, formula);
+    one_of_three_joined(random, formula)
+}
+
+/// A choice that clashes join from two to four clauses, with pure literals.
+pub fn small_cut(random: &mut Random) -> Joined {
+    let formula = clauses_apart(random.between(5, 6), random.between(1, 2));
+    let formula = cut_apart(random, formula);
     one_of_three_joined(random, formula)
 }
 
@@ -136,30 +143,52 @@ fn perhaps_damaged(random: &mut Random, mut text: Text, damaged: usize) -> Text 
     text
 }
 
+/// As many records as there are or more; in so many of a hundred cases none or one too few.
+fn table_room(random: &mut Random, records: usize, short: usize) -> usize {
+    if random.chance(short / 2) {
+        0
+    } else {
+        room(random, records, short)
+    }
+}
+
 /// In so many of a hundred cases, the text is damaged, the workspace short, a buffer short.
 pub fn reencoding(
     formula: impl Into<Joined>,
     random: &mut Random,
-    form: Form,
-    arrangement: Arrangement,
+    settings: Settings,
     damaged: usize,
 ) -> Call {
     let Joined { text, formula } = formula.into();
     let text = perhaps_damaged(random, text, damaged);
-    let result = reencode(&text, form, arrangement, PLENTY as u64, PLENTY, PLENTY);
-    let (log, new) = result.map_or((100, 100), |r| (r.log.len(), r.formula.len()));
+    let result = reencode(&text, settings, PLENTY_OF_ROOM);
+    let (log, new, records) = result.map_or((100, 100, 2), |result| {
+        (result.log.len(), result.formula.len(), result.table.len())
+    });
+    let room = Room {
+        workspace: room(random, formula.workspace_needed() as usize, damaged) as u64,
+        log: room(random, log, damaged),
+        formula: room(random, new, damaged),
+        table: table_room(random, records, damaged),
+    };
     Call::Reencode(Reencode {
-        form,
-        arrangement,
-        work: room(random, formula.workspace_needed() as usize, damaged),
-        log_room: room(random, log, damaged),
-        formula_room: room(random, new, damaged),
+        settings,
+        room,
         text,
     })
 }
 
+/// The run of a formula whose log is walked back or whose new formula is read back, with any step.
+fn run(formula: &Formula, random: &mut Random, form: Form) -> Encoding {
+    let settings = Settings {
+        step: *random.one_of(&[1, 1, 2, 3, 7, 100]),
+        ..Settings::new(form, *random.one_of(&ARRANGEMENTS))
+    };
+    Encoding::run(formula, settings)
+}
+
 pub fn reading_back(formula: Formula, random: &mut Random, form: Form, damaged: usize) -> Call {
-    let run = Encoding::run(&formula, form, *random.one_of(&ARRANGEMENTS));
+    let run = run(&formula, random, form);
     let new = Formula::new(run.highest, run.standing.clauses());
     let Joined { text, formula } = one_of_three_joined(random, new);
     Call::ReadBack {
@@ -176,7 +205,7 @@ pub fn walking_back(
     damaged: usize,
 ) -> Call {
     let Joined { text, formula } = formula.into();
-    let mut lines = Encoding::run(&formula, form, *random.one_of(&ARRANGEMENTS)).log;
+    let mut lines = run(&formula, random, form).log;
     if random.chance(damaged) {
         lines = damage_log(random, &lines);
     }

@@ -55,8 +55,8 @@ fn count_reencoding(counts: &mut Counts, row: &Row) {
     let (Call::Reencode(call), Some(run)) = (&row.call, row.run()) else {
         return;
     };
-    let form = call.form;
-    let aligned = match call.arrangement {
+    let form = call.settings.form;
+    let aligned = match call.settings.arrangement {
         Arrangement::Alignment => ", aligned",
         Arrangement::AsListed => "",
     };
@@ -79,7 +79,27 @@ fn count_reencoding(counts: &mut Counts, row: &Row) {
         count(counts, "choices joined by clashes", usize::from(joined));
     }
     count(counts, "repeats in choices", row.repeats_in_choices());
+    count_table(counts, row, &format!("{form:?}{aligned}"));
     count_run(counts, &run);
+}
+
+/// Steps above 1, and input clauses in records.
+fn count_table(counts: &mut Counts, row: &Row, way: &str) {
+    let (step, table) = row.table();
+    let several = usize::from(table.len() > 1);
+    if step > 1 {
+        count(counts, format!("{way}, step"), 1);
+        count(counts, format!("{way}, step, several choices"), several);
+        let skips = usize::from(row.skipped() > 0);
+        count(counts, format!("{way}, step, skipped numbers"), skips);
+        count(counts, format!("step {step}"), 1);
+    }
+    for record in table {
+        let clauses = record.clauses;
+        count(counts, format!("records of {clauses} input clauses"), 1);
+    }
+    let is_exact = matches!(&row.call, Call::Reencode(call) if call.room.table == table.len());
+    count(counts, "exact tables", usize::from(is_exact && several > 0));
 }
 
 fn count_run(counts: &mut Counts, run: &Encoding) {
@@ -109,6 +129,8 @@ fn count_walk_back(counts: &mut Counts, row: &Row) {
     count(counts, format!("walk-back, {log}"), 1);
     let changed = usize::from(row.is_changed());
     count(counts, format!("walk-back, {log}, answer changed"), changed);
+    let skips = usize::from(row.skips_in_log());
+    count(counts, format!("walk-back, {log}, skipped numbers"), skips);
     let tally = row.tally();
     let has_free = usize::from(tally.free_choices > 0);
     count(

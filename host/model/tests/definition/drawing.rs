@@ -1,14 +1,14 @@
 //! Rows drawn from a seed: so many of each case.
 
 use crate::calls::{
-    choice_of_20, free_clause, linked_choices, reading_back, reencoding, small, small_freed,
-    small_paired, unique_clause, walking_back, ARRANGEMENTS, FORMS,
+    choice_of_20, free_clause, linked_choices, reading_back, reencoding, small, small_cut,
+    small_freed, small_paired, unique_clause, walking_back, ARRANGEMENTS, FORMS,
 };
 use crate::rows::{Call, Row, READER};
 use model::encoding::{Encoding, PAIRS};
 use model::generator::{clauses_with_repeat, joined, text_of, Random};
 use model::reading::{read_formula, INPUT_LIMITS, READ_BACK_LIMITS};
-use model::{Arrangement, Form};
+use model::{Arrangement, Form, Settings};
 
 pub fn rows(seed: u64) -> Vec<Row> {
     let mut drawn = Drawn {
@@ -33,7 +33,27 @@ pub fn rows(seed: u64) -> Vec<Row> {
     for form in FORMS {
         drawn.pairs(form);
     }
+    for form in FORMS {
+        for arrangement in ARRANGEMENTS {
+            drawn.steps(form, arrangement);
+        }
+    }
     drawn.rows
+}
+
+/// Steps that are allowed, above 1.
+const STEPS: [u32; 5] = [2, 3, 7, 39, 100];
+
+fn aligned(form: Form) -> Settings {
+    Settings::new(form, Arrangement::Alignment)
+}
+
+fn any_settings(random: &mut Random, steps: &[u32]) -> Settings {
+    let (form, arrangement) = (*random.one_of(&FORMS), *random.one_of(&ARRANGEMENTS));
+    Settings {
+        step: *random.one_of(steps),
+        ..Settings::new(form, arrangement)
+    }
 }
 
 struct Drawn {
@@ -87,8 +107,9 @@ impl Drawn {
 
     fn reencodings(&mut self, form: Form) {
         for arrangement in ARRANGEMENTS {
-            let draw =
-                |random: &mut Random| reencoding(small(random), random, form, arrangement, 5);
+            let draw = |random: &mut Random| {
+                reencoding(small(random), random, Settings::new(form, arrangement), 5)
+            };
             self.add(20, draw, |_| true);
             self.add(20, draw, |row| has(row, |run| !run.choices.is_empty()));
             self.add(6, draw, |row| has(row, |run| run.tally.chained_clashes > 0));
@@ -102,20 +123,11 @@ impl Drawn {
     }
 
     fn aligned(&mut self, form: Form) {
-        let draw = |random: &mut Random| {
-            reencoding(small(random), random, form, Arrangement::Alignment, 0)
-        };
+        let draw = |random: &mut Random| reencoding(small(random), random, aligned(form), 0);
         self.add(10, draw, Row::alignment_matters);
         self.add(4, draw, |row| has(row, |run| run.tally.unalignable > 0));
-        let draw = |random: &mut Random| {
-            reencoding(
-                linked_choices(random),
-                random,
-                form,
-                Arrangement::Alignment,
-                0,
-            )
-        };
+        let draw =
+            |random: &mut Random| reencoding(linked_choices(random), random, aligned(form), 0);
         self.add(1, draw, Row::alignment_matters);
     }
 
@@ -136,7 +148,8 @@ impl Drawn {
     /// The whole log of a choice of 20, written and walked back.
     fn twenty(&mut self, form: Form) {
         let draw = |random: &mut Random| {
-            reencoding(choice_of_20(random), random, form, Arrangement::AsListed, 0)
+            let settings = Settings::new(form, Arrangement::AsListed);
+            reencoding(choice_of_20(random), random, settings, 0)
         };
         self.add(1, draw, |_| true);
         let draw = |random: &mut Random| walking_back(choice_of_20(random), random, form, 0);
@@ -145,12 +158,24 @@ impl Drawn {
 
     fn refused_reencodings(&mut self) {
         let draw = |random: &mut Random| {
-            let (form, arrangement) = (*random.one_of(&FORMS), *random.one_of(&ARRANGEMENTS));
-            reencoding(small(random), random, form, arrangement, 50)
+            let settings = any_settings(random, &[1, 1, 1, 2, 3, 7, 39, 100, 0, 101]);
+            reencoding(small(random), random, settings, 50)
         };
-        for number in READER.into_iter().chain(11..=13) {
+        for number in READER.into_iter().chain(11..=13).chain([15, 17]) {
             self.add(6, draw, |row| row.number() == number);
         }
+        let is_short_by = |row: &Row, table: usize| {
+            let Call::Reencode(call) = &row.call else {
+                return false;
+            };
+            row.number() == 17 && call.room.table == table
+        };
+        let draw = |random: &mut Random| {
+            let settings = any_settings(random, &STEPS);
+            reencoding(linked_choices(random), random, settings, 50)
+        };
+        self.add(2, draw, |row| is_short_by(row, 0));
+        self.add(2, draw, |row| is_short_by(row, 2));
     }
 
     fn refused_read_backs(&mut self) {
@@ -193,7 +218,7 @@ impl Drawn {
         for size in [4, 5, 65] {
             let draw = |random: &mut Random| {
                 let formula = unique_clause(random, size);
-                reencoding(formula, random, Form::Order, Arrangement::Alignment, 0)
+                reencoding(formula, random, aligned(Form::Order), 0)
             };
             self.add(1, draw, |_| true);
         }
@@ -202,8 +227,8 @@ impl Drawn {
     /// Choices with a pure literal, written and walked back.
     fn free_choices(&mut self, form: Form) {
         for arrangement in ARRANGEMENTS {
-            let draw =
-                |random: &mut Random| reencoding(small_freed(random), random, form, arrangement, 0);
+            let settings = Settings::new(form, arrangement);
+            let draw = |random: &mut Random| reencoding(small_freed(random), random, settings, 0);
             self.add(3, draw, |row| has(row, |run| run.tally.free_choices > 0));
             self.add(1, draw, |row| {
                 has(row, |run| run.tally.joined_free_choices > 0)
@@ -230,7 +255,8 @@ impl Drawn {
         for (_, kind) in PAIRS {
             for arrangement in ARRANGEMENTS {
                 let draw = |random: &mut Random| {
-                    reencoding(small_paired(random), random, form, arrangement, 0)
+                    let settings = Settings::new(form, arrangement);
+                    reencoding(small_paired(random), random, settings, 0)
                 };
                 self.add(2, draw, |row| has(row, |run| kind(&run.tally) > 0));
             }
@@ -239,5 +265,33 @@ impl Drawn {
             self.add(1, draw, |row| is_wanted(row) && !row.is_cut());
             self.add(2, draw, |row| is_wanted(row) && row.is_cut_in_choices());
         }
+    }
+
+    /// Steps above 1: skipped numbers, several choices, choices that clashes join.
+    fn steps(&mut self, form: Form, arrangement: Arrangement) {
+        let settings = |random: &mut Random| Settings {
+            step: *random.one_of(&STEPS),
+            ..Settings::new(form, arrangement)
+        };
+        let draw = |random: &mut Random| {
+            let settings = settings(random);
+            reencoding(small(random), random, settings, 0)
+        };
+        self.add(4, draw, |row| row.skipped() > 0);
+        self.add(1, draw, |row| row.table().1.is_empty());
+        let draw = |random: &mut Random| {
+            let settings = settings(random);
+            reencoding(small_cut(random), random, settings, 0)
+        };
+        self.add(2, draw, |row| row.table().1.len() > 1);
+        let joins = |row: &Row, count: usize| row.table().1.iter().any(|r| r.clauses == count);
+        for count in 2..=4 {
+            self.add(1, draw, |row| row.skipped() > 0 && joins(row, count));
+        }
+        let draw = |random: &mut Random| {
+            let settings = settings(random);
+            reencoding(linked_choices(random), random, settings, 0)
+        };
+        self.add(1, draw, |row| row.skipped() > 0);
     }
 }

@@ -1,30 +1,48 @@
 //! Rows that are not drawn: the limits, repeated and opposed literals, clauses with a pure literal, pairs in
-//! several copies, and all formulas of a small kind.
+//! several copies, steps and tables, and all formulas of a small kind.
 
 use crate::calls::FORMS;
-use crate::rows::{Call, Reencode, Row, Text, WalkBack, PLENTY};
+use crate::rows::{Call, Reencode, Row, Text, WalkBack, NO_ROOM, PLENTY, PLENTY_OF_ROOM};
 use model::encoding::Encoding;
 use model::generator::{clashing_at_1, clauses_apart, text_of};
 use model::log_reading::read_kept_lines;
 use model::reading::{read_formula, INPUT_LIMITS};
-use model::sessions::{COPIES, JOINED_E, SIX};
+use model::sessions::{CHAIN, COPIES, JOINED_E, SIX};
 use model::texts::{formula_text, log_text};
 use model::walk_back::workspace_needed;
-use model::{Arrangement, Form};
+use model::{Arrangement, Form, Room, Settings};
 
 fn reencoding(work: usize, text: &[u8]) -> Call {
-    reencoding_in(Form::Counter, work, text)
+    let room = Room {
+        workspace: work as u64,
+        ..PLENTY_OF_ROOM
+    };
+    reencoding_by(as_listed(Form::Counter), room, text)
 }
 
-fn reencoding_in(form: Form, work: usize, text: &[u8]) -> Call {
+fn reencoding_in(form: Form, text: &[u8]) -> Call {
+    reencoding_by(as_listed(form), PLENTY_OF_ROOM, text)
+}
+
+/// With the step, in counter form.
+pub fn reencoding_with(step: u32, room: Room, text: &[u8]) -> Call {
+    let settings = Settings {
+        step,
+        ..as_listed(Form::Counter)
+    };
+    reencoding_by(settings, room, text)
+}
+
+fn reencoding_by(settings: Settings, room: Room, text: &[u8]) -> Call {
     Call::Reencode(Reencode {
-        form,
-        arrangement: Arrangement::AsListed,
-        work,
-        log_room: PLENTY,
-        formula_room: PLENTY,
+        settings,
+        room,
         text: text.to_vec(),
     })
+}
+
+fn as_listed(form: Form) -> Settings {
+    Settings::new(form, Arrangement::AsListed)
 }
 
 fn reading_back(work: usize, text: &[u8]) -> Call {
@@ -124,7 +142,7 @@ fn clashing(a: i32, b: i32) -> Text {
 /// The log, and the number of its lines.
 fn log_in(form: Form, text: &[u8]) -> (String, usize) {
     let formula = read_formula(text, &INPUT_LIMITS).expect("in order");
-    let lines = Encoding::run(&formula, form, Arrangement::AsListed).log;
+    let lines = Encoding::run(&formula, as_listed(form)).log;
     let log = String::from_utf8(log_text(&lines)).expect("in ASCII");
     (log, lines.len())
 }
@@ -140,7 +158,7 @@ pub fn free() -> Vec<Row> {
     let (six, joined) = (SIX.as_bytes(), clashing(3, 4));
     let mut calls = Vec::new();
     for form in FORMS {
-        calls.extend([six, &joined].map(|text| reencoding_in(form, PLENTY, text)));
+        calls.extend([six, &joined].map(|text| reencoding_in(form, text)));
     }
     for text in [one_clause(4), one_clause(65), clashing(33, 34)] {
         calls.push(reencoding(PLENTY, &text));
@@ -158,11 +176,57 @@ pub fn free() -> Vec<Row> {
 pub fn pairs() -> Vec<Row> {
     let text = COPIES.as_bytes();
     let (log, lines) = log_in(Form::Counter, text);
-    let mut calls = FORMS.map(|form| reencoding_in(form, PLENTY, text)).to_vec();
+    let mut calls = FORMS.map(|form| reencoding_in(form, text)).to_vec();
     for kept in 11..=lines {
         for answer in ["1 6 7 8 9 ", "2 3 7 8 9 "] {
             calls.push(walking_back(PLENTY, text, &log, kept, answer));
         }
+    }
+    calls.into_iter().map(Row::of).collect()
+}
+
+/// Steps at and past their limits, which come before all other numbers, and a joined choice with several steps.
+pub fn steps() -> Vec<Row> {
+    let mut calls = Vec::new();
+    for text in ["", "p cnf 1 1\n2 0\n", SIX] {
+        for step in [0, 1, 100, 101, 1_000] {
+            for room in [NO_ROOM, PLENTY_OF_ROOM] {
+                calls.push(reencoding_with(step, room, text.as_bytes()));
+            }
+        }
+    }
+    for step in [1, 2, 3, 4, 5, 8, 39] {
+        for form in FORMS {
+            let settings = Settings {
+                step,
+                ..as_listed(form)
+            };
+            calls.push(reencoding_by(settings, PLENTY_OF_ROOM, CHAIN.as_bytes()));
+        }
+    }
+    calls.into_iter().map(Row::of).collect()
+}
+
+/// Two choices, of 5 and of 6 literals.
+pub fn two_choices() -> Text {
+    let clauses = [(1..=5).collect(), (6..=11).collect()];
+    formula_text(11, &clauses)
+}
+
+/// Tables that are exact, one short and empty, with enough room for the texts and with none.
+pub fn tables() -> Vec<Row> {
+    let mut calls = Vec::new();
+    for table in [2, 1, 0] {
+        let enough = Room {
+            table,
+            ..PLENTY_OF_ROOM
+        };
+        let short = Room {
+            log: 0,
+            formula: 0,
+            ..enough
+        };
+        calls.extend([enough, short].map(|room| reencoding_with(3, room, &two_choices())));
     }
     calls.into_iter().map(Row::of).collect()
 }

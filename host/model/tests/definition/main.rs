@@ -13,7 +13,7 @@ use checker::check;
 use counts::{counts, Counts};
 use rows::{Row, READER};
 use std::collections::BTreeSet;
-use wrong::{mischosen, miscounted, misread, short_rows, wrong};
+use wrong::{mischosen, miscounted, misread, misrecorded, misstepped, mistaken, short_rows, wrong};
 
 /// Each row with the name of its theorem.
 fn named(name: &str, rows: Vec<Row>) -> Vec<(String, Row)> {
@@ -35,6 +35,8 @@ fn definition_and_model_agree() {
     rows.extend(fixed::joined());
     rows.extend(fixed::free());
     rows.extend(fixed::pairs());
+    rows.extend(fixed::steps());
+    rows.extend(fixed::tables());
     let counts = counts(&rows);
     println!("{} rows: {counts:#?}", rows.len());
     assert!(rows.len() >= 500);
@@ -108,17 +110,42 @@ fn assert_cases(counts: &Counts) {
         ("read-back, clauses with a repeat", 12),
         ("read-back, clauses left out", 12),
         ("walk-back, clauses with a repeat", 40),
-        ("walk-back, clauses left out", 30),
+        ("walk-back, clauses left out", 25),
         ("choose, clauses with a repeat", 4),
+        ("Counter, step", 8),
+        ("Counter, aligned, step", 8),
+        ("Order, step", 8),
+        ("Order, aligned, step", 8),
+        ("Counter, step, several choices", 3),
+        ("Counter, aligned, step, several choices", 3),
+        ("Order, step, several choices", 3),
+        ("Order, aligned, step, several choices", 3),
+        ("Counter, step, skipped numbers", 6),
+        ("Counter, aligned, step, skipped numbers", 6),
+        ("Order, step, skipped numbers", 6),
+        ("Order, aligned, step, skipped numbers", 6),
+        ("step 2", 4),
+        ("step 3", 4),
+        ("step 7", 4),
+        ("step 39", 4),
+        ("step 100", 4),
+        ("walk-back, whole log, skipped numbers", 10),
+        ("walk-back, cut log, skipped numbers", 10),
+        ("records of 2 input clauses", 10),
+        ("records of 3 input clauses", 10),
+        ("records of 4 input clauses", 4),
+        ("exact tables", 4),
+        ("reencode 15", 8),
+        ("reencode 17", 8),
     ] {
         assert!(counts.get(what) >= Some(&least), "{what}");
     }
 }
 
-/// Each call gives these numbers, and no other.
+/// Each call gives these numbers, and no other. For 16 more than 600 choices are needed, too many for the checker.
 fn assert_numbers(counts: &Counts) {
     for (call, others) in [
-        ("reencode", &[0, 11, 12, 13][..]),
+        ("reencode", &[0, 11, 12, 13, 15, 17][..]),
         ("read-back", &[0, 11]),
         ("walk-back", &[0, 11, 14, 31, 32, 33, 34, 41, 42, 43, 44]),
     ] {
@@ -136,6 +163,9 @@ fn wrong_rows_are_refused() {
     wrong.extend(miscounted());
     wrong.extend(misread());
     wrong.extend(mischosen());
+    wrong.extend(misstepped());
+    wrong.extend(misrecorded());
+    wrong.extend(mistaken());
     let wrong = named("wrong", wrong);
     let mut rows = named("right", right);
     rows.extend(wrong.iter().cloned());

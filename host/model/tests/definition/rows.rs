@@ -3,9 +3,13 @@
 use model::answer::read_answer;
 use model::encoding::{Encoding, Tally};
 use model::generator::repeats_in_choices;
-use model::reading::{read_formula, INPUT_LIMITS};
+use model::log_reading::read_kept_lines;
+use model::reading::{read_formula, Formula, INPUT_LIMITS};
 use model::texts::{answer_text, formula_text, log_text, Line};
-use model::{read_back, reencode, walk_back, Arrangement, Form, Reencoded};
+use model::{
+    read_back, reencode, walk_back, Arrangement, ChoiceRecord, Form, Reencoded, Room, Settings,
+};
+use std::collections::BTreeSet;
 
 pub type Text = Vec<u8>;
 
@@ -14,6 +18,20 @@ pub const READER: [u8; 6] = [1, 2, 3, 4, 7, 8];
 
 /// More workspace and room than any row wants.
 pub const PLENTY: usize = 1_000_000;
+
+pub const PLENTY_OF_ROOM: Room = Room {
+    workspace: PLENTY as u64,
+    log: PLENTY,
+    formula: PLENTY,
+    table: PLENTY,
+};
+
+pub const NO_ROOM: Room = Room {
+    workspace: 0,
+    log: 0,
+    formula: 0,
+    table: 0,
+};
 
 #[derive(Clone, PartialEq)]
 pub enum Call {
@@ -31,11 +49,8 @@ pub enum Call {
 
 #[derive(Clone, PartialEq)]
 pub struct Reencode {
-    pub form: Form,
-    pub arrangement: Arrangement,
-    pub work: usize,
-    pub log_room: usize,
-    pub formula_room: usize,
+    pub settings: Settings,
+    pub room: Room,
     pub text: Text,
 }
 
@@ -57,6 +72,7 @@ pub enum Outcome {
         tally: [usize; 6],
         log: Text,
         formula: Text,
+        table: Vec<ChoiceRecord>,
     },
     /// What is read back, written again.
     Read(Text),
@@ -74,14 +90,7 @@ pub struct Row {
 
 impl Reencode {
     fn given(&self) -> Result<Reencoded, u8> {
-        reencode(
-            &self.text,
-            self.form,
-            self.arrangement,
-            self.work as u64,
-            self.log_room,
-            self.formula_room,
-        )
+        reencode(&self.text, self.settings, self.room)
     }
 }
 
@@ -118,9 +127,30 @@ impl Row {
         match &self.call {
             Call::Reencode(call) if self.number() == 0 => {
                 let formula = read_formula(&call.text, &INPUT_LIMITS).ok()?;
-                Some(Encoding::run(&formula, call.form, call.arrangement))
+                Some(Encoding::run(&formula, call.settings))
             }
             _ => None,
+        }
+    }
+
+    /// The step of a reencoding that gives a result, and its records.
+    pub fn table(&self) -> (u32, &[ChoiceRecord]) {
+        match (&self.call, &self.outcome) {
+            (Call::Reencode(call), Outcome::Reencoded { table, .. }) => (call.settings.step, table),
+            _ => (1, &[]),
+        }
+    }
+
+    /// How many numbers a reencoding skips.
+    pub fn skipped(&self) -> usize {
+        let (_, table) = self.table();
+        let new: usize = table.iter().map(|record| record.length - 1).sum();
+        let variables = |text: &Text| read_formula(text, &INPUT_LIMITS).map_or(0, |f| f.variables);
+        match (&self.call, &self.outcome) {
+            (Call::Reencode(call), Outcome::Reencoded { tally, .. }) => {
+                tally[1] - new - variables(&call.text) as usize
+            }
+            _ => 0,
         }
     }
 
@@ -140,27 +170,40 @@ impl Row {
             Call::Choose { text } => text,
             Call::ReadBack { .. } => return Tally::default(),
         };
-        read_formula(text, &INPUT_LIMITS).map_or_else(
-            |_| Tally::default(),
-            |formula| Encoding::run(&formula, Form::Counter, Arrangement::AsListed).tally,
-        )
+        read_formula(text, &INPUT_LIMITS)
+            .map_or_else(|_| Tally::default(), |formula| run_plainly(&formula).tally)
     }
 
     /// Without the arrangement, the log would be another one.
     pub fn alignment_matters(&self) -> bool {
         match (&self.call, &self.outcome) {
             (Call::Reencode(call), Outcome::Reencoded { log, .. }) => {
-                let other = Reencode {
+                let settings = Settings {
                     arrangement: Arrangement::AsListed,
-                    work: PLENTY,
-                    log_room: PLENTY,
-                    formula_room: PLENTY,
-                    ..call.clone()
+                    ..call.settings
                 };
-                other.given().is_ok_and(|other| other.log != *log)
+                let other = reencode(&call.text, settings, PLENTY_OF_ROOM);
+                other.is_ok_and(|other| other.log != *log)
             }
             _ => false,
         }
+    }
+
+    /// A number above V stands in none of the kept lines, though a higher one does.
+    pub fn skips_in_log(&self) -> bool {
+        let Call::WalkBack(call) = &self.call else {
+            return false;
+        };
+        let formula = read_formula(&call.text, &INPUT_LIMITS);
+        let lines = read_kept_lines(&call.log, call.kept);
+        let (Ok(formula), Ok(lines)) = (formula, lines) else {
+            return false;
+        };
+        let literals = lines.iter().flat_map(|line| &line.literals);
+        let mut new: BTreeSet<i32> = literals.map(|literal| literal.abs()).collect();
+        new.retain(|&variable| variable > formula.variables);
+        let highest = new.last().map_or(0, |&last| last - formula.variables);
+        highest > new.len() as i32
     }
 
     /// Some lines of the log are not kept.
@@ -200,11 +243,7 @@ fn given(call: &Call) -> Result<Outcome, u8> {
         Call::WalkBack(call) => call.given().map(Outcome::Line),
         Call::Choose { text } => {
             let formula = read_formula(text, &INPUT_LIMITS)?;
-            Ok(chosen(&Encoding::run(
-                &formula,
-                Form::Counter,
-                Arrangement::AsListed,
-            )))
+            Ok(chosen(&run_plainly(&formula)))
         }
     }
 }
@@ -221,7 +260,14 @@ fn reencoded(result: Reencoded) -> Outcome {
         ],
         log: result.log,
         formula: result.formula,
+        table: result.table,
     }
+}
+
+/// The run in counter form, as listed, with step 1.
+fn run_plainly(formula: &Formula) -> Encoding {
+    let settings = Settings::new(Form::Counter, Arrangement::AsListed);
+    Encoding::run(formula, settings)
 }
 
 fn chosen(run: &Encoding) -> Outcome {

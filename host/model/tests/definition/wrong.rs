@@ -1,14 +1,16 @@
 //! Rows made wrong on purpose.
 
 use crate::antt::row_text;
-use crate::fixed::{one_clause, workspaces};
-use crate::rows::{Call, Outcome, Row, PLENTY};
-use model::sessions::JOINED_E;
+use crate::fixed::{one_clause, reencoding_with, two_choices, workspaces};
+use crate::rows::{Call, Outcome, Row, NO_ROOM, PLENTY, PLENTY_OF_ROOM};
+use model::sessions::{CHAIN, JOINED_E};
+use model::{ChoiceRecord, Room};
 
 /// Of the rows, the shortest with each kind of result, and the shortest refusal of each call.
 pub fn short_rows(rows: &[Row]) -> Vec<Row> {
-    let kinds: [fn(&Row) -> bool; 7] = [
+    let kinds: [fn(&Row) -> bool; 8] = [
         |row| matches!(&row.outcome, Outcome::Reencoded { log, .. } if !log.is_empty()),
+        |row| !row.table().1.is_empty(),
         |row| matches!(row.outcome, Outcome::Read(_)),
         |row| matches!(row.outcome, Outcome::Line(_)),
         |row| matches!(&row.outcome, Outcome::Chosen(text) if !text.is_empty()),
@@ -25,10 +27,10 @@ pub fn short_rows(rows: &[Row]) -> Vec<Row> {
     short
 }
 
-/// The row with one number or one byte of its outcome changed, for each number and each text.
+/// The row with one number or one byte of its outcome changed, for each number and each text, and with a record more.
 pub fn wrong(row: &Row) -> Vec<Row> {
-    let parts = match row.outcome {
-        Outcome::Reencoded { .. } => 8,
+    let parts = match &row.outcome {
+        Outcome::Reencoded { table, .. } => 9 + 3 * table.len(),
         _ => 1,
     };
     let mut wrong = vec![row.clone(); parts];
@@ -38,7 +40,7 @@ pub fn wrong(row: &Row) -> Vec<Row> {
     wrong
 }
 
-/// The parts of a reencoding are its six numbers and its two texts.
+/// The parts of a reencoding are its six numbers, its two texts, its table's length and the numbers of each record.
 fn change(outcome: &mut Outcome, part: usize) {
     match outcome {
         Outcome::Refused(number) => *number += 1,
@@ -47,11 +49,22 @@ fn change(outcome: &mut Outcome, part: usize) {
             tally,
             log,
             formula,
+            table,
         } => match part {
+            0..6 => tally[part] += 1,
             6 => change_byte(log),
             7 => change_byte(formula),
-            _ => tally[part] += 1,
+            8 => table.push(record(6, 5, 1)),
+            _ => change_record(&mut table[(part - 9) / 3], part % 3),
         },
+    }
+}
+
+fn change_record(record: &mut ChoiceRecord, part: usize) {
+    match part {
+        0 => record.first += 1,
+        1 => record.length += 1,
+        _ => record.clauses += 1,
     }
 }
 
@@ -112,4 +125,79 @@ pub fn mischosen() -> Vec<Row> {
         }
     };
     vec![wrong(4, true), wrong(5, false)]
+}
+
+/// The call with another outcome than its own.
+fn instead(call: Call, outcome: Outcome) -> Row {
+    let row = Row { call, outcome };
+    assert!(row != Row::of(row.call.clone()));
+    row
+}
+
+/// Rows with the outcome of another step.
+pub fn misstepped() -> Vec<Row> {
+    let five = one_clause(5);
+    let call = |step| reencoding_with(step, PLENTY_OF_ROOM, &five);
+    let outcome = |step| Row::of(call(step)).outcome;
+    [(2, 1), (1, 2), (5, 2), (0, 1), (101, 100)]
+        .map(|(step, other)| instead(call(step), outcome(other)))
+        .to_vec()
+}
+
+/// The row of a reencoding with step 1, but with these records.
+fn recorded(text: &[u8], records: &[[usize; 3]]) -> Row {
+    let mut row = Row::of(reencoding_with(1, PLENTY_OF_ROOM, text));
+    if let Outcome::Reencoded { table, .. } = &mut row.outcome {
+        let records = records.iter();
+        *table = records
+            .map(|&[first, length, clauses]| record(first as i32, length, clauses))
+            .collect();
+    }
+    instead(row.call, row.outcome)
+}
+
+/// Rows of a choice that two clashes join from three clauses: the count of a single clause or of the last clash, another
+/// first variable, no record. And two choices with their records exchanged.
+pub fn misrecorded() -> Vec<Row> {
+    let tables: [&[[usize; 3]]; 5] = [&[[9, 6, 1]], &[[9, 6, 2]], &[[10, 6, 3]], &[[8, 6, 3]], &[]];
+    let mut rows = tables
+        .map(|table| recorded(CHAIN.as_bytes(), table))
+        .to_vec();
+    rows.push(recorded(&two_choices(), &[[16, 6, 1], [12, 5, 1]]));
+    rows
+}
+
+fn record(first: i32, length: usize, clauses: usize) -> ChoiceRecord {
+    ChoiceRecord {
+        first,
+        length,
+        clauses,
+    }
+}
+
+/// Rows refused with a number that comes later than the one that is due, or where none is.
+pub fn mistaken() -> Vec<Row> {
+    let five = one_clause(5);
+    let rooms = |workspace, table| Room {
+        workspace,
+        table,
+        ..NO_ROOM
+    };
+    let refused = |step, room, text: &[u8], number| {
+        instead(reencoding_with(step, room, text), Outcome::Refused(number))
+    };
+    let work = PLENTY_OF_ROOM.workspace;
+    let one_record = Room {
+        table: 1,
+        ..PLENTY_OF_ROOM
+    };
+    vec![
+        refused(0, PLENTY_OF_ROOM, b"", 1),
+        refused(101, NO_ROOM, &five, 11),
+        refused(100, PLENTY_OF_ROOM, &five, 15),
+        refused(1, NO_ROOM, &five, 17),
+        refused(1, rooms(work, 0), &five, 12),
+        refused(1, rooms(work, 1), &five, 17),
+        refused(1, one_record, &five, 17),
+    ]
 }

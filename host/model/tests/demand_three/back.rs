@@ -2,41 +2,51 @@
 
 use crate::forward::{exclusions, Forward, Step};
 use crate::lists::{apply, as_sets, long_unique, unclashed};
-use crate::tables::{Table, Tables};
+use crate::records::{going_into_choices, used};
+use crate::tables::Tables;
 use model::encoding::Encoding;
 use model::generator::{written_clauses, Joined, Random};
+use model::reading::Formula;
 use model::texts::{answer_text, formula_text, log_text, Line};
-use model::walk_back::{carry_back, is_true, satisfies};
-use model::{read_back, reencode, walk_back, Arrangement, Form};
+use model::walk_back::{carry_back, is_true, satisfies, Assignment};
+use model::{read_back, reencode, walk_back, Room, Settings};
+use std::collections::BTreeSet;
+
+/// Up to this highest variable the truth tables are over all numbers, beyond it over those that are used.
+pub const FULL: i32 = 15;
+
+fn tables_for(formula: &Formula, encoding: &Encoding) -> Tables {
+    if encoding.highest <= FULL {
+        Tables::new(1..=encoding.highest)
+    } else {
+        Tables::new(used(formula, encoding))
+    }
+}
 
 /// All of demand 3 for one formula, and the way forward; the answer is whether it can be satisfied.
 pub fn check(
     joined: &Joined,
-    form: Form,
-    arrangement: Arrangement,
+    settings: Settings,
     random: &mut Random,
     forward: &mut Forward,
 ) -> bool {
     let Joined { text, formula } = joined;
-    let encoding = Encoding::run(formula, form, arrangement);
-    let seen = format!(
-        "{:?} {form:?} {arrangement:?}",
-        String::from_utf8_lossy(text)
-    );
-    let tables = Tables::new(encoding.highest as usize);
+    let encoding = Encoding::run(formula, settings);
+    let seen = format!("{:?} {settings:?}", String::from_utf8_lossy(text));
+    let tables = tables_for(formula, &encoding);
     let input = tables.list(&formula.clauses);
     let written = tables.list(&written_clauses(text));
     assert!(input == written, "as it is written, {seen}");
     let choices = encoding.choices.iter().map(|(_, choice)| choice.clone());
     let expected = long_unique(&unclashed(formula, &encoding));
     assert_eq!(as_sets(choices), as_sets(expected), "choices, {seen}");
-    let in_choices: Vec<usize> = encoding.input_clauses_in_choices();
-    let mut exactly_one = Table::all(tables.variables, true);
+    let in_choices = in_choices(formula, &encoding, &seen);
+    let mut exactly_one = tables.whole();
     for &place in &in_choices {
         exactly_one = exactly_one.and(&tables.exactly_one(&formula.clauses[place]));
     }
 
-    let exclusions = exclusions(formula, &encoding);
+    let exclusions = exclusions(&encoding);
     let mut standing = formula.clauses.clone();
     let mut before = input.clone();
     let mut good = input.clone();
@@ -54,7 +64,11 @@ pub fn check(
         assert!(satisfying.within(&good), "back, {after} lines of {seen}");
         if random.chance(5) || after == encoding.log.len() {
             let kept = &encoding.log[..after];
-            walk_once(joined, kept, &standing, &satisfying, random, &seen);
+            if let Some(found) = satisfying.find(random.below(1 << tables.variables.len())) {
+                let values = tables.values(found, encoding.highest);
+                assert!(satisfies(&values, &standing), "{seen}");
+                walk_once(joined, kept, values, &seen);
+            }
         }
         if !line.deletion {
             let step = Step {
@@ -70,52 +84,47 @@ pub fn check(
     assert!(before.within(&exactly_one), "exactly one, {seen}");
 
     assert_eq!(standing, encoding.standing.clauses(), "{seen}");
-    reencode_once(text, form, arrangement, &encoding, &seen);
+    reencode_once(text, settings, &encoding, &seen);
     !input.is_empty()
 }
 
+/// The input clauses (by index) that go into some choice. Each record has the number of those that go into its own.
+fn in_choices(formula: &Formula, encoding: &Encoding, seen: &str) -> BTreeSet<usize> {
+    let by_choice = going_into_choices(formula, encoding);
+    let counts: Vec<usize> = by_choice.iter().map(BTreeSet::len).collect();
+    let records = encoding.table.iter().map(|record| record.clauses);
+    assert!(records.eq(counts), "input clause counts, {seen}");
+    let in_choices: BTreeSet<usize> = by_choice.into_iter().flatten().collect();
+    let expected = encoding.input_clauses_in_choices();
+    assert!(in_choices.iter().eq(&expected), "{seen}");
+    in_choices
+}
+
 /// The reencode call gives what the run gives, and its new formula is read back as what stands.
-fn reencode_once(
-    text: &[u8],
-    form: Form,
-    arrangement: Arrangement,
-    encoding: &Encoding,
-    seen: &str,
-) {
+fn reencode_once(text: &[u8], settings: Settings, encoding: &Encoding, seen: &str) {
     let standing = encoding.standing.clauses();
     let log = log_text(&encoding.log);
     let new = formula_text(encoding.highest, &standing);
-    let result = reencode(text, form, arrangement, 1 << 40, log.len(), new.len());
-    let written = result.map(|result| (result.log, result.formula));
-    assert_eq!(written, Ok((log, new.clone())), "{seen}");
+    let room = Room {
+        workspace: 1 << 40,
+        log: log.len(),
+        formula: new.len(),
+        table: encoding.table.len(),
+    };
+    let result = reencode(text, settings, room).expect(seen);
+    assert_eq!((&result.log, &result.formula), (&log, &new), "{seen}");
+    assert_eq!(result.table, encoding.table, "{seen}");
     let read = read_back(&new, 1 << 40);
     assert_eq!(read, Ok((encoding.highest, standing)), "{seen}");
 }
 
 /// The walk-back call on one satisfying assignment, against the steps one by one.
-fn walk_once(
-    Joined { text, formula }: &Joined,
-    kept: &[Line],
-    standing: &[Vec<i32>],
-    satisfying: &Table,
-    random: &mut Random,
-    seen: &str,
-) {
-    let variables = satisfying.variables;
+fn walk_once(Joined { text, formula }: &Joined, kept: &[Line], mut values: Assignment, seen: &str) {
     let highest = kept
         .iter()
         .flat_map(|line| &line.literals)
         .map(|literal| literal.abs())
         .fold(formula.variables, i32::max);
-    let start = random.below(1 << variables);
-    let found = (start..1 << variables)
-        .chain(0..start)
-        .find(|&a| satisfying.words[a / 64] >> (a % 64) & 1 == 1);
-    let Some(found) = found else { return };
-    let mut values: Vec<bool> = (0..=variables)
-        .map(|v| v > 0 && found >> (v - 1) & 1 == 1)
-        .collect();
-    assert!(satisfies(&values, standing), "{seen}");
     let mut answer = b"s SATISFIABLE\n".to_vec();
     answer.extend(answer_text(highest, |variable| is_true(variable, &values)));
     carry_back(kept, &mut values);

@@ -2,18 +2,14 @@
 
 use crate::tables::{Table, Tables};
 use model::encoding::Encoding;
-use model::reading::Formula;
 use std::collections::HashSet;
 
 /// The lines -li -s(i-1) of all choices.
-pub fn exclusions(formula: &Formula, encoding: &Encoding) -> HashSet<[i32; 2]> {
+pub fn exclusions(encoding: &Encoding) -> HashSet<[i32; 2]> {
     let mut exclusions = HashSet::new();
-    let mut used = formula.variables;
-    for (_, choice) in &encoding.choices {
-        for &literal in &choice[1..] {
-            used += 1;
-            exclusions.insert([-literal, -used]);
-        }
+    for ((_, choice), record) in encoding.choices.iter().zip(&encoding.table) {
+        let pairs = choice[1..].iter().zip(record.first..);
+        exclusions.extend(pairs.map(|(literal, step)| [-literal, -step]));
     }
     exclusions
 }
@@ -35,9 +31,7 @@ impl Step<'_> {
     fn is_carried(&self, literals: &[i32]) -> bool {
         let changing = self.changing(literals);
         match literals.first() {
-            Some(first) => changing
-                .turned(first.unsigned_abs() as usize)
-                .within(self.after),
+            Some(&first) => self.tables.turned(&changing, first).within(self.after),
             None => changing.is_empty(),
         }
     }

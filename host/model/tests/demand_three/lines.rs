@@ -6,7 +6,7 @@ use model::encoding::Encoding;
 use model::generator::text_of;
 use model::reading::Formula;
 use model::texts::Line;
-use model::{reencode, Arrangement, Form};
+use model::{reencode, Arrangement, Form, Room, Settings};
 
 /// The lines of each choice: additions, then deletions.
 fn by_choice(lines: &[Line]) -> Vec<&[Line]> {
@@ -16,8 +16,12 @@ fn by_choice(lines: &[Line]) -> Vec<&[Line]> {
 
 /// Each choice writes 4(k-1) + 1 + p lines, a clash up to three, a pure clause one. The answer is the run, and how
 /// many lines the log has less than these.
-pub fn check(formula: &Formula, arrangement: Arrangement) -> (Encoding, usize) {
-    let encoding = Encoding::run(formula, Form::Counter, arrangement);
+pub fn check(formula: &Formula, arrangement: Arrangement, step: u32) -> (Encoding, usize) {
+    let settings = Settings {
+        step,
+        ..Settings::new(Form::Counter, arrangement)
+    };
+    let encoding = Encoding::run(formula, settings);
     let (standing, lines) = cleared(formula, &encoding);
     let by_choice = by_choice(lines);
     assert_eq!(by_choice.len(), encoding.choices.len());
@@ -28,7 +32,7 @@ pub fn check(formula: &Formula, arrangement: Arrangement) -> (Encoding, usize) {
         most += expected;
     }
     let text = text_of(formula);
-    let result = reencode(&text, Form::Counter, arrangement, 1 << 40, 1 << 30, 1 << 30);
+    let result = reencode(&text, settings, Room::enough());
     let lines = result.expect("in order").lines;
     assert!(lines <= most, "{formula:?}");
     (encoding, most - lines)

@@ -4,14 +4,18 @@ use model::encoding::Encoding;
 use model::reading::Formula;
 use model::texts::Line;
 
-/// A list with a plain search: what a line does to the standing clauses.
-pub fn apply(standing: &mut Vec<Vec<i32>>, line: &Line) {
+/// The place of the first clause with the same set of literals, by a plain search.
+pub fn place_of<'a>(mut clauses: impl Iterator<Item = &'a Vec<i32>>, literals: &[i32]) -> usize {
     let same_set = |clause: &Vec<i32>| {
-        clause.len() == line.literals.len() && clause.iter().all(|l| line.literals.contains(l))
+        clause.len() == literals.len() && clause.iter().all(|l| literals.contains(l))
     };
+    clauses.position(same_set).expect("it stands")
+}
+
+/// What a line does to the standing clauses.
+pub fn apply(standing: &mut Vec<Vec<i32>>, line: &Line) {
     if line.deletion {
-        let place = standing.iter().position(same_set).expect("it stands");
-        standing.remove(place);
+        standing.remove(place_of(standing.iter(), &line.literals));
     } else {
         standing.push(line.literals.clone());
     }

@@ -7,33 +7,50 @@ mod forward;
 mod lines;
 mod lists;
 mod occurred;
+mod records;
 mod tables;
 
-use drawing::{drawn, WAYS};
+use drawing::{drawn, drawn_cut, WAYS};
 use lists::{apply, count_holding, long_unique, unclashed};
 use model::clearing::written_first;
 use model::encoding::{Encoding, Tally};
-use model::generator::{clauses_apart, paired, Random};
+use model::generator::{clauses_apart, paired, Joined, Random};
 use model::texts::Line;
-use model::{Arrangement, Form};
+use model::{Arrangement, Form, Settings};
 use occurred::{add_up, Occurred};
+use records::used;
+use std::ops::Range;
 use tables::Tables;
 
-/// Runs the formulas of the seeds that need at most the given variables in total.
-fn run(seeds: std::ops::Range<u64>, variables: (usize, usize), highest: i32) -> Occurred {
+/// Runs the formulas of the seeds that need at most so many variables.
+fn run(seeds: Range<u64>, variables: (usize, usize), most: usize) -> Occurred {
+    run_with(seeds, |random| drawn(random, variables), most, &[1])
+}
+
+/// The same on drawn formulas, each with one of the steps.
+fn run_with(
+    seeds: Range<u64>,
+    draw: impl Fn(&mut Random) -> Joined,
+    most: usize,
+    steps: &[u32],
+) -> Occurred {
     let mut occurred = Occurred::default();
     for seed in seeds {
         let mut random = Random::new(seed);
-        let joined = drawn(&mut random, variables);
+        let joined = draw(&mut random);
         let (form, arrangement) = *random.one_of(&WAYS);
-        let encoding = Encoding::run(&joined.formula, form, arrangement);
-        if encoding.highest > highest {
+        let settings = Settings {
+            step: steps[seed as usize % steps.len()],
+            ..Settings::new(form, arrangement)
+        };
+        let encoding = Encoding::run(&joined.formula, settings);
+        if used(&joined.formula, &encoding).len() > most {
             continue;
         }
         occurred.count(&joined, &encoding);
         let forward = &mut occurred.forward;
-        if back::check(&joined, form, arrangement, &mut random, forward) {
-            occurred.count_satisfiable(&encoding.tally, form);
+        if back::check(&joined, settings, &mut random, forward) {
+            occurred.count_satisfiable(&joined.formula, &encoding, settings);
         }
     }
     occurred
@@ -106,6 +123,52 @@ fn formulas_with_two_choices() {
     assert_forward(&occurred, 100);
 }
 
+/// Skipped numbers are in the tables where the highest is small, else only the numbers used.
+fn with_steps(seeds: Range<u64>) -> Occurred {
+    run_with(seeds, |random| drawn_cut(random, (0, 9)), 14, &[2, 3, 4, 7])
+}
+
+fn two_with_steps(seeds: Range<u64>) -> Occurred {
+    let draw = |random: &mut Random| drawn_cut(random, (10, 11));
+    run_with(seeds, draw, 20, &[2, 3, 5, 39, 100])
+}
+
+#[test]
+fn small_formulas_with_steps() {
+    let occurred = with_steps(10_000..14_000);
+    println!("{occurred:#?}");
+    assert!(occurred.tally.replaced_by_nothing > 50);
+    for stepped in &occurred.stepped {
+        for count in [
+            stepped.skipping,
+            stepped.skipping_within_full,
+            stepped.joined,
+            stepped.joined_of_three,
+        ] {
+            assert!(count > 20);
+        }
+    }
+    assert_forward(&occurred, 300);
+}
+
+#[test]
+fn formulas_with_two_choices_and_steps() {
+    let occurred = two_with_steps(20_000..20_800);
+    println!("{occurred:#?}");
+    for stepped in &occurred.stepped {
+        for count in [
+            stepped.two_choices,
+            stepped.skipping_between,
+            stepped.joined_of_three,
+        ] {
+            assert!(count > 5);
+        }
+    }
+    assert!(occurred.tally.aligned > 2);
+    assert!(occurred.tally.unalignable > 2);
+    assert_forward(&occurred, 100);
+}
+
 /// In counter form: the random formulas, and choices of up to 64 literals with some of their pairs.
 #[test]
 fn lines_in_counter_form() {
@@ -119,7 +182,8 @@ fn lines_in_counter_form() {
             paired(random, clauses_apart(size, count))
         };
         let arrangement = random.one_of(&[Arrangement::AsListed, Arrangement::Alignment]);
-        let (encoding, less) = lines::check(&formula, *arrangement);
+        let step = *random.one_of(&[1, 2, 7, 100]);
+        let (encoding, less) = lines::check(&formula, *arrangement, step);
         add_up(&mut total, &encoding.tally);
         fewer += usize::from(less > 0);
         let is_long = |(_, choice): &&(usize, Vec<i32>)| choice.len() > 16;
@@ -150,9 +214,9 @@ fn free_choices_deleted_instead() {
     let (mut free_choices, mut failing) = (0, 0);
     for seed in 0..2_000 {
         let formula = drawn(&mut Random::new(seed), (5, 12)).formula;
-        let encoding = Encoding::run(&formula, Form::Counter, Arrangement::AsListed);
-        let standing = unclashed(&formula, &encoding);
-        let tables = Tables::new(formula.variables as usize);
+        let settings = Settings::new(Form::Counter, Arrangement::AsListed);
+        let standing = unclashed(&formula, &Encoding::run(&formula, settings));
+        let tables = Tables::new(1..=formula.variables);
         for choice in long_unique(&standing) {
             let mut literals = choice.iter().copied();
             if let Some(pure) = literals.find(|literal| count_holding(&standing, -literal) == 0) {
@@ -170,4 +234,6 @@ fn free_choices_deleted_instead() {
 fn more_formulas() {
     println!("{:#?}", run(100_000..140_000, (0, 12), 15));
     println!("{:#?}", run(400_000..402_000, (10, 12), 20));
+    println!("{:#?}", with_steps(500_000..530_000));
+    println!("{:#?}", two_with_steps(600_000..602_000));
 }

@@ -1,9 +1,12 @@
 //! How often the cases occurred.
 
+use crate::back::FULL;
 use crate::forward::Forward;
+use crate::records::used;
 use model::encoding::{Encoding, Tally};
 use model::generator::{clauses_with_repeat, repeats_in_choices, Joined};
-use model::Form;
+use model::reading::Formula;
+use model::{Arrangement, ChoiceRecord, Form, Settings};
 
 #[derive(Default, Debug)]
 pub struct Occurred {
@@ -29,6 +32,44 @@ pub struct Occurred {
     /// Of the satisfiable formulas, in counter form and in order form.
     pub satisfiable_tallies: [Tally; 2],
     pub forward: Forward,
+    /// Of the satisfiable formulas with a step above 1, in counter form and in order form, listed and aligned.
+    pub stepped: [Stepped; 4],
+}
+
+/// Runs with a step above 1.
+#[derive(Default, Debug)]
+pub struct Stepped {
+    pub choices: usize,
+    /// A number above V is skipped.
+    pub skipping: usize,
+    /// The same, and the truth tables are over all numbers.
+    pub skipping_within_full: usize,
+    pub two_choices: usize,
+    /// A number is skipped between two choices.
+    pub skipping_between: usize,
+    /// A record of two and more input clauses.
+    pub joined: usize,
+    /// A record of three and more input clauses.
+    pub joined_of_three: usize,
+}
+
+impl Stepped {
+    fn count(&mut self, formula: &Formula, encoding: &Encoding) {
+        let table = &encoding.table;
+        let skips = encoding.highest > used(formula, encoding).len() as i32;
+        let is_apart = |records: &[ChoiceRecord]| {
+            let [one, next] = [&records[0], &records[1]];
+            next.first > one.first + one.length as i32 - 1
+        };
+        let of = |least: usize| table.iter().any(|record| record.clauses >= least);
+        self.choices += table.len();
+        self.skipping += usize::from(skips);
+        self.skipping_within_full += usize::from(skips && encoding.highest <= FULL);
+        self.two_choices += usize::from(table.len() > 1);
+        self.skipping_between += usize::from(table.windows(2).any(is_apart));
+        self.joined += usize::from(of(2));
+        self.joined_of_three += usize::from(of(3));
+    }
 }
 
 impl Occurred {
@@ -57,12 +98,19 @@ impl Occurred {
         add_up(&mut self.tally, tally);
     }
 
-    pub fn count_satisfiable(&mut self, tally: &Tally, form: Form) {
-        let place = match form {
-            Form::Counter => 0,
-            Form::Order => 1,
-        };
-        add_up(&mut self.satisfiable_tallies[place], tally);
+    pub fn count_satisfiable(
+        &mut self,
+        formula: &Formula,
+        encoding: &Encoding,
+        settings: Settings,
+    ) {
+        let tally = &encoding.tally;
+        let form = usize::from(settings.form == Form::Order);
+        let aligned = usize::from(settings.arrangement == Arrangement::Alignment);
+        add_up(&mut self.satisfiable_tallies[form], tally);
+        if settings.step > 1 {
+            self.stepped[2 * form + aligned].count(formula, encoding);
+        }
         self.satisfiable += 1;
         self.satisfiable_with_free_choice += usize::from(tally.free_choices > 0);
         self.satisfiable_with_joined_free_choice += usize::from(tally.joined_free_choices > 0);

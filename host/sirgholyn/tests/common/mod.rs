@@ -79,7 +79,7 @@ pub fn in_model(form: Form, arrangement: Arrangement) -> (model::Form, model::Ar
 
 pub fn run_model(formula: &Formula, form: Form, arrangement: Arrangement) -> Encoding {
     let (form, arrangement) = in_model(form, arrangement);
-    Encoding::run(formula, form, arrangement)
+    Encoding::run(formula, model::Settings::new(form, arrangement))
 }
 
 /// Sizes of a reencoding's buffers.
@@ -104,14 +104,14 @@ impl Room {
 /// Reencodes by library and model, and compares number, tally and every byte; the answer is the number.
 pub fn compare_reencode(text: &[u8], form: Form, arrangement: Arrangement, room: Room) -> u32 {
     let (model_form, model_wish) = in_model(form, arrangement);
-    let expected = model::reencode(
-        text,
-        model_form,
-        model_wish,
-        room.work as u64,
-        room.log,
-        room.formula,
-    );
+    let model_room = model::Room {
+        workspace: room.work as u64,
+        log: room.log,
+        formula: room.formula,
+        table: usize::MAX,
+    };
+    let settings = model::Settings::new(model_form, model_wish);
+    let expected = model::reencode(text, settings, model_room);
     let mut work = vec![-7; room.work];
     expect_reencoded(&expected, text, (form, arrangement), &mut work, room)
 }

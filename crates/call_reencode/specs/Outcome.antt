@@ -17,6 +17,10 @@ use Rattle.call_reencode.specs.declared.Reencoding.the-variants as Reenc
 abbrev pub outcome : Settings → Bytes → List ℤ → Bytes → Bytes → ℕ → Checked Reencoded
 outcome s text work log formula room = reencode (settings-of s) (length work) (length log) (length formula) room text
 
+-- no input has more choices: each has five literals at least, and no variable stands in two
+abbrev pub most-choices : ℕ
+most-choices = 1600
+
 -- the records that are written
 abbrev pub shown-table : Reencoded → List ChoiceRecord
 shown-table r = map shown-record (r .table)

@@ -10,7 +10,7 @@ ghost use Rattle.store.specs.Store.{Formed, stored};
 ghost use Rattle.run.specs.Settings.{settings-of};
 ghost use Rattle.run.specs.Run.{input-in, row-numbers, Run-ready};
 ghost use Rattle.call_reencode.specs.Counting.{standing-bit};
-ghost use Rattle.call_reencode.specs.Outcome.{outcome-of, shown-table, outcome as outcome-defined};
+ghost use Rattle.call_reencode.specs.Outcome.{outcome-of, most-choices, shown-table, outcome as outcome-defined};
 ghost use Rattle.call_reencode.specs.Result.{Left, Finishes, Stepped, Answers};
 use records::ChoiceRecord;
 use run::Ran;
@@ -173,7 +173,7 @@ pub struct Made {
 }
 
 // Reencodes a formula: the log and the new formula go into the two buffers, the table's records into the rows; on a refusal all are made zero.
-pub fn reencode_rows(
+fn reencode_rows(
     text: &[u8],
     settings: Settings,
     work: &mut [i32],
@@ -206,7 +206,24 @@ pub fn reencode_rows(
     }
 }
 
-// ---- the call
+// ---- the calls
+
+// Reencodes a formula without a table: the log and the new formula go into the two buffers; on a refusal both are made zero.
+pub fn reencode_texts(
+    text: &[u8],
+    settings: Settings,
+    work: &mut [i32],
+    log: &mut [u8],
+    formula: &mut [u8],
+) -> Reencoding
+    ensures outcome { λ r. ⌜ r ≡ outcome-of (outcome-defined settings (now (text .entry)) (now (work .entry)) (now (log .entry)) (now (formula .entry)) most-choices) ⌝ }
+    ensures log_after { λ _. ⌜ now (log .exit) ≡ buffer-after 0 (outcome-defined settings (now (text .entry)) (now (work .entry)) (now (log .entry)) (now (formula .entry)) most-choices) (λ o. o .log) (now (log .entry)) ⌝ }
+    ensures formula_after { λ _. ⌜ now (formula .exit) ≡ buffer-after 0 (outcome-defined settings (now (text .entry)) (now (work .entry)) (now (log .entry)) (now (formula .entry)) most-choices) (λ o. o .formula) (now (formula .entry)) ⌝ }
+{
+    let mut rows = [0u32; run::ROW_NUMBERS];
+    let r = reencode_rows(text, settings, work, log, formula, &mut rows, 1600);
+    r.answer
+}
 
 // Reencodes a formula: the log and the new formula go into the two buffers, a record for each choice into the table; on a refusal all three are made zero.
 pub fn reencode(

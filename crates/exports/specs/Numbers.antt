@@ -19,12 +19,12 @@ form-number n = cond (eqb n 0) counter-form order-form
 abbrev pub arrangement-number : ℕ → Arrangement
 arrangement-number n = cond (eqb n 0) as-listed alignment
 
-abbrev pub settings-number : ℕ → ℕ → Settings
-settings-number f a = record { form = form-number f; arrangement = arrangement-number a }
+abbrev pub settings-number : ℕ → ℕ → ℕ → Settings
+settings-number f a g = record { form = form-number f; arrangement = arrangement-number a; step = g }
 
--- the outcome of reencoding: form, arrangement, text, workspace and both buffers
-abbrev pub reencoding : ℕ → ℕ → Bytes → List ℤ → Bytes → Bytes → Checked Reencoded
-reencoding f a text work log formula = reencode (settings-number f a) (length work) (length log) (length formula) text
+-- the outcome of reencoding: form, arrangement, step, text, workspace, both buffers and the number of the table's records
+abbrev pub reencoding : ℕ → ℕ → ℕ → Bytes → List ℤ → Bytes → Bytes → ℕ → Checked Reencoded
+reencoding f a g text work log formula room = reencode (settings-number f a g) (length work) (length log) (length formula) room text
 
 -- 0 for a value, else the fault's number
 unfoldable pub number-of : {A : Type 0} → Checked A → ℕ

@@ -3,9 +3,13 @@
 ghost use mathlib.Core.Path.{_≡_};
 ghost use mathlib.Core.List.{[], _∷_};
 ghost use lib.IntN.{pos};
-ghost use Rattle.definition.specs.Calls.{buffer-after};
+ghost use lib.ListN.{length};
+ghost use Rattle.definition.specs.Checked.{Checked};
+ghost use Rattle.definition.specs.Calls.{Reencoded, buffer-after};
 ghost use Rattle.dimacs.specs.Entries.{entries-of};
 ghost use Rattle.run.specs.Settings.{named-form, named-arrangement, settings-of};
+ghost use Rattle.records.specs.Rows.{no-record};
+ghost use Rattle.call_reencode.specs.Outcome.{outcome-of, shown-table};
 ghost use Rattle.call_walk_back.specs.Outcome.{outcome as walk-back-outcome};
 ghost use Rattle.call_read_back.specs.Outcome.{outcome as read-back-outcome};
 ghost use Rattle.exports.specs.Numbers.{form-number, arrangement-number, settings-number, number-of, reencoding};
@@ -13,6 +17,7 @@ ghost use Rattle.counts.specs.Counts.{overwritten};
 ghost use Rattle.exports.specs.Counts.{tally-after, reencoding-counts, done-counts, walk-back-counts, read-back-counts};
 use call_reencode::Reencoding;
 use call_reencode::Tally;
+use records::ChoiceRecord;
 use run::Arrangement;
 use run::Form;
 use run::Settings;
@@ -39,15 +44,16 @@ fn arrangement_named(arrangement: u32) -> Arrangement
     Arrangement::Alignment
 }
 
-// The settings that two numbers name.
-fn settings_named(form: u32, arrangement: u32) -> Settings
-    ensures { λ r. ⌜ settings-of r ≡ settings-number form arrangement ⌝ }
+// The settings that two numbers name, with a step.
+fn settings_named(form: u32, arrangement: u32, step: u32) -> Settings
+    ensures { λ r. ⌜ settings-of r ≡ settings-number form arrangement step ⌝ }
 {
     let f = form_named(form);
     let a = arrangement_named(arrangement);
     Settings {
         form: f,
         arrangement: a,
+        step,
     }
 }
 
@@ -66,25 +72,11 @@ fn put_done(tally: &mut [u64], t: Tally)
     );
 }
 
-// Reencodes a formula into two buffers. form is 0 for the counter form, any other number for the order form; arrangement is 0 for
-// literals as they stand, any other number for alignment. The tally gets choices, H, M, log lines, the log's bytes and the formula's.
-#[no_mangle]
-pub extern "C" fn sirgholyn_reencode(
-    text: &[u8],
-    form: u32,
-    arrangement: u32,
-    work: &mut [i32],
-    log: &mut [u8],
-    formula: &mut [u8],
-    tally: &mut [u64],
-) -> u32
-    ensures number { λ r. ⌜ r ≡ number-of (reencoding form arrangement (now (text .entry)) (now (work .entry)) (now (log .entry)) (now (formula .entry))) ⌝ }
-    ensures log_after { λ _. ⌜ now (log .exit) ≡ buffer-after 0 (reencoding form arrangement (now (text .entry)) (now (work .entry)) (now (log .entry)) (now (formula .entry))) (λ o. o .log) (now (log .entry)) ⌝ }
-    ensures formula_after { λ _. ⌜ now (formula .exit) ≡ buffer-after 0 (reencoding form arrangement (now (text .entry)) (now (work .entry)) (now (log .entry)) (now (formula .entry))) (λ o. o .formula) (now (formula .entry)) ⌝ }
-    ensures counts { λ _. ⌜ now (tally .exit) ≡ tally-after (reencoding form arrangement (now (text .entry)) (now (work .entry)) (now (log .entry)) (now (formula .entry))) reencoding-counts (now (tally .entry)) ⌝ }
+// The number of an outcome; its counts go into the tally.
+fn answered(tally: &mut [u64], r: Reencoding) -> u32
+    ensures { λ n. ⌜ ((o : Checked Reencoded) → r ≡ outcome-of o → (n ≡ number-of o) × (now (tally .exit) ≡ tally-after o reencoding-counts (now (tally .entry)))) ⌝ }
 {
-    let settings = settings_named(form, arrangement);
-    match call_reencode::reencode(text, settings, work, log, formula) {
+    match r {
         Reencoding::Done(t) => {
             put_done(tally, t);
             0
@@ -94,6 +86,31 @@ pub extern "C" fn sirgholyn_reencode(
             n as u32
         }
     }
+}
+
+// Reencodes a formula into two buffers and a table of records. form is 0 for the counter form, any other number for the order form; arrangement is 0 for
+// literals as they stand, any other number for alignment; step is from 1 to 100. The tally gets choices, H, M, log lines, the log's bytes and the formula's.
+#[no_mangle]
+pub extern "C" fn sirgholyn_reencode(
+    text: &[u8],
+    form: u32,
+    arrangement: u32,
+    step: u32,
+    work: &mut [i32],
+    log: &mut [u8],
+    formula: &mut [u8],
+    table: &mut [ChoiceRecord],
+    tally: &mut [u64],
+) -> u32
+    ensures number { λ r. ⌜ r ≡ number-of (reencoding form arrangement step (now (text .entry)) (now (work .entry)) (now (log .entry)) (now (formula .entry)) (length (now (table .entry)))) ⌝ }
+    ensures log_after { λ _. ⌜ now (log .exit) ≡ buffer-after 0 (reencoding form arrangement step (now (text .entry)) (now (work .entry)) (now (log .entry)) (now (formula .entry)) (length (now (table .entry)))) (λ o. o .log) (now (log .entry)) ⌝ }
+    ensures formula_after { λ _. ⌜ now (formula .exit) ≡ buffer-after 0 (reencoding form arrangement step (now (text .entry)) (now (work .entry)) (now (log .entry)) (now (formula .entry)) (length (now (table .entry)))) (λ o. o .formula) (now (formula .entry)) ⌝ }
+    ensures table_after { λ _. ⌜ now (table .exit) ≡ buffer-after no-record (reencoding form arrangement step (now (text .entry)) (now (work .entry)) (now (log .entry)) (now (formula .entry)) (length (now (table .entry)))) shown-table (now (table .entry)) ⌝ }
+    ensures counts { λ _. ⌜ now (tally .exit) ≡ tally-after (reencoding form arrangement step (now (text .entry)) (now (work .entry)) (now (log .entry)) (now (formula .entry)) (length (now (table .entry)))) reencoding-counts (now (tally .entry)) ⌝ }
+{
+    let settings = settings_named(form, arrangement, step);
+    let r = call_reencode::reencode(text, settings, work, log, formula, table);
+    answered(tally, r)
 }
 
 // ---- walk-back

@@ -43,6 +43,7 @@ from concurrent.futures import Future
 from typing import Any, Callable, Dict, List, NamedTuple, Optional, Sequence, Tuple, Union
 
 __all__ = [
+    "Choice",
     "ReadBack",
     "Reencoding",
     "Refused",
@@ -73,6 +74,9 @@ _MEANINGS = {
     12: "the log's buffer is too short",
     13: "the new formula's buffer is too short",
     14: "the answer's buffer is too short",
+    15: "the step is outside 1 to 100",
+    16: "with this step the highest variable would pass 70000",
+    17: "the table of choices is too short",
     31: "a kept line of the log is not in the layout of a DRAT line, repeats or opposes a literal, "
     "or has a variable above 70000",
     32: "the log deletes a clause that does not stand",
@@ -87,7 +91,7 @@ _MEANINGS = {
 
 _MENDERS = {
     (*range(1, 5), *range(7, 10)): "the formula's writer",
-    range(11, 15): "the caller",
+    range(11, 18): "the caller",
     range(31, 35): "the log's writer",
     range(41, 45): "the solver",
 }
@@ -116,14 +120,20 @@ class Refused(ValueError):
 
 # ---- the library
 
+
+class _Choice(ctypes.Structure):
+    _fields_ = [("first", ctypes.c_uint32), ("length", ctypes.c_uint32), ("clauses", ctypes.c_uint32)]
+
+
 _TEXT = [ctypes.c_char_p, ctypes.c_size_t]
 _BYTES = [ctypes.POINTER(ctypes.c_uint8), ctypes.c_size_t]
 _ENTRIES = [ctypes.POINTER(ctypes.c_int32), ctypes.c_size_t]
 _COUNTS = [ctypes.POINTER(ctypes.c_uint64), ctypes.c_size_t]
+_TABLE = [ctypes.POINTER(_Choice), ctypes.c_size_t]
 
 # The arguments of host/include/sirgholyn.h; each call returns a uint32_t.
 _DECLARED: Dict[str, List[Any]] = {
-    "sirgholyn_reencode": _TEXT + [ctypes.c_uint32, ctypes.c_uint32] + _ENTRIES + _BYTES + _BYTES + _COUNTS,
+    "sirgholyn_reencode": _TEXT + 3 * [ctypes.c_uint32] + _ENTRIES + _BYTES + _BYTES + _TABLE + _COUNTS,
     "sirgholyn_walk_back": _TEXT + _TEXT + [ctypes.c_size_t] + _TEXT + _ENTRIES + _BYTES + _COUNTS,
     "sirgholyn_read_back": _TEXT + _ENTRIES + _COUNTS,
 }
@@ -184,6 +194,9 @@ def _on_large_stack(call: Callable[[], int]) -> int:
 
 # No buffer grows beyond this; a call that wants more is refused.
 _MOST_BYTES = 16 << 30
+
+# No accepted formula has more choices: each has 5 literals or more, and no variable stands in two.
+_MOST_CHOICES = 8_000 // 5
 
 
 class _Buffer:
@@ -252,6 +265,11 @@ def _form_number(form: str) -> int:
     return int(form == "order")
 
 
+def _step_number(step: int) -> int:
+    """The step as it passes: one too large for 32 bits stays one that the library refuses."""
+    return min(_count(step), 2**32 - 1)
+
+
 def _reading_workspace(text: bytes, literals: int, clauses: int, variables: int) -> int:
     """At least as many entries as the rule for reading asks for, under these limits."""
     return 40 * min(_words(text), literals) + 4 * clauses + 12 * variables + 8_192
@@ -265,8 +283,16 @@ def _words(text: bytes) -> int:
 # ---- the calls
 
 
+class Choice(NamedTuple):
+    """What is written down of a choice. Its new variables are first .. first + length - 2."""
+
+    first: int  # its first new variable
+    length: int  # its literals
+    clauses: int  # clauses of the formula that were resolved into it; 1 where it is one itself
+
+
 class Reencoding(NamedTuple):
-    """The two texts of a reencoding and its counts."""
+    """The two texts of a reencoding, its counts, and a record for each choice in the order taken."""
 
     log: bytes
     formula: bytes
@@ -274,6 +300,7 @@ class Reencoding(NamedTuple):
     highest: int  # the highest variable used
     clauses: int  # those of the new formula
     lines: int  # those of the log
+    table: List[Choice]
 
 
 def reencode(
@@ -281,31 +308,39 @@ def reencode(
     *,
     form: str = "counter",
     align: bool = False,
+    step: int = 1,
     work: Optional[int] = None,
     log_room: Optional[int] = None,
     formula_room: Optional[int] = None,
+    table_room: Optional[int] = None,
 ) -> Reencoding:
-    r"""The log and the new formula of a formula in DIMACS CNF.
+    r"""The log and the new formula of a formula in DIMACS CNF, and the table of its choices.
 
     `form` is the form of the choices, 'counter' or 'order'; with `align` the literals of linked choices are put into
-    the same order. `work` (32-bit entries), `log_room` and `formula_room` (bytes) set the size of a buffer exactly.
+    the same order. A choice's first new variable is 1 more than a multiple of `step`, 1 to 100; the numbers that are
+    skipped stand in no clause. `work` (32-bit entries), `log_room` and `formula_room` (bytes) and `table_room`
+    (records) set the size of a buffer exactly.
 
-    Raises Refused with 1 to 4, 7 to 9; with 11, 12 and 13 only where the size of that buffer is set.
+    Raises Refused with 15, 1 to 4, 7 to 9, 16; with 11, 12, 13 and 17 only where the size of that buffer is set.
 
     >>> new = reencode(b"p cnf 6 6\n1 2 3 4 5 0\n-1 6 0\n-2 6 0\n-3 6 0\n-4 -6 0\n-5 -6 0\n", form="order")
     >>> new.choices, new.highest, new.clauses, new.lines
     (1, 10, 8, 40)
     >>> new.formula.splitlines()[0]
     b'p cnf 10 8'
+    >>> reencode(b"p cnf 8 3\n1 2 3 0\n-3 4 5 0\n-5 6 7 8 0\n", step=10).table
+    [Choice(first=11, length=6, clauses=3)]
     """
     text = _bytes(text)
     form_number = _form_number(form)
     arrangement = int(bool(align))
+    step_number = _step_number(step)
     call: Callable[..., int] = _library().sirgholyn_reencode
     workspace = _Buffer(ctypes.c_int32, work, _reading_workspace(text, 60_000, 20_000, 8_000))
     guess = min(len(text), 1 << 20)
     log = _Buffer(ctypes.c_uint8, log_room, guess * 16 + (1 << 20))
     formula = _Buffer(ctypes.c_uint8, formula_room, guess * 4 + (1 << 18))
+    table = _Buffer(_Choice, table_room, _MOST_CHOICES)
     tally = _zeros(ctypes.c_uint64, 6)
     _call_until_it_fits(
         lambda: call(
@@ -313,21 +348,24 @@ def reencode(
             len(text),
             form_number,
             arrangement,
+            step_number,
             workspace.elements,
             len(workspace),
             log.elements,
             len(log),
             formula.elements,
             len(formula),
+            table.elements,
+            len(table),
             tally,
             len(tally),
         ),
-        {11: workspace, 12: log, 13: formula},
+        {11: workspace, 12: log, 13: formula, 17: table},
     )
     choices, highest, clauses, lines, log_bytes, formula_bytes = tally
-    return Reencoding(
-        log.first_bytes(log_bytes), formula.first_bytes(formula_bytes), choices, highest, clauses, lines
-    )
+    records = [Choice(each.first, each.length, each.clauses) for each in table.elements[:choices]]
+    texts = log.first_bytes(log_bytes), formula.first_bytes(formula_bytes)
+    return Reencoding(*texts, choices, highest, clauses, lines, records)
 
 
 def walk_back(
@@ -451,6 +489,7 @@ def solve(
     *,
     form: str = "order",
     align: bool = True,
+    step: int = 1,
     solver: Optional[str] = None,
     proof: Union[None, str, "os.PathLike[str]"] = None,
     check: bool = True,
@@ -459,9 +498,10 @@ def solve(
     r"""A plan for a formula in DIMACS CNF, as the literals of 1..V; None where there is no plan.
 
     Runs the command `sirgholyn solve`, which reencodes, runs the solver, carries its answer back and tests it; the
-    plan is tested here once more. `solver` is another solver than cadical, with its own options. That there is no plan
-    is believed where the solver's proof holds; without `check` it is the solver's word. `proof` names a file that gets
-    the DRAT proof of the formula. The solver gets `timeout` seconds, rounded up.
+    plan is tested here once more. `form`, `align` and `step` are those of `reencode`. `solver` is another solver than
+    cadical, with its own options. That there is no plan is believed where the solver's proof holds; without `check` it
+    is the solver's word. `proof` names a file that gets the DRAT proof of the formula. The solver gets `timeout`
+    seconds, rounded up.
 
     Raises Refused, SolverFailed, Undecided, MemoryError, and RuntimeError for any other failure of the command.
 
@@ -471,6 +511,7 @@ def solve(
     text = _bytes(text)
     _form_number(form)
     words = [_command(), "solve", "-", "--form", form, "--align" if align else "--no-align"]
+    words += ["--step", str(_step_number(step))]
     if solver is not None:
         words += [f"--solver={solver}"]
     if proof is not None:

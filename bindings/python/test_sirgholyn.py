@@ -21,7 +21,7 @@ from pathlib import Path
 from unittest import mock
 
 import sirgholyn
-from sirgholyn import Refused, SolverFailed, Undecided, plan, read_back, reencode, solve, walk_back
+from sirgholyn import Choice, Refused, SolverFailed, Undecided, plan, read_back, reencode, solve, walk_back
 
 HERE = Path(__file__).resolve().parent
 ROOT = HERE.parent.parent
@@ -38,6 +38,8 @@ G = b"p cnf 10 8\n8 -7 0\n9 -8 0\n10 -9 0\n-7 6 0\n7 -8 6 0\n8 -9 6 0\n9 -10 -6 
 COPIES = b"p cnf 5 9\n1 2 3 4 5 0\n-1 -2 0\n-1 -3 0\n-2 -1 0\n-3 -1 0\n-4 0\n-4 0\n-5 0\n-5 0\n"
 # F with literals repeated, and with clauses that hold a literal and its negation
 JOINED_F = b"p cnf 6 9\n1 2 1 3 4 5 5 0\n-1 1 0\n-1 -2 -1 0\n-1 6 0\n-2 6 0\n-3 6 0\n-4 -6 0\n2 6 -2 2 0\n-5 -6 -6 0\n"
+# three clauses that are resolved into one choice
+CHAIN = b"p cnf 8 3\n1 2 3 0\n-3 4 5 0\n-5 6 7 8 0\n"
 H_ANSWER = b"s SATISFIABLE\nv 1 2 3 4 5 -6 -7 -8 -9 10 0\n"
 H_LINE = b"v -1 -2 -3 4 -5 -6 0\n"
 
@@ -80,7 +82,7 @@ class Sessions(Case):
                 self.assertEqual(new.lines, log.count(b"\n"))
                 header = f"p cnf {new.highest} {new.clauses}\n".encode()
                 self.assertTrue(formula.startswith(header))
-                self.assertEqual(new.choices, 0)
+                self.assertEqual((new.choices, new.table), (0, []))
                 back = read_back(new.formula)
                 self.assertEqual((back.variables, len(back.clauses)), (new.highest, new.clauses))
 
@@ -110,12 +112,12 @@ class Sessions(Case):
 
     def test_f(self):
         new = reencode(F)
-        self.assertEqual(new[2:], (1, 10, 21, 18))
+        self.assertEqual(new[2:], (1, 10, 21, 18, [(7, 5, 1)]))
         self.assertEqual(len(read_back(new.formula).clauses), 21)
 
     def test_g_and_h(self):
         new = reencode(F, form="order")
-        self.assertEqual(new[1:], (G, 1, 10, 8, 41))
+        self.assertEqual(new[1:], (G, 1, 10, 8, 41, [(7, 5, 1)]))
         self.assertEqual(read_back(G).clauses[4], [7, -8, 6])
         self.assertEqual(read_back(G)[1:], (10, 19))
         self.assertEqual(walk_back(F, new.log, H_ANSWER), H_LINE)
@@ -130,6 +132,25 @@ class Sessions(Case):
         stage_4 = b"d 1 2 3 4 5 0\nd -1 -2 0\nd -1 -2 0\nd -1 -3 0\nd -1 -3 0\n"
         self.assertTrue(new.log.endswith(stage_3 + stage_4))
         self.assertEqual(walk_back(COPIES, new.log, b"s SATISFIABLE\nv 3 8 9 0\n"), b"v -1 -2 3 -4 -5 0\n")
+
+    def test_three_clauses_in_a_choice(self):
+        clashes = b"1 2 4 5 0\nd 3 1 2 0\nd -3 4 5 0\n1 2 4 6 7 8 0\nd 5 1 2 4 0\nd -5 6 7 8 0\n"
+        for form in ("counter", "order"):
+            for step, first in ((1, 9), (2, 9), (3, 10), (10, 11), (100, 101)):
+                new = reencode(CHAIN, form=form, step=step)
+                self.assertTrue(new.log.startswith(clashes + b"-%d 1 0\n" % first))
+                self.assertEqual(new.table, [Choice(first=first, length=6, clauses=3)])
+                self.assertEqual(new.highest, first + 4)
+                back = read_back(new.formula)
+                new_variables = set(range(first, first + 5))
+                named = {abs(literal) for clause in back.clauses for literal in clause}
+                self.assertEqual({variable for variable in named if variable > 8}, new_variables)
+
+    def test_tables(self):
+        text = cnf(75, [list(range(1, 6)), list(range(6, 70)), list(range(70, 76))])
+        self.assertEqual(reencode(text).table, [(76, 5, 1), (80, 64, 1), (143, 6, 1)])
+        self.assertEqual(reencode(text, step=10).table, [(81, 5, 1), (91, 64, 1), (161, 6, 1)])
+        self.assertEqual(len(reencode(cnf(8000, [range(v, v + 5) for v in range(1, 8000, 5)])).table), 1600)
 
     def test_alignment(self):
         negated = [[-literal] for literal in range(1, 11) for _ in range(2)]
@@ -156,7 +177,8 @@ class Sessions(Case):
 
     def test_results_are_plain(self):
         new = reencode(F)
-        self.assertEqual([type(part) for part in new], [bytes, bytes, int, int, int, int])
+        self.assertEqual([type(part) for part in new], [bytes, bytes, int, int, int, int, list])
+        self.assertEqual([type(part) for part in new.table[0]], [int, int, int])
         self.assertIs(type(walk_back(A, b"", ALL_FALSE)), bytes)
 
 
@@ -178,9 +200,9 @@ class Refusals(Case):
     def test_caller(self):
         new = reencode(F)
         work = 40 * 17 + 4 * 7 + 12 * 6 + 8_192
-        exact = dict(work=work, log_room=len(new.log), formula_room=len(new.formula))
+        exact = dict(work=work, log_room=len(new.log), formula_room=len(new.formula), table_room=1)
         self.assertEqual(reencode(F, **exact), new)
-        for number, name in ((11, "work"), (12, "log_room"), (13, "formula_room")):
+        for number, name in ((11, "work"), (12, "log_room"), (13, "formula_room"), (17, "table_room")):
             self.assert_refused(number, reencode, F, **dict(exact, **{name: exact[name] - 1}))
             self.assert_refused(number, reencode, F, **dict(exact, **{name: 0}))
 
@@ -195,6 +217,16 @@ class Refusals(Case):
         work = 40 * 19 + 4 * 8 + 12 * 10 + 8_192
         self.assertEqual(read_back(G, work=work), read_back(G))
         self.assert_refused(11, read_back, G, work=work - 1)
+
+    def test_step(self):
+        for step in (0, 101, 2**32, 2**32 + 1, 10**30):
+            self.assert_refused(15, reencode, F, step=step)
+            self.assert_refused(15, reencode, b"", step=step)
+        many = cnf(8000, [range(v, v + 5) for v in range(1, 8000, 5)])
+        self.assertEqual(reencode(many, step=38).highest, 68_784)
+        self.assert_refused(16, reencode, many, step=39)
+        self.assert_refused(16, reencode, many, step=39, table_room=0)
+        self.assert_refused(17, reencode, many, step=38, table_room=1599, log_room=0)
 
     def test_log(self):
         for log in (b"1  0\n", b"1 0", b"1 1 0\n", b"1 -1 0\n", b"70001 0\n", b"x"):
@@ -287,6 +319,8 @@ class Arguments(Case):
                 self.assertRaises(TypeError, call)
         for size in ("1", 1.5, b"1", [1]):
             self.assertRaises(TypeError, reencode, A, work=size)
+            self.assertRaises(TypeError, reencode, A, step=size)
+            self.assertRaises(TypeError, solve, A, step=size)
             self.assertRaises(TypeError, walk_back, A, b"", ALL_FALSE, kept=size)
         self.assertRaises(TypeError, reencode, A, "order")
         self.assertRaises(TypeError, solve, A, timeout="1")
@@ -297,6 +331,7 @@ class Arguments(Case):
             self.assertRaises(ValueError, reencode, A, form=form)
             self.assertRaises(ValueError, solve, A, form=form)
         self.assertRaises(ValueError, reencode, A, work=-1)
+        self.assertRaises(ValueError, reencode, A, step=-1)
         self.assertRaises(ValueError, walk_back, A, b"", ALL_FALSE, kept=-1)
         for line in (b"", b"v", b"v 1", b"1 0", b"v x 0"):
             self.assertRaises(ValueError, plan, line)
@@ -314,6 +349,8 @@ class Buffers(Case):
     def test_each_buffer_grows(self):
         new = reencode(F, form="order")
         back = read_back(G)
+        two = cnf(10, [range(1, 6), range(6, 11)])
+        table = reencode(two).table
         start = sirgholyn._Buffer.__init__
 
         def small(self, element, exact, guess):
@@ -321,6 +358,7 @@ class Buffers(Case):
 
         with mock.patch.object(sirgholyn._Buffer, "__init__", small):
             self.assertEqual(reencode(F, form="order"), new)
+            self.assertEqual(reencode(two).table, table)
             self.assertEqual(walk_back(F, new.log, H_ANSWER), H_LINE)
             self.assertEqual(read_back(G), back)
             with mock.patch.object(sirgholyn, "_MOST_BYTES", 500):
@@ -330,6 +368,7 @@ class Buffers(Case):
     def test_no_memory(self):
         for size in (2**60, 2**62, 2**64, 10**30):
             self.assertRaises(MemoryError, reencode, A, work=size)
+            self.assertRaises(MemoryError, reencode, A, table_room=size)
             self.assertRaises(MemoryError, walk_back, A, b"", ALL_FALSE, room=size)
             self.assertRaises(MemoryError, read_back, A, work=size)
 
@@ -387,6 +426,7 @@ class Library(Case):
             "uint8_t *": ctypes.POINTER(ctypes.c_uint8),
             "int32_t *": ctypes.POINTER(ctypes.c_int32),
             "uint64_t *": ctypes.POINTER(ctypes.c_uint64),
+            "struct sirgholyn_choice *": ctypes.POINTER(sirgholyn._Choice),
             "size_t ": ctypes.c_size_t,
             "uint32_t ": ctypes.c_uint32,
         }
@@ -397,6 +437,12 @@ class Library(Case):
         }
         self.assertEqual(len(declared), 3)
         self.assertEqual(declared, sirgholyn._DECLARED)
+        body = re.search(r"struct sirgholyn_choice \{([^}]*)\}", header).group(1)
+        fields = [(name, ctypes.c_uint32) for name in re.findall(r"^    uint32_t (\w+);", body, re.MULTILINE)]
+        self.assertEqual(fields, sirgholyn._Choice._fields_)
+        self.assertEqual([name for name, _ in fields], list(Choice._fields))
+        self.assertEqual(ctypes.sizeof(sirgholyn._Choice), 12)
+        self.assertIn(f"#define SIRGHOLYN_MOST_CHOICES {sirgholyn._MOST_CHOICES}\n", header)
 
     def test_missing(self):
         with tempfile.TemporaryDirectory() as folder:
@@ -444,6 +490,13 @@ class Solve(Case):
         text = (ROOT / "examples" / "valley.cnf").read_bytes()
         for form in ("counter", "order"):
             self.assert_plan(text, solve(text, form=form, align=False))
+
+    def test_step(self):
+        text = (ROOT / "examples" / "valley.cnf").read_bytes()
+        for form in ("counter", "order"):
+            self.assert_plan(text, solve(text, form=form, step=100))
+        self.assert_refused(15, solve, text, step=0)
+        self.assert_refused(15, solve, text, step=2**64)
 
     def test_no_plan(self):
         text = (ROOT / "examples" / "no_plan.cnf").read_bytes()
@@ -499,10 +552,10 @@ class Solve(Case):
         words = self.folder / "words"
         with self.under(f"cat >'{words}.in'; for w; do echo \"$w\"; done >'{words}'; echo s UNSATISFIABLE; exit 20"):
             self.assertIsNone(solve(E))
-            self.assertEqual(words.read_text().split("\n"), ["solve", "-", "--form", "order", "--align", "--proof", "/dev/null", ""])
+            self.assertEqual(words.read_text().split("\n"), ["solve", "-", "--form", "order", "--align", "--step", "1", "--proof", "/dev/null", ""])
             self.assertEqual(Path(f"{words}.in").read_bytes(), E)
-            solve(E, form="counter", align=False, solver="a b", proof="x", check=False, timeout=1.5)
-            expected = ["solve", "-", "--form", "counter", "--no-align", "--solver=a b"]
+            solve(E, form="counter", align=False, step=7, solver="a b", proof="x", check=False, timeout=1.5)
+            expected = ["solve", "-", "--form", "counter", "--no-align", "--step", "7", "--solver=a b"]
             expected += ["--proof", os.path.abspath("x"), "--no-check", "--timeout", "2", ""]
             self.assertEqual(words.read_text().split("\n"), expected)
 

@@ -56,7 +56,7 @@ enum sirgholyn_number {
     /* the formula has too many literals */
     SIRGHOLYN_TOO_MANY_LITERALS = 9,
 
-    /* 11 to 14: the caller can mend it. */
+    /* 11 to 17: the caller can mend it. */
 
     /* the workspace is too short */
     SIRGHOLYN_WORK_SHORT = 11,
@@ -66,6 +66,12 @@ enum sirgholyn_number {
     SIRGHOLYN_FORMULA_SHORT = 13,
     /* the answer's buffer is too short */
     SIRGHOLYN_LINE_SHORT = 14,
+    /* the step is outside 1 to 100 */
+    SIRGHOLYN_STEP_OUTSIDE = 15,
+    /* with this step the highest variable would pass 70000 */
+    SIRGHOLYN_STEP_TOO_LARGE = 16,
+    /* the table of choices is too short */
+    SIRGHOLYN_TABLE_SHORT = 17,
 
     /* 31 to 34: the log's writer can mend it. */
 
@@ -115,6 +121,21 @@ enum sirgholyn_number {
 #define SIRGHOLYN_AS_LISTED 0
 #define SIRGHOLYN_ALIGNED 1
 
+/* step: 1 to SIRGHOLYN_MOST_STEP. A choice's first new variable is the least number above all used
+ * that is 1 more than a multiple of it; the numbers skipped stand in no clause. 1 skips none. */
+#define SIRGHOLYN_MOST_STEP 100
+
+/* What is written down of a choice. Its new variables are first .. first + length - 2, of which the
+ * i-th says that one of its first i literals is true. */
+struct sirgholyn_choice {
+    uint32_t first;                       /* its first new variable */
+    uint32_t length;                      /* its literals */
+    uint32_t clauses;                     /* input clauses resolved into it; 1: it is one itself */
+};
+
+/* A table of so many records is long enough for any formula. */
+#define SIRGHOLYN_MOST_CHOICES 1600
+
 /* The 32-bit entries of workspace that are enough, with one fewer number 11; for reading back too.
  * By the L literals that are kept, and the C and V of the header. */
 #define SIRGHOLYN_WORK(L, C, V) \
@@ -131,22 +152,26 @@ enum sirgholyn_reencode_count {
     SIRGHOLYN_REENCODE_COUNTS = 6
 };
 
-/* Gives a formula's log and its new formula.
+/* Gives a formula's log, its new formula and the table of its choices.
  *   text         read: the formula in DIMACS CNF
  *   form         SIRGHOLYN_COUNTER or SIRGHOLYN_ORDER
  *   arrangement  SIRGHOLYN_AS_LISTED or SIRGHOLYN_ALIGNED
+ *   step         1 to SIRGHOLYN_MOST_STEP
  *   work         workspace: SIRGHOLYN_WORK(L, C, V) entries
  *   log          written: the log, DRAT in text
  *   formula      written: the new formula in DIMACS CNF
+ *   table        written: a record for each choice, in the order in which they are taken
  *   tally        written: the counts, of enum sirgholyn_reencode_count
- * Returns 0, or 1 to 4, 7 to 9, 11, 12, 13, in this order. */
+ * Returns 0, or 15, 1 to 4, 7 to 9, 11, 16, 17, 12, 13, in this order. */
 uint32_t sirgholyn_reencode(
     const uint8_t *text, size_t text_len,
     uint32_t form,
     uint32_t arrangement,
+    uint32_t step,
     int32_t *work, size_t work_len,
     uint8_t *log, size_t log_len,
     uint8_t *formula, size_t formula_len,
+    struct sirgholyn_choice *table, size_t table_len,
     uint64_t *tally, size_t tally_len);
 
 /* ---- walk-back */

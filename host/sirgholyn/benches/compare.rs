@@ -14,7 +14,7 @@ use measure::{measure_once, spent, Spent};
 use model::generator::{largest_with, text_of, Random};
 use model::reading::{read_formula, INPUT_LIMITS};
 use model::valleys::Valley;
-use sirgholyn::{calls, Arrangement, Form, ReencodeRoom};
+use sirgholyn::{calls, Arrangement, ChoiceRecord, Form, ReencodeRoom, Settings};
 use std::hint::black_box;
 use std::path::Path;
 use std::process::{Command, Stdio};
@@ -53,11 +53,13 @@ fn named(form: &str) -> Form {
 fn reencode_once(who: &str, file: &str, form: &str, sizes: &[&str]) {
     let text = fs::read(file).unwrap();
     let (form, wish) = (named(form), Arrangement::Alignment);
+    let settings = Settings::new(form, wish);
     if who == "sirgholyn" {
         let sizes: Vec<usize> = sizes.iter().map(|size| size.parse().unwrap()).collect();
         let mut work = vec![0; sizes[0]];
         let (mut log, mut formula) = (vec![0; sizes[1]], vec![0; sizes[2]]);
-        calls::reencode(&text, form, wish, &mut work, &mut log, &mut formula).unwrap();
+        let table = &mut vec![ChoiceRecord::default(); sizes[3]];
+        calls::reencode(&text, settings, &mut work, &mut log, &mut formula, table).unwrap();
     } else {
         black_box(vectors::reencode(&text, form, wish).ok().unwrap());
     }
@@ -203,17 +205,23 @@ fn in_folder(work: impl FnOnce(&Path)) {
     fs::remove_dir_all(&folder).unwrap();
 }
 
-/// The sizes of the least buffers: workspace, log and formula. Library and vectors have the same bytes.
-fn least_sizes(text: &[u8], form: Form) -> [usize; 3] {
+/// The sizes of the least buffers: workspace, log, formula and table. Library and vectors have the same bytes.
+fn least_sizes(text: &[u8], form: Form) -> [usize; 4] {
     let wish = Arrangement::Alignment;
     let other = vectors::reencode(text, form, wish).ok().unwrap();
     let work = read_formula(text, &INPUT_LIMITS)
         .unwrap()
         .workspace_needed();
-    let sizes = [work as usize, other.log.len(), other.formula.len()];
-    let [work, log, formula] = sizes.map(Some);
-    let room = ReencodeRoom { work, log, formula };
-    let new = sirgholyn::reencode(text, form, wish, room).unwrap();
+    let texts = [other.log.len(), other.formula.len()];
+    let sizes = [work as usize, texts[0], texts[1], other.choices];
+    let [work, log, formula, table] = sizes.map(Some);
+    let room = ReencodeRoom {
+        work,
+        log,
+        formula,
+        table,
+    };
+    let new = sirgholyn::reencode(text, Settings::new(form, wish), room).unwrap();
     assert!(new.log == other.log && new.formula == other.formula);
     let tally = new.tally;
     let counts = [tally.choices, tally.highest, tally.clauses, tally.lines];
@@ -234,7 +242,7 @@ fn measure_row(folder: &Path, input: &Input, form: &'static str, counted: bool) 
     let file = path("formula.cnf");
     fs::write(&file, &input.text).unwrap();
     let sizes = least_sizes(&input.text, named(form));
-    let [work, log, formula] = sizes.map(|size| size.to_string());
+    let sizes_in_words = sizes.map(|size| size.to_string());
     let own = env::current_exe().unwrap().to_string_lossy().into_owned();
     let words = |who| match who {
         "cadical" => words(&[
@@ -256,7 +264,10 @@ fn measure_row(folder: &Path, input: &Input, form: &'static str, counted: bool) 
             &format!("-dimacs={}", path("minisat.cnf")),
             &file,
         ]),
-        _ => words(&[&own, "--reencode", who, &file, form, &work, &log, &formula]),
+        _ => {
+            let first = words(&[&own, "--reencode", who, &file, form]);
+            [&first[..], &sizes_in_words].concat()
+        }
     };
     Row {
         family: input.family,

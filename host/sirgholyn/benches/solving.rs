@@ -14,7 +14,9 @@ mod solvers;
 use measure::{measure_once, spent};
 use model::generator::{text_of, Random};
 use model::valleys::Valley;
-use sirgholyn::{plan, reencode, walk_back, Arrangement, Form, ReencodeRoom, WalkBackRoom};
+use sirgholyn::{
+    plan, reencode, walk_back, Arrangement, Form, ReencodeRoom, Settings, WalkBackRoom,
+};
 use solvers::Folder;
 use std::{env, fs};
 
@@ -177,7 +179,8 @@ fn versions(text: &[u8]) -> Vec<Version> {
         lines: 0,
     }];
     for (_, form, arrangement) in WAYS {
-        let new = reencode(text, form, arrangement, ReencodeRoom::default()).unwrap();
+        let settings = Settings::new(form, arrangement);
+        let new = reencode(text, settings, ReencodeRoom::default()).unwrap();
         versions.push(Version {
             formula: new.formula,
             log: new.log,

@@ -1,7 +1,7 @@
 //! The calls with buffers of their own: made by the size of the texts, and larger until they fit.
 
-use crate::calls::{self, Arrangement, Counts, Form, Tally};
-use crate::limits::{Limits, MOST_BUFFER_BYTES, MOST_LOG_VARIABLES};
+use crate::calls::{self, ChoiceRecord, Counts, Settings, Tally};
+use crate::limits::{Limits, MOST_BUFFER_BYTES, MOST_CHOICES, MOST_LOG_VARIABLES};
 use crate::refusals::Refusal;
 use std::alloc::{alloc_zeroed, Layout};
 use std::fmt;
@@ -35,6 +35,8 @@ pub struct ReencodeRoom {
     pub log: Option<usize>,
     /// Bytes.
     pub formula: Option<usize>,
+    /// Records.
+    pub table: Option<usize>,
 }
 
 /// Exact sizes of a walk-back's buffers; those left open are made large enough.
@@ -55,6 +57,8 @@ pub struct Reencoded {
     pub log: Vec<u8>,
     /// The new formula, DIMACS CNF.
     pub formula: Vec<u8>,
+    /// A record for each choice, in the order in which they were taken.
+    pub table: Vec<ChoiceRecord>,
 }
 
 /// Clauses as `read_back` leaves them.
@@ -77,44 +81,44 @@ impl ReadBack {
     }
 }
 
-/// Gives a formula's log and new formula.
+/// Gives a formula's log, new formula and table of choices.
 ///
-/// Refuses with 1 to 4, 7 to 9; with 11, 12 and 13 only where the room for it is set.
+/// Refuses with 15, 1 to 4, 7 to 9, 16; with 11, 12, 13 and 17 only where the room for it is set.
 ///
 /// ```
-/// use sirgholyn::{reencode, Form, ReencodeRoom, Arrangement};
+/// use sirgholyn::{reencode, Arrangement, ChoiceRecord, Form, ReencodeRoom, Settings};
+/// let settings = Settings::new(Form::Counter, Arrangement::AsListed);
 /// let text = b"p cnf 3 2\n1 2 0\n-1 3 0\n";
-/// let new = reencode(text, Form::Counter, Arrangement::AsListed, ReencodeRoom::default()).unwrap();
+/// let new = reencode(text, settings, ReencodeRoom::default()).unwrap();
 /// assert_eq!(new.log, b"2 3 0\nd 1 2 0\nd -1 3 0\nd 2 3 0\n");
 /// assert_eq!(new.formula, b"p cnf 3 0\n");
+///
+/// let text = b"p cnf 8 3\n1 2 3 0\n-3 4 5 0\n-5 6 7 8 0\n";
+/// let new = reencode(text, settings.with_step(10), ReencodeRoom::default()).unwrap();
+/// assert_eq!(new.table, [ChoiceRecord { first: 11, length: 6, clauses: 3 }]);
 /// ```
-pub fn reencode(
-    text: &[u8],
-    form: Form,
-    arrangement: Arrangement,
-    room: ReencodeRoom,
-) -> Result<Reencoded, Error> {
+pub fn reencode(text: &[u8], settings: Settings, room: ReencodeRoom) -> Result<Reencoded, Error> {
     let mut work = Buffer::new(room.work, reading_workspace(text, &Limits::INPUT))?;
     let guess = text.len().min(1 << 20);
     let mut log = Buffer::new(room.log, guess * 16 + (1 << 20))?;
     let mut formula = Buffer::new(room.formula, guess * 4 + (1 << 18))?;
+    let mut table = Buffer::new(room.table, MOST_CHOICES)?;
     loop {
         let outcome = calls::reencode(
             text,
-            form,
-            arrangement,
+            settings,
             &mut work.entries,
             &mut log.entries,
             &mut formula.entries,
+            &mut table.entries,
         );
         match outcome {
             Ok(tally) => {
-                let log = log.into_first(tally.log_bytes);
-                let formula = formula.into_first(tally.formula_bytes);
                 return Ok(Reencoded {
                     tally,
-                    log,
-                    formula,
+                    log: log.into_first(tally.log_bytes),
+                    formula: formula.into_first(tally.formula_bytes),
+                    table: table.into_first(tally.choices as usize),
                 });
             }
             Err(11) if work.grow()? => {}
@@ -235,10 +239,11 @@ impl<T: Number> Buffer<T> {
     }
 }
 
-/// Numbers whose bytes may all be zero.
+/// Numbers, or records of them, whose bytes may all be zero.
 trait Number: Copy {}
 impl Number for u8 {}
 impl Number for i32 {}
+impl Number for ChoiceRecord {}
 
 /// Zeros. The system hands their memory out as they are first written, so a guess may be generous.
 fn zeroed<T: Number>(count: usize) -> Result<Vec<T>, Error> {

@@ -26,7 +26,47 @@ pub enum Arrangement {
     Alignment,
 }
 
-/// What a reencoding tells beside its two texts.
+/// What the caller wishes of a reencoding.
+#[derive(Debug, Clone, Copy, PartialEq, Eq)]
+pub struct Settings {
+    /// The form of the choices.
+    pub form: Form,
+    /// The order of their literals.
+    pub arrangement: Arrangement,
+    /// A choice's first new variable is the least number above all used that is 1 more than a multiple of it. From
+    /// 1 to 100; the library refuses any other with 15.
+    pub step: u32,
+}
+
+impl Settings {
+    /// With step 1, which skips no number.
+    pub const fn new(form: Form, arrangement: Arrangement) -> Settings {
+        Settings {
+            form,
+            arrangement,
+            step: 1,
+        }
+    }
+
+    /// The same with another step.
+    pub const fn with_step(self, step: u32) -> Settings {
+        Settings { step, ..self }
+    }
+}
+
+/// What is written down of a choice.
+#[repr(C)]
+#[derive(Debug, Clone, Copy, Default, PartialEq, Eq)]
+pub struct ChoiceRecord {
+    /// Its first new variable; the others follow one by one, `length - 1` in all.
+    pub first: u32,
+    /// Its number of literals.
+    pub length: u32,
+    /// How many input clauses were resolved into it; 1 where it is an input clause itself.
+    pub clauses: u32,
+}
+
+/// What a reencoding tells beside its two texts and its table.
 #[derive(Debug, Clone, Copy, PartialEq, Eq)]
 pub struct Tally {
     /// Clauses taken as choices.
@@ -57,18 +97,23 @@ pub struct Counts {
 /// The C functions as they are: pointer and length for a slice; the tally takes as many numbers as fit.
 #[allow(missing_docs)]
 pub mod library {
+    use super::ChoiceRecord;
+
     extern "C" {
         pub fn sirgholyn_reencode(
             text: *const u8,
             text_len: usize,
             form: u32,
             arrangement: u32,
+            step: u32,
             work: *mut i32,
             work_len: usize,
             log: *mut u8,
             log_len: usize,
             formula: *mut u8,
             formula_len: usize,
+            table: *mut ChoiceRecord,
+            table_len: usize,
             tally: *mut u64,
             tally_len: usize,
         ) -> u32;
@@ -136,20 +181,21 @@ fn outcome<R>(number: u32, result: R) -> Result<R, u32> {
     }
 }
 
-/// Writes the log and the new formula of a text. Refuses with 1 to 4, 7 to 9, 11, 12, 13.
+/// Writes the log and the new formula of a text, and a record for each choice in the order in which they are taken.
+/// Refuses with 15, 1 to 4, 7 to 9, 11, 16, 17, 12, 13.
 pub fn reencode(
     text: &[u8],
-    form: Form,
-    arrangement: Arrangement,
+    settings: Settings,
     work: &mut [i32],
     log: &mut [u8],
     formula: &mut [u8],
+    table: &mut [ChoiceRecord],
 ) -> Result<Tally, u32> {
-    let form = match form {
+    let form = match settings.form {
         Form::Counter => 0,
         Form::Order => 1,
     };
-    let arrangement = match arrangement {
+    let arrangement = match settings.arrangement {
         Arrangement::AsListed => 0,
         Arrangement::Alignment => 1,
     };
@@ -162,12 +208,15 @@ pub fn reencode(
             text.len(),
             form,
             arrangement,
+            settings.step,
             work.as_mut_ptr(),
             work.len(),
             log.as_mut_ptr(),
             log.len(),
             formula.as_mut_ptr(),
             formula.len(),
+            table.as_mut_ptr(),
+            table.len(),
             lent.as_mut_ptr(),
             lent.len(),
         )

@@ -18,5 +18,5 @@ pub mod shown;
 pub use buffers::{
     read_back, reencode, walk_back, Error, ReadBack, ReencodeRoom, Reencoded, WalkBackRoom,
 };
-pub use calls::{Arrangement, Counts, Form, Tally};
+pub use calls::{Arrangement, ChoiceRecord, Counts, Form, Settings, Tally};
 pub use refusals::Refusal;

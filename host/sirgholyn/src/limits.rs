@@ -28,6 +28,9 @@ impl Limits {
     };
 }
 
+/// No accepted formula has more choices: each has 5 literals or more, and no variable stands in two.
+pub const MOST_CHOICES: usize = Limits::INPUT.variables / 5;
+
 /// No variable of a log is above this one.
 pub const MOST_LOG_VARIABLES: usize = 70_000;
 

@@ -21,6 +21,9 @@ impl Refusal {
             12 => "the log's buffer is too short",
             13 => "the new formula's buffer is too short",
             14 => "the answer's buffer is too short",
+            15 => "the step is outside 1 to 100",
+            16 => "with this step the highest variable would pass 70000",
+            17 => "the table of choices is too short",
             31 => "a kept line of the log is not in the layout of a DRAT line, repeats or opposes a literal, or has a variable above 70000",
             32 => "the log deletes a clause that does not stand",
             33 => "the walked-back assignment fails the formula",
@@ -37,7 +40,7 @@ impl Refusal {
     pub fn mender(self) -> &'static str {
         match self.0 {
             1..=4 | 7..=9 => "the formula's writer",
-            11..=14 => "the caller",
+            11..=17 => "the caller",
             31..=34 => "the log's writer",
             41..=44 => "the solver",
             _ => "nobody listed",

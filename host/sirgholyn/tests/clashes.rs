@@ -12,7 +12,7 @@ use model::encoding::Encoding;
 use model::generator::{text_of, Random};
 use model::reading::Formula;
 use model::standing::{holds_opposites, Standing};
-use sirgholyn::{Arrangement, Form};
+use sirgholyn::Settings;
 use std::collections::BTreeSet;
 
 const FORMULAS: u64 = 3_000;
@@ -26,10 +26,10 @@ fn word(variable: i32) -> i32 {
 }
 
 /// Reencodes by library and model; the answer is the model's run.
-fn compare(formula: &Formula, (form, arrangement): (Form, Arrangement)) -> Encoding {
-    let encoding = run_model(formula, form, arrangement);
+fn compare(formula: &Formula, way: Settings) -> Encoding {
+    let encoding = run_model(formula, way);
     let room = Room::exact(formula, &encoding);
-    let number = compare_reencode(&text_of(formula), form, arrangement, room);
+    let number = compare_reencode(&text_of(formula), way, room);
     assert_eq!(number, 0);
     encoding
 }

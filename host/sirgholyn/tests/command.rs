@@ -6,8 +6,8 @@ use common::command::{example, expect_failure, run, run_with, Ran};
 use common::formulas::JOINED_F;
 use common::numbers_of;
 use common::solvers::Folder;
-use model::generator::{text_of, Random};
-use model::sessions::F;
+use model::generator::{clauses_apart, text_of, Random};
+use model::sessions::{CHAIN, F};
 use model::valleys::Valley;
 use sirgholyn::plan;
 use std::fs;
@@ -76,6 +76,63 @@ fn standard_input_and_output() {
     assert_eq!(ran.out, "0\nd 1 0\nd -1 0\n");
 }
 
+/// The table of choices to the byte: as a file beside the other two, and on standard output.
+#[test]
+fn tables() {
+    let folder = Folder::new();
+    let input = folder.write("in.cnf", CHAIN.as_bytes());
+    let paths = ["new.cnf", "new.drat", "new.tsv"].map(|name| folder.path(name));
+    let outputs = [
+        "--formula",
+        &paths[0],
+        "--log",
+        &paths[1],
+        "--table",
+        &paths[2],
+    ];
+    for form in ["counter", "order"] {
+        let ran = run(&[&["reencode", &input, "--form", form], &outputs[..]].concat());
+        assert_eq!((ran.status, ran.err.as_str()), (0, ""));
+        assert!(ran.out.starts_with("choices 1 highest 13 "));
+        let table = fs::read_to_string(&paths[2]).unwrap();
+        assert_eq!(table, "first\tlength\tclauses\n9\t6\t3\n");
+        let log = fs::read_to_string(&paths[1]).unwrap();
+        assert!(log.starts_with("1 2 4 5 0\nd 3 1 2 0\nd -3 4 5 0\n1 2 4 6 7 8 0\n"));
+    }
+    assert_eq!(folder.names(), ["in.cnf", "new.cnf", "new.drat", "new.tsv"]);
+
+    let printed = |words: &[&str], input: &str| {
+        let ran = run_with(
+            &[&["reencode", "-", "--table", "-"], words].concat(),
+            input.as_bytes(),
+        );
+        assert_eq!(ran.status, 0);
+        assert!(ran.err.starts_with("choices "));
+        ran.out
+    };
+    let table = printed(&["--step", "10", "--table-room", "1"], CHAIN);
+    assert_eq!(table, "first\tlength\tclauses\n11\t6\t3\n");
+    let two = "p cnf 11 2\n1 2 3 4 5 0\n6 7 8 9 10 11 0\n";
+    let table = printed(&["--step=100"], two);
+    assert_eq!(table, "first\tlength\tclauses\n101\t5\t1\n201\t6\t1\n");
+    assert_eq!(printed(&[], "p cnf 0 0\n"), "first\tlength\tclauses\n");
+}
+
+/// Step 1 is no step, and a longer one changes numbers only.
+#[test]
+fn steps() {
+    let log = |words: &[&str]| {
+        let words = [&["reencode", "-", "--log", "-"], words].concat();
+        run_with(&words, CHAIN.as_bytes()).out
+    };
+    assert_eq!(log(&["--step", "1"]), log(&[]));
+    let later = log(&["--step", "20"]);
+    let turned = (9..=13).fold(log(&[]), |text, variable: i32| {
+        text.replace(&format!("{variable} "), &format!("{} ", variable + 12))
+    });
+    assert_eq!(later, turned);
+}
+
 #[test]
 fn help_and_version() {
     let ran = run(&["--help"]);
@@ -125,7 +182,7 @@ fn help_tells_every_option() {
             }
         }
     }
-    assert_eq!(options, 18);
+    assert_eq!(options, 22);
 }
 
 #[test]
@@ -203,6 +260,22 @@ fn wrong_words() {
             &["reencode", "a", "--work", "18446744073709551616"],
             "`--work` wants a number",
         ),
+        (&["reencode", "a", "--step"], "`--step` wants a value"),
+        (
+            &["reencode", "a", "--step", "ten"],
+            "`--step` wants a number",
+        ),
+        (&["solve", "a", "--step=-1"], "`--step` wants a number"),
+        (
+            &["walk-back", "a", "b", "c", "--step", "1"],
+            "no option `--step` here",
+        ),
+        (&["reencode", "a", "--table"], "`--table` wants a value"),
+        (&["solve", "a", "--table", "b"], "no option `--table` here"),
+        (
+            &["reencode", "a", "--table-room", "x"],
+            "`--table-room` wants a number",
+        ),
         (
             &["walk-back", "a", "b"],
             "wanted: IN.cnf LOG.drat ANSWER; found 2",
@@ -260,6 +333,22 @@ fn refusals_are_the_exit_status() {
         13,
         caller,
     );
+    for step in [
+        "0",
+        "101",
+        "4294967295",
+        "4294967297",
+        "18446744073709551615",
+    ] {
+        expect_failure(&run(&["reencode", &input, "--step", step]), 15, caller);
+        expect_failure(&run(&["reencode", "/dev/null", "--step", step]), 15, caller);
+    }
+    let many = folder.write("many.cnf", &text_of(&clauses_apart(5, 1_600)));
+    assert_eq!(run(&["reencode", &many, "--step", "38"]).status, 0);
+    expect_failure(&run(&["reencode", &many, "--step", "39"]), 16, caller);
+    let table = |room| run(&["reencode", &input, "--table-room", room, "--log-room", "10"]);
+    expect_failure(&table("0"), 17, caller);
+    expect_failure(&table("1"), 12, caller);
     expect_failure(&run(&["read-back", &input, "--work=0"]), 11, caller);
     let kept = run(&[
         "walk-back",
@@ -399,11 +488,10 @@ fn enormous_inputs() {
     assert_eq!(run(&["reencode", &comment]).status, 0);
     let input = folder.write("in.cnf", F.as_bytes());
     for room in ["999999999999999999", "18446744073709551615"] {
-        expect_failure(
-            &run(&["reencode", &input, "--log-room", room]),
-            71,
-            "no memory",
-        );
+        for option in ["--log-room", "--table-room"] {
+            let ran = run(&["reencode", &input, option, room]);
+            expect_failure(&ran, 71, "no memory");
+        }
     }
 }
 

@@ -2,19 +2,22 @@
 
 mod common;
 
-use common::formulas::{any_kind_joined, is_joined};
+use common::formulas::{any_kind_joined, choices_near_the_limit, is_joined};
 use common::lines::lines_of_choices;
 use common::{
     compare_read_back, compare_reencode, compare_walk_back, expect_more, new_formula, note,
-    over_seeds, run_model, sum, walk_back_work, work_for, Occurred, Room, WAYS,
+    over_seeds, run_model, skipped, sum, walk_back_work, work_for, Occurred, Room, NO_STEPS, STEPS,
+    WAYS,
 };
 use model::encoding::{Encoding, Tally, PAIRS};
 use model::generator::{
-    answer_after, clauses_with_repeat, damage, damage_log, repeats_in_choices, Joined, Random,
+    answer_after, clauses_with_repeat, damage, damage_log, repeats_in_choices, text_of, Joined,
+    Random,
 };
 use model::reading::{read_formula, Formula, INPUT_LIMITS};
 use model::texts::{log_text, Line};
-use sirgholyn::Form;
+use model::ChoiceRecord;
+use sirgholyn::{Form, Settings};
 
 const FORMULAS: u64 = 22_000;
 
@@ -71,6 +74,59 @@ fn note_walked(occurred: &mut Occurred, way: &str, encoding: &Encoding, kept: us
     }
 }
 
+/// Each choice's first new variable is the least above all used that is 1 more than a multiple of the step.
+fn expect_firsts(step: i32, variables: i32, table: &[ChoiceRecord]) {
+    let mut used = variables;
+    for record in table {
+        let distance = record.first - used;
+        assert!((1..=step).contains(&distance) && (record.first - 1) % step == 0);
+        used = record.first + record.length as i32 - 2;
+    }
+    let is_short = |record: &ChoiceRecord| record.length as i32 <= step + 1;
+    if table.iter().all(is_short) {
+        let mut neighbours = table.windows(2);
+        assert!(neighbours.all(|pair| pair[1].first - pair[0].first == step));
+    }
+}
+
+/// What is skipped stands in no line: a variable above V is a choice's.
+fn expect_used(variables: i32, encoding: &Encoding) {
+    let has = |record: &ChoiceRecord, variable: i32| {
+        (record.first..record.first + record.length as i32 - 1).contains(&variable)
+    };
+    let is_used = |variable: i32| {
+        variable <= variables || encoding.table.iter().any(|record| has(record, variable))
+    };
+    let mut literals = encoding.log.iter().flat_map(|line| &line.literals);
+    assert!(literals.all(|literal| is_used(literal.abs())));
+}
+
+/// The table of a run that was accepted: its records by their input clauses, and what the step has skipped.
+fn note_table(occurred: &mut Occurred, way: Settings, formula: &Formula, encoding: &Encoding) {
+    expect_firsts(way.step as i32, formula.variables, &encoding.table);
+    expect_used(formula.variables, encoding);
+    for record in &encoding.table {
+        let clauses = ["1", "2", "3 or more"][record.clauses.min(3) - 1];
+        let what = format!("{:?}: records with {clauses} input clauses", way.form);
+        note(occurred, what, 1);
+    }
+    let skipped = skipped(formula, encoding);
+    assert!(way.step > 1 || skipped == 0);
+    let several = way.step > 1 && encoding.table.len() > 1;
+    for (what, times) in [
+        ("numbers skipped", usize::from(skipped > 0)),
+        ("several choices, step above 1", usize::from(several)),
+    ] {
+        note(occurred, format!("{:?}: {what}", way.form), times);
+    }
+    let with_choices = usize::from(!encoding.table.is_empty());
+    note(
+        occurred,
+        format!("choices, step {:03}", way.step),
+        with_choices,
+    );
+}
+
 /// The number of lines in counter form: clashes have three each, or two if no resolvent is added, pure clauses one.
 fn expect_lines(occurred: &mut Occurred, formula: &Formula, encoding: &Encoding) {
     let (lines, tally) = (encoding.log.len(), &encoding.tally);
@@ -120,11 +176,11 @@ fn in_order(seed: u64, occurred: &mut Occurred) {
     let mut random = Random::new(seed);
     let input = any_kind_joined(&mut random);
     for form in [0, 2] {
-        let (form, arrangement) = WAYS[form + random.below(2)];
-        let way = format!("{form:?} {arrangement:?}");
-        let encoding = run_model(&input.formula, form, arrangement);
+        let way = WAYS[form + random.below(2)].with_step(*random.one_of(&STEPS));
+        let name = name_of(way);
+        let encoding = run_model(&input.formula, way);
         note_run(occurred, &encoding);
-        note_choices(occurred, &way, &encoding);
+        note_choices(occurred, &name, &encoding);
         let repeats = repeats_in_choices(&input.text, &encoding);
         note(occurred, "repeats in choices", repeats);
         let new: Joined = new_formula(&encoding).into();
@@ -132,11 +188,16 @@ fn in_order(seed: u64, occurred: &mut Occurred) {
             work: around(&mut random, work_for(&input.formula)),
             log: around(&mut random, log_text(&encoding.log).len()),
             formula: around(&mut random, new.text.len()),
+            table: around(&mut random, encoding.table.len()),
         };
-        let number = compare_reencode(&input.text, form, arrangement, room);
+        let asked = mostly(&mut random, way);
+        let number = compare_reencode(&input.text, asked, room);
         read_outcome(occurred, "reencode", number, &input);
-        if form == Form::Counter && number == 0 {
-            expect_lines(occurred, &input.formula, &encoding);
+        if number == 0 {
+            note_table(occurred, way, &input.formula, &encoding);
+            if way.form == Form::Counter {
+                expect_lines(occurred, &input.formula, &encoding);
+            }
         }
         for text in [&new, &input] {
             let store = around(&mut random, work_for(&text.formula));
@@ -146,9 +207,38 @@ fn in_order(seed: u64, occurred: &mut Occurred) {
         let (number, kept) = walk_in_order(&mut random, &input, &encoding);
         read_outcome(occurred, "walk-back", number, &input);
         if number == 0 {
-            note_walked(occurred, &way, &encoding, kept);
+            note_walked(occurred, &name, &encoding, kept);
         }
     }
+}
+
+fn name_of(way: Settings) -> String {
+    format!("{:?} {:?}", way.form, way.arrangement)
+}
+
+/// The way itself, at times with a step that is refused.
+fn mostly(random: &mut Random, way: Settings) -> Settings {
+    match random.chance(3) {
+        true => way.with_step(*random.one_of(&NO_STEPS)),
+        false => way,
+    }
+}
+
+/// Formulas whose highest variable is near the limit.
+fn near_the_limit(seed: u64, occurred: &mut Occurred) {
+    let random = &mut Random::new(seed + (2 << 32));
+    let step = *random.one_of(&[39, 64, 100]);
+    let way = random.one_of(&WAYS).with_step(step);
+    let formula = choices_near_the_limit(random, step as usize);
+    let encoding = run_model(&formula, way);
+    let exact = Room::exact(&formula, &encoding);
+    let room = Room {
+        work: around(random, exact.work),
+        table: around(random, exact.table),
+        ..exact
+    };
+    let number = compare_reencode(&text_of(&formula), way, room);
+    outcome(occurred, "near the limit", number);
 }
 
 /// Walks back over all lines of a log or the first of them; the answer is the number, and how many were kept.
@@ -176,8 +266,8 @@ fn walk_in_order(random: &mut Random, input: &Joined, encoding: &Encoding) -> (u
 fn changed(seed: u64, occurred: &mut Occurred) {
     let mut random = Random::new(seed + (1 << 32));
     let input = any_kind_joined(&mut random);
-    let (form, arrangement) = *random.one_of(&WAYS);
-    let encoding = run_model(&input.formula, form, arrangement);
+    let way = random.one_of(&WAYS).with_step(*random.one_of(&STEPS));
+    let encoding = run_model(&input.formula, way);
     let mut text = input.text.clone();
     for _ in 0..random.below(3) {
         text = damage(&mut random, &text);
@@ -186,14 +276,16 @@ fn changed(seed: u64, occurred: &mut Occurred) {
         work: work_for(&input.formula) + 100,
         log: log_text(&encoding.log).len() + 400,
         formula: 20 * text.len() + 4_000,
+        table: encoding.table.len() + random.below(5),
     };
-    let number = compare_reencode(&text, form, arrangement, room);
+    let number = compare_reencode(&text, mostly(&mut random, way), room);
     outcome(occurred, "reencode", number);
     if number == 0 {
         let read = read_formula(&text, &INPUT_LIMITS).unwrap();
-        let encoding = run_model(&read, form, arrangement);
+        let encoding = run_model(&read, way);
         note_choices(occurred, "changed", &encoding);
-        if form == Form::Counter {
+        note_table(occurred, way, &read, &encoding);
+        if way.form == Form::Counter {
             expect_lines(occurred, &read, &encoding);
         }
     }
@@ -233,13 +325,17 @@ fn library_and_model_agree() {
         if seed % 2 == 0 {
             changed(seed, occurred);
         }
+        if seed % 100 == 0 {
+            near_the_limit(seed, occurred);
+        }
     });
     let occurred = sum(counted);
     println!("{FORMULAS} formulas in both forms, and half as many changed: {occurred:#?}");
     expect_cases(&occurred);
     expect_choices(&occurred);
+    expect_tables(&occurred);
     for (call, numbers) in [
-        ("reencode", &[0, 1, 2, 3, 4, 7, 8, 11, 12, 13][..]),
+        ("reencode", &[0, 1, 2, 3, 4, 7, 8, 11, 12, 13, 15, 17][..]),
         ("read-back", &[0, 1, 2, 3, 4, 7, 8, 11]),
         ("walk-back", &[0, 11, 14, 31, 32, 33, 34, 41, 42, 43, 44]),
     ] {
@@ -286,8 +382,7 @@ fn expect_choices(occurred: &Occurred) {
         cases.map(|(what, least)| (format!("{of}: {what}"), least))
     };
     expect_more(occurred, choices("changed"));
-    for (form, arrangement) in WAYS {
-        let way = format!("{form:?} {arrangement:?}");
+    for way in WAYS.map(name_of) {
         expect_more(occurred, choices(&way));
         for (what, least) in [
             ("free choices", 200),
@@ -301,6 +396,32 @@ fn expect_choices(occurred: &Occurred) {
             expect_more(occurred, of_way);
         }
     }
+}
+
+/// Records of all kinds in both forms, steps that skip numbers, and what only the step and the table can raise.
+fn expect_tables(occurred: &Occurred) {
+    for form in [Form::Counter, Form::Order] {
+        let cases = [
+            ("records with 1 input clauses", 5_000),
+            ("records with 2 input clauses", 1_000),
+            ("records with 3 or more input clauses", 1_000),
+            ("numbers skipped", 5_000),
+            ("several choices, step above 1", 1_000),
+        ];
+        expect_more(
+            occurred,
+            cases.map(|(what, least)| (format!("{form:?}: {what}"), least)),
+        );
+    }
+    expect_more(
+        occurred,
+        STEPS.map(|step| (format!("choices, step {step:03}"), 1_000)),
+    );
+    let numbers = [("reencode 15", 500), ("reencode 17", 500)];
+    expect_more(occurred, numbers);
+    let numbers = [(0, 50), (11, 5), (16, 50), (17, 2)];
+    let near = |(number, least)| (format!("near the limit {number:02}"), least);
+    expect_more(occurred, numbers.map(near));
 }
 
 /// The call ended with each of these numbers and no other, and accepted texts of both kinds.

@@ -6,13 +6,12 @@ mod common;
 use common::formulas::JOINED_F;
 use common::{
     compare_read_back, compare_reencode, compare_walk_back, count, expect_numbers, over_seeds,
-    run_model, sum, Numbers, Room, WAYS,
+    run_model, sum, way_of, Numbers, Room, WAYS,
 };
 use model::generator::Random;
 use model::reading::{read_formula, INPUT_LIMITS};
 use model::sessions::{self, COPIES, JOINED_E};
 use model::texts::log_text;
-use sirgholyn::{Arrangement, Form};
 
 const TEXTS: [&[u8]; 10] = [
     F,
@@ -31,6 +30,7 @@ const ROOM: Room = Room {
     work: 112_000,
     log: 4_000,
     formula: 4_000,
+    table: 10,
 };
 
 /// The text with each byte dropped, doubled and changed to others, and cut before it.
@@ -58,8 +58,8 @@ const F: &[u8] = sessions::F.as_bytes();
 fn formulas() {
     let counted = over_seeds(0..TEXTS.len() as u64, |index, numbers: &mut Numbers| {
         for (turn, text) in each_damage(TEXTS[index as usize]).iter().enumerate() {
-            let (form, arrangement) = WAYS[turn % WAYS.len()];
-            count(numbers, compare_reencode(text, form, arrangement, ROOM));
+            let way = way_of(turn as u64);
+            count(numbers, compare_reencode(text, way, ROOM));
             count(numbers, compare_read_back(text, ROOM.work));
             let answer = b"s SATISFIABLE\nv 0\n";
             count(
@@ -82,7 +82,7 @@ fn formulas() {
 #[test]
 fn logs_and_answers() {
     let read = read_formula(F, &INPUT_LIMITS).unwrap();
-    let encoding = run_model(&read, Form::Order, Arrangement::AsListed);
+    let encoding = run_model(&read, WAYS[2]);
     let log = log_text(&encoding.log);
     let kept = encoding.log.len();
     let answer: &[u8] =
@@ -136,8 +136,8 @@ fn random_bytes() {
         let text = bytes(b"p cnf 9 3\n");
         let log = bytes(b"d 1 2 0\n");
         let answer = bytes(b"s SATISFIABLE\nv ");
-        let (form, arrangement) = WAYS[seed as usize % WAYS.len()];
-        count(numbers, compare_reencode(&text, form, arrangement, ROOM));
+        let way = way_of(seed);
+        count(numbers, compare_reencode(&text, way, ROOM));
         count(numbers, compare_read_back(&text, ROOM.work));
         let kept = (seed % 3) as usize;
         count(

@@ -5,14 +5,14 @@ mod common;
 
 use common::formulas::rewritten;
 use common::solvers::{cadical, Answer};
-use common::{over_seeds, sum};
+use common::{over_seeds, sum, WAYS};
 use model::generator::{damage_log, written_clauses, Random};
 use model::log_reading::read_kept_lines;
 use model::reading::Formula;
 use model::texts::{log_text, Line};
 use model::valleys::Valley;
 use sirgholyn::drat::{check, Checker, Error, Fault, Ground};
-use sirgholyn::{reencode, Arrangement, Form};
+use sirgholyn::{reencode, Settings};
 use std::alloc::{GlobalAlloc, Layout, System};
 use std::cell::Cell;
 use std::collections::{BTreeMap, BTreeSet};
@@ -665,8 +665,8 @@ fn crowded(random: &mut Random, traps: usize) -> Formula {
 }
 
 /// Our log and cadical's proof after it; None where there is a plan.
-fn whole_proof(text: &[u8], form: Form) -> Option<Vec<u8>> {
-    let new = reencode(text, form, Arrangement::Alignment, Default::default()).unwrap();
+fn whole_proof(text: &[u8], way: Settings) -> Option<Vec<u8>> {
+    let new = reencode(text, way, Default::default()).unwrap();
     match cadical(&new.formula) {
         Answer::Unsatisfiable(Some(proof)) => Some([new.log, proof.into_bytes()].concat()),
         _ => None,
@@ -674,9 +674,15 @@ fn whole_proof(text: &[u8], form: Form) -> Option<Vec<u8>> {
 }
 
 /// A proof of a text passes, and each change of it has the fault that the plain checker finds.
-fn change_proof(text: &[u8], form: Form, changes: usize, random: &mut Random, cases: &mut Cases) {
+fn change_proof(
+    text: &[u8],
+    way: Settings,
+    changes: usize,
+    random: &mut Random,
+    cases: &mut Cases,
+) {
     let mut count = |case| *cases.entry(case).or_default() += 1;
-    let Some(proof) = whole_proof(text, form) else {
+    let Some(proof) = whole_proof(text, way) else {
         return count("plan");
     };
     assert_eq!(fault_of(text, proof.as_slice()), None);
@@ -717,7 +723,7 @@ fn changed_proofs_of_threes() {
         let variables = random.between(8, 24);
         let formula = threes(&mut random, variables, 5 * variables);
         let text = rewritten(&mut random, formula).text;
-        change_proof(&text, Form::Order, 40, &mut random, cases);
+        change_proof(&text, WAYS[3], 40, &mut random, cases);
     });
     expect_cases(cases, 10, &[CHANGES, &["no empty clause"]].concat());
 }
@@ -728,12 +734,10 @@ fn changed_proofs_of_crowded_valleys() {
         let mut random = Random::new(seed);
         let formula = crowded(&mut random, 6);
         let text = rewritten(&mut random, formula).text;
-        let form = if seed % 2 == 0 {
-            Form::Counter
-        } else {
-            Form::Order
-        };
-        change_proof(&text, form, 30, &mut random, cases);
+        // both forms, each with no number skipped, with few and with many
+        let way = [WAYS[1], WAYS[3]][seed as usize % 2];
+        let way = way.with_step([1, 7, 100][seed as usize / 2]);
+        change_proof(&text, way, 30, &mut random, cases);
     });
     expect_cases(cases, 5, CHANGES);
 }

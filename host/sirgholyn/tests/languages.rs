@@ -4,8 +4,10 @@ mod common;
 
 use common::solvers::Folder;
 use common::{numbers_of, LISTED};
-use sirgholyn::Refusal;
+use sirgholyn::limits::MOST_CHOICES;
+use sirgholyn::{reencode, Arrangement, ChoiceRecord, Form, ReencodeRoom, Refusal, Settings};
 use std::fs;
+use std::mem::offset_of;
 use std::path::{Path, PathBuf};
 use std::process::{Command, Output};
 use std::time::{Duration, SystemTime};
@@ -116,6 +118,9 @@ fn exported() -> Vec<Exported> {
         .collect()
 }
 
+/// The table of choices, as the source has it.
+const RECORDS: &str = "&mut [ChoiceRecord]";
+
 fn in_c((name, kind): &(String, String)) -> String {
     let slice = |element| format!("{element} *{name}, size_t {name}_len");
     match kind.as_str() {
@@ -123,6 +128,7 @@ fn in_c((name, kind): &(String, String)) -> String {
         "&mut [u8]" => slice("uint8_t"),
         "&mut [i32]" => slice("int32_t"),
         "&mut [u64]" => slice("uint64_t"),
+        RECORDS => slice("struct sirgholyn_choice"),
         "u32" => format!("uint32_t {name}"),
         "usize" => format!("size_t {name}"),
         _ => panic!("{name}: {kind}"),
@@ -136,6 +142,7 @@ fn in_rust((name, kind): &(String, String)) -> String {
         "&mut [u8]" => slice("*mut u8"),
         "&mut [i32]" => slice("*mut i32"),
         "&mut [u64]" => slice("*mut u64"),
+        RECORDS => slice("*mut ChoiceRecord"),
         _ => format!("{name}: {kind},"),
     }
 }
@@ -156,6 +163,42 @@ fn the_declarations_are_those_of_the_source() {
     }
     assert_eq!(header.matches("uint32_t sirgholyn_").count(), 3);
     assert_eq!(calls.matches("pub fn sirgholyn_").count(), 3);
+}
+
+/// The names of the 32-bit numbers that a text has between two words.
+fn fields<'a>(
+    text: &'a str,
+    from: &str,
+    field: impl Fn(&'a str) -> Option<&'a str>,
+) -> Vec<&'a str> {
+    let (_, text) = text.split_once(from).unwrap();
+    let (text, _) = text.split_once("\n}").unwrap();
+    text.lines().filter_map(|line| field(line.trim())).collect()
+}
+
+#[test]
+fn a_record_of_the_table_in_c_and_rust() {
+    let (header, calls) = (
+        text("host/include/sirgholyn.h"),
+        text("host/sirgholyn/src/calls.rs"),
+    );
+    let in_c = fields(&header, "\nstruct sirgholyn_choice {", |line| {
+        Some(line.strip_prefix("uint32_t ")?.split_once(';')?.0)
+    });
+    let in_rust = fields(&calls, "pub struct ChoiceRecord {", |line| {
+        line.strip_prefix("pub ")?.strip_suffix(": u32,")
+    });
+    assert_eq!(in_c, ["first", "length", "clauses"]);
+    assert_eq!(in_rust, in_c);
+    let places = [
+        offset_of!(ChoiceRecord, first),
+        offset_of!(ChoiceRecord, length),
+        offset_of!(ChoiceRecord, clauses),
+        size_of::<ChoiceRecord>(),
+    ];
+    assert_eq!(places, [0, 4, 8, 12]);
+    let most = format!("#define SIRGHOLYN_MOST_CHOICES {MOST_CHOICES}\n");
+    assert!(header.contains(&most));
 }
 
 /// The functions that a library gives to others.
@@ -297,6 +340,28 @@ fn python_bindings() {
     tests.env("SIRGHOLYN_LIB", folder);
     tests.env("SIRGHOLYN_COMMAND", env!("CARGO_BIN_EXE_sirgholyn"));
     printed(&mut tests);
+}
+
+/// An example's table, with a step that skips numbers, is the same.
+#[test]
+fn tables_in_python() {
+    let folder = library_folder();
+    build_shared_library(&folder);
+    let formula = fs::read(checkout("examples/valley.cnf")).unwrap();
+    let settings = Settings::new(Form::Order, Arrangement::Alignment).with_step(7);
+    let new = reencode(&formula, settings, ReencodeRoom::default()).unwrap();
+    assert_eq!(new.table.len(), 20);
+    let script = "import sys, sirgholyn\n\
+        text = sys.stdin.buffer.read()\n\
+        for c in sirgholyn.reencode(text, form='order', align=True, step=7).table: print(*c)";
+    let mut python = python();
+    python.args(["-c", script]).env("SIRGHOLYN_LIB", folder);
+    python.stdin(fs::File::open(checkout("examples/valley.cnf")).unwrap());
+    let line = |c: &ChoiceRecord| format!("{} {} {}\n", c.first, c.length, c.clauses);
+    assert_eq!(
+        printed(&mut python),
+        new.table.iter().map(line).collect::<String>()
+    );
 }
 
 #[test]

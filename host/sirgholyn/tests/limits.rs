@@ -15,17 +15,21 @@ use model::reading::{read_formula, Formula, INPUT_LIMITS};
 use model::sessions;
 use model::texts::{answer_text, log_text};
 use sirgholyn::calls::{library, on_large_stack, Tally};
-use sirgholyn::{Arrangement, Error, Form, ReencodeRoom, Refusal, WalkBackRoom};
+use sirgholyn::limits::MOST_CHOICES;
+use sirgholyn::{
+    Arrangement, ChoiceRecord, Error, Form, ReencodeRoom, Refusal, Settings, WalkBackRoom,
+};
 use std::slice;
 
 const LARGE: Room = Room {
     work: PLENTY,
     log: PLENTY,
     formula: PLENTY,
+    table: MOST_CHOICES,
 };
 
 fn reencode(text: &str) -> u32 {
-    compare_reencode(text.as_bytes(), Form::Counter, Arrangement::AsListed, LARGE)
+    compare_reencode(text.as_bytes(), WAYS[0], LARGE)
 }
 
 fn read_back(text: &str) -> u32 {
@@ -155,10 +159,7 @@ fn workspace_by_what_is_kept() {
                     work: entries,
                     ..LARGE
                 };
-                assert_eq!(
-                    compare_reencode(text, Form::Order, Arrangement::AsListed, room),
-                    number
-                );
+                assert_eq!(compare_reencode(text, WAYS[2], room), number);
             }
             assert_eq!(compare_read_back(text, entries), number);
         }
@@ -261,8 +262,8 @@ fn kept_numbers() {
 #[test]
 fn short_by_one() {
     let read = read_formula(F, &INPUT_LIMITS).unwrap();
-    for (form, arrangement) in WAYS {
-        let encoding = run_model(&read, form, arrangement);
+    for way in WAYS {
+        let encoding = run_model(&read, way);
         let log = log_text(&encoding.log);
         let new = new_formula(&encoding);
         let new_text = text_of(&new);
@@ -272,8 +273,9 @@ fn short_by_one() {
                 work: enough.work - work,
                 log: enough.log - log,
                 formula: enough.formula - formula,
+                ..enough
             };
-            compare_reencode(F, form, arrangement, room)
+            compare_reencode(F, way, room)
         };
         assert_eq!(reencode(0, 0, 0), 0);
         assert_eq!(reencode(1, 0, 0), 11);
@@ -314,7 +316,7 @@ fn short_by_one() {
 /// Formulas at the limits with much work to do, byte for byte, on the least workspace that is accepted.
 #[test]
 fn largest() {
-    for (text, (form, arrangement)) in [
+    for (text, way) in [
         (largest_with(5), WAYS[1]),
         (largest_with(64), WAYS[2]),
         (clash_chain(1_500), WAYS[3]),
@@ -324,28 +326,30 @@ fn largest() {
             work: work_for(&read),
             log: 1 << 27,
             formula: 1 << 23,
+            ..LARGE
         };
-        assert_eq!(compare_reencode(&text, form, arrangement, room), 0);
+        assert_eq!(compare_reencode(&text, way, room), 0);
     }
 }
 
 // Choices with a pure literal
 
 /// The tally on buffers that just suffice; the bytes are the model's.
-fn tally_of(formula: &Formula, form: Form, arrangement: Arrangement) -> Tally {
+fn tally_of(formula: &Formula, way: Settings) -> Tally {
     let text = text_of(formula);
-    let room = Room::exact(formula, &run_model(formula, form, arrangement));
+    let room = Room::exact(formula, &run_model(formula, way));
     let literals = formula.clauses.iter().map(Vec::len).sum::<usize>();
     let (clauses, variables) = (formula.clauses.len(), formula.variables as usize);
     let by_the_rule = 40 * literals + 4 * clauses + 12 * variables + 8_192;
     assert_eq!(room.work, by_the_rule);
-    assert_eq!(compare_reencode(&text, form, arrangement, room), 0);
+    assert_eq!(compare_reencode(&text, way, room), 0);
     let exact = ReencodeRoom {
         work: Some(room.work),
         log: Some(room.log),
         formula: Some(room.formula),
+        table: Some(room.table),
     };
-    let new = sirgholyn::reencode(&text, form, arrangement, exact);
+    let new = sirgholyn::reencode(&text, way, exact);
     new.unwrap().tally
 }
 
@@ -354,8 +358,8 @@ fn tally_of(formula: &Formula, form: Form, arrangement: Arrangement) -> Tally {
 fn most_free_choices() {
     for (size, count) in [(64, 125), (5, 1_600)] {
         let formula = clauses_apart(size, count);
-        for (form, arrangement) in [WAYS[1], WAYS[2]] {
-            let tally = tally_of(&formula, form, arrangement);
+        for way in [WAYS[1], WAYS[2]] {
+            let tally = tally_of(&formula, way);
             assert_eq!(tally.choices, count as u64);
         }
     }
@@ -381,8 +385,8 @@ fn most_free_choices_walked_back() {
             (Form::Counter, Err(Error::Refused(Refusal(44)))),
             (Form::Order, Ok(last.as_bytes())),
         ] {
-            let room = ReencodeRoom::default();
-            let new = sirgholyn::reencode(&text, form, Arrangement::AsListed, room).unwrap();
+            let way = Settings::new(form, Arrangement::AsListed);
+            let new = sirgholyn::reencode(&text, way, ReencodeRoom::default()).unwrap();
             let lines = new.tally.lines as usize;
             let exact = WalkBackRoom {
                 work: Some(walk_back_work(&formula, &new.log, lines)),
@@ -405,10 +409,10 @@ fn sizes_with_a_pure_literal() {
         for forbidden in all_but_one(&clause.clauses[0]) {
             let clauses = [clause.clauses.clone(), forbidding(&forbidden)].concat();
             let formula = Formula::new(size as i32, clauses);
-            for (form, arrangement) in WAYS {
-                let choices = tally_of(&formula, form, arrangement).choices;
+            for way in WAYS {
+                let choices = tally_of(&formula, way).choices;
                 let taken = u64::from((5..=64).contains(&size));
-                assert_eq!(choices, taken, "{size}, without {forbidden:?}, {form:?}");
+                assert_eq!(choices, taken, "{size}, without {forbidden:?}, {way:?}");
             }
         }
     }
@@ -421,12 +425,12 @@ fn sizes_joined_by_a_clash() {
         let half = 1 + size / 2;
         let clauses = clashing_at_1(half, size + 2 - half).to_vec();
         let formula = Formula::new(size + 1, clauses);
-        for (form, arrangement) in WAYS {
-            let choices = tally_of(&formula, form, arrangement).choices;
+        for way in WAYS {
+            let choices = tally_of(&formula, way).choices;
             assert_eq!(
                 choices,
                 u64::from((5..=64).contains(&size)),
-                "{size}, {form:?}"
+                "{size}, {way:?}"
             );
         }
     }
@@ -441,9 +445,13 @@ fn a_choice_of_64() {
     for (copies, work, lines) in [(0, 11_524, 253), (1, 180_868, 2_269), (2, 350_212, 4_285)] {
         let formula = with_pairs(64, 1, copies);
         let text = text_of(&formula);
-        for (form, arrangement) in WAYS {
-            let tally = tally_of(&formula, form, arrangement);
-            let of_order = if form == Form::Order { 3 * 64 - 2 } else { 0 };
+        for way in WAYS {
+            let tally = tally_of(&formula, way);
+            let of_order = if way.form == Form::Order {
+                3 * 64 - 2
+            } else {
+                0
+            };
             assert_eq!((tally.choices, tally.lines), (1, lines + of_order));
             for (work, log, new, number) in [
                 (work, 0, 0, 0),
@@ -458,9 +466,10 @@ fn a_choice_of_64() {
                     work,
                     log: tally.log_bytes - log,
                     formula: tally.formula_bytes - new,
+                    table: 1,
                 };
-                let found = compare_reencode(&text, form, arrangement, room);
-                assert_eq!(found, number, "{copies} {form:?} {arrangement:?} {room:?}");
+                let found = compare_reencode(&text, way, room);
+                assert_eq!(found, number, "{copies} {way:?} {room:?}");
             }
         }
     }
@@ -472,7 +481,7 @@ fn logs_of_a_choice_of_64_cut_short() {
     for copies in [0, 1, 2] {
         let formula = with_pairs(64, 1, copies);
         let text = text_of(&formula);
-        let encoding = run_model(&formula, Form::Order, Arrangement::AsListed);
+        let encoding = run_model(&formula, WAYS[2]);
         let exact = Room::exact(&formula, &encoding);
         let parts = parts(&formula, &encoding);
         let mut ends = 0;
@@ -481,7 +490,7 @@ fn logs_of_a_choice_of_64_cut_short() {
             let is_last = parts.get(place + 1) != Some(&parts[place]);
             for log in [ends - 1, ends].into_iter().filter(|_| is_last) {
                 let room = Room { log, ..exact };
-                let found = compare_reencode(&text, Form::Order, Arrangement::AsListed, room);
+                let found = compare_reencode(&text, WAYS[2], room);
                 let is_whole = place + 1 == parts.len() && log == ends;
                 assert_eq!(found, if is_whole { 0 } else { 12 }, "{copies} {log}");
             }
@@ -497,15 +506,15 @@ fn a_choice_of_64_walked_back() {
     for copies in [0, 1, 2] {
         let formula = with_pairs(64, 1, copies);
         let text = text_of(&formula);
-        for (form, arrangement) in WAYS {
-            let lines = run_model(&formula, form, arrangement).log;
+        for way in WAYS {
+            let lines = run_model(&formula, way).log;
             let log = log_text(&lines);
             let work = walk_back_work(&formula, &log, lines.len());
             for (work, room, number) in
                 [(work, line, 0), (work - 1, line, 11), (work, line - 1, 14)]
             {
                 let found = compare_walk_back(&text, &log, lines.len(), answer, work, room);
-                assert_eq!(found, number, "{copies} {form:?} {arrangement:?}");
+                assert_eq!(found, number, "{copies} {way:?}");
             }
         }
     }
@@ -521,7 +530,7 @@ fn most_pairs() {
         let of_pairs = 20_000 - count;
         let lines = count * (4 * (size - 1) + 1) + of_pairs;
         for (form, of_order) in [(Form::Counter, 0), (Form::Order, count * (3 * size - 2))] {
-            let tally = tally_of(&formula, form, Arrangement::AsListed);
+            let tally = tally_of(&formula, Settings::new(form, Arrangement::AsListed));
             assert_eq!(tally.choices, count as u64);
             assert_eq!(tally.lines, (lines + of_order) as u64, "{size} {form:?}");
         }
@@ -556,17 +565,21 @@ fn tallies_of_any_length() {
     expect_tally(&[0, 3, 0, 4, 31, 10], |tally, room| unsafe {
         let (mut work, mut log, mut formula) = ([0; 9_000], [0; 100], [0; 100]);
         let (t, w, l, f) = (text, &mut work, &mut log, &mut formula);
+        let r = &mut [ChoiceRecord::default(); 1];
         library::sirgholyn_reencode(
             t.as_ptr(),
             t.len(),
             0,
             0,
+            1,
             w.as_mut_ptr(),
             w.len(),
             l.as_mut_ptr(),
             l.len(),
             f.as_mut_ptr(),
             f.len(),
+            r.as_mut_ptr(),
+            r.len(),
             tally,
             room,
         )

@@ -3,14 +3,14 @@
 mod common;
 
 use common::formulas::any_kind_joined;
-use common::{count, over_seeds, run_model, sum, Numbers, WAYS};
+use common::{count, over_seeds, run_model, sum, way_of, Numbers, WAYS};
 use model::generator::{answer_after, damage, damage_log, Joined, Random};
 use model::sessions::{self, JOINED_E};
 use model::texts::log_text;
 use sirgholyn::limits::Limits;
 use sirgholyn::location::{in_answer, in_formula, in_log, Location};
 use sirgholyn::shown::shown;
-use sirgholyn::{read_back, reencode, walk_back, Arrangement, Error, Form, Refusal};
+use sirgholyn::{read_back, reencode, walk_back, Error, Refusal};
 use sirgholyn::{ReencodeRoom, WalkBackRoom};
 
 /// A row's location: line, byte, word.
@@ -32,7 +32,7 @@ fn number<R>(outcome: Result<R, Error>) -> u32 {
 
 fn input_number(text: &[u8]) -> u32 {
     let room = ReencodeRoom::default();
-    number(reencode(text, Form::Counter, Arrangement::AsListed, room))
+    number(reencode(text, WAYS[0], room))
 }
 
 fn new_formula_number(text: &[u8]) -> u32 {
@@ -607,8 +607,7 @@ fn damaged_logs_and_answers() {
     let counted = over_seeds(0..4_000, |seed, numbers: &mut Numbers| {
         let mut random = Random::new(seed);
         let Joined { mut text, formula } = any_kind_joined(&mut random);
-        let (form, arrangement) = *random.one_of(&WAYS);
-        let mut lines = run_model(&formula, form, arrangement).log;
+        let mut lines = run_model(&formula, way_of(seed)).log;
         if random.chance(60) {
             lines = damage_log(&mut random, &lines);
         }

@@ -5,14 +5,14 @@ mod common;
 
 use common::formulas::{any_kind_joined, with_pairs};
 use common::lines::{check_lines, cleared, parts, Part};
-use common::{expect_more, note, over_seeds, run_model, sum, Occurred, WAYS};
+use common::{expect_more, note, over_seeds, run_model, sum, way_of, Occurred, WAYS};
 use model::counter::{copies_of_pairs, pairs};
 use model::encoding::Encoding;
 use model::generator::{clauses_apart, forbidding, paired, Joined, Random};
 use model::log_reading::read_kept_lines;
 use model::texts::{count_true, log_text, Line};
 use sirgholyn::drat::{check, Error, Fault, Ground};
-use sirgholyn::{Arrangement, Form, Refusal, WalkBackRoom};
+use sirgholyn::{Refusal, Settings, WalkBackRoom};
 
 /// The library's log of a text, with what the model tells of it.
 struct Log {
@@ -24,10 +24,10 @@ struct Log {
 }
 
 impl Log {
-    fn new(input: &Joined, (form, arrangement): (Form, Arrangement)) -> Log {
+    fn new(input: &Joined, way: Settings) -> Log {
         let Joined { text, formula } = input;
-        let new = sirgholyn::reencode(text, form, arrangement, Default::default()).unwrap();
-        let encoding = run_model(formula, form, arrangement);
+        let new = sirgholyn::reencode(text, way, Default::default()).unwrap();
+        let encoding = run_model(formula, way);
         let parts = parts(formula, &encoding);
         let lines = read_kept_lines(&new.log, new.tally.lines as usize).unwrap();
         assert_eq!(lines.len(), parts.len());
@@ -81,7 +81,7 @@ fn case_of(is_paired: bool, ground: Option<Ground>, turned: Option<Ground>) -> &
 }
 
 /// Goes through a log line by line, each of which follows, and counts its lines -li -s(i-1) by their cases.
-fn follow(input: &Joined, way: (Form, Arrangement), cases: &mut Occurred) {
+fn follow(input: &Joined, way: Settings, cases: &mut Occurred) {
     let log = Log::new(input, way);
     check_lines(&input.text, &log.lines, |checker, place, ground| {
         if log.parts[place] == Part::Exclusion {
@@ -98,7 +98,7 @@ fn follow(input: &Joined, way: (Form, Arrangement), cases: &mut Occurred) {
 fn any_formulas() {
     let counted = over_seeds(0..2_000, |seed, cases: &mut Occurred| {
         let input = any_kind_joined(&mut Random::new(seed));
-        follow(&input, WAYS[seed as usize % WAYS.len()], cases);
+        follow(&input, way_of(seed), cases);
     });
     let cases = sum(counted);
     println!("{cases:#?}");

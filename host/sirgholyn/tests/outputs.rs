@@ -16,30 +16,45 @@ use std::process::{Command, Stdio};
 use std::thread;
 use std::time::Duration;
 
-/// The words for session F's new formula and log in a form.
-fn pair_words<'a>(input: &'a str, form: &'a str, formula: &'a str, log: &'a str) -> [&'a str; 8] {
+/// A step for each form, so that tables tell forms apart too.
+fn step_of(form: &str) -> &'static str {
+    match form {
+        "order" => "10",
+        _ => "1",
+    }
+}
+
+/// The words for session F's new formula, log and table in a form.
+fn set_words<'a>(input: &'a str, form: &'a str, names: [&'a str; 3]) -> [&'a str; 12] {
+    let [formula, log, table] = names;
     [
         "reencode",
         input,
         "--form",
         form,
+        "--step",
+        step_of(form),
         "--formula",
         formula,
         "--log",
         log,
+        "--table",
+        table,
     ]
 }
 
-/// The new formula and the log of session F in a form.
-fn pair(form: &str) -> [String; 2] {
+/// The new formula, the log and the table of session F in a form.
+fn set(form: &str) -> [String; 3] {
     let text = |option: &str| {
-        run_with(
-            &["reencode", "-", "--form", form, option, "-"],
-            F.as_bytes(),
-        )
-        .out
+        let settings = ["--form", form, "--step", step_of(form)];
+        let words = [&["reencode", "-", option, "-"], &settings[..]].concat();
+        run_with(&words, F.as_bytes()).out
     };
-    [text("--formula"), text("--log")]
+    ["--formula", "--log", "--table"].map(text)
+}
+
+fn read_all(names: [&str; 3]) -> [String; 3] {
+    names.map(|name| fs::read_to_string(name).unwrap())
 }
 
 /// A folder with session F as `in.cnf`, and the name of that.
@@ -78,6 +93,8 @@ fn outputs_that_cannot_be_written() {
         let failed = [
             run(&["reencode", &input, "--log", &kept, "--formula", &target]),
             run(&["reencode", &input, "--log", &target, "--formula", &kept]),
+            run(&["reencode", &input, "--table", &target, "--log", &kept]),
+            run(&["reencode", &input, "--table", &kept, "--log", &target]),
             run(&["solve", &example("no_plan.cnf"), "--proof", &target]),
         ];
         for ran in failed {
@@ -97,7 +114,7 @@ fn the_input_by_any_name_is_no_output() {
     let before = folder.names();
     let dotted = folder.path("./in.cnf");
     for name in [&input, &link, &hard_link, &dotted] {
-        for option in ["--formula", "--log"] {
+        for option in ["--formula", "--log", "--table"] {
             expect_failure(
                 &run(&["reencode", &input, option, name]),
                 64,
@@ -156,8 +173,14 @@ fn one_output_is_not_given_twice() {
         ("-".into(), "/dev/stdout".into()),
         ("/dev/fd/1".into(), "/proc/self/fd/1".into()),
     ] {
-        let ran = run(&["reencode", &input, "--formula", &one, "--log", &other]);
-        expect_failure(&ran, 64, "is given twice");
+        for options in [
+            ["--formula", "--log"],
+            ["--formula", "--table"],
+            ["--table", "--log"],
+        ] {
+            let ran = run(&["reencode", &input, options[0], &one, options[1], &other]);
+            expect_failure(&ran, 64, "is given twice");
+        }
     }
     // standard output is an output as well
     let ran = shell(
@@ -187,7 +210,7 @@ fn one_output_is_not_given_twice() {
 #[test]
 fn standard_output_by_its_names() {
     let (folder, input) = folder_with_input();
-    let [formula, _] = pair("counter");
+    let [formula, ..] = set("counter");
     let link = folder.path("link");
     symlink("/dev/stdout", &link).unwrap();
     for name in ["-", "/dev/stdout", "/dev/fd/1", "/proc/self/fd/1", &link] {
@@ -225,7 +248,7 @@ fn links_devices_and_pipes_are_written_through() {
     let ran = run(&["reencode", &input, "--formula", &link, "--log", "/dev/null"]);
     assert_eq!(ran.status, 0, "{}", ran.err);
     assert!(fs::symlink_metadata(&link).unwrap().is_symlink());
-    assert_eq!(fs::read_to_string(&target).unwrap(), pair("counter")[0]);
+    assert_eq!(fs::read_to_string(&target).unwrap(), set("counter")[0]);
     assert_eq!(
         fs::metadata(&target).unwrap().permissions().mode() & 0o777,
         0o640
@@ -237,13 +260,13 @@ fn links_devices_and_pipes_are_written_through() {
         "mkfifo \"$2\"; cat \"$2\" & \"$SIRGHOLYN\" reencode \"$1\" --log \"$2\" >&2; wait",
         &[&input, &pipe],
     );
-    assert_eq!((ran.status, &ran.out), (0, &pair("counter")[1]));
+    assert_eq!((ran.status, &ran.out), (0, &set("counter")[1]));
 }
 
 #[test]
 fn names_of_all_kinds() {
     let (folder, input) = folder_with_input();
-    let [formula, log] = pair("counter");
+    let [formula, log, _] = set("counter");
     let inside = |name: &[u8]| {
         let name = [folder.path("").as_bytes(), name].concat();
         OsString::from_vec(name)
@@ -326,26 +349,58 @@ fn a_refusal_leaves_files_as_they_were() {
     assert_eq!(fs::read(&formula).unwrap(), b"as it was");
     assert_eq!(folder.names(), ["in.cnf", "new.cnf", "wrong.cnf"]);
     assert_eq!(run(&["reencode", &input, "--formula", &formula]).status, 0);
-    assert_eq!(fs::read_to_string(&formula).unwrap(), pair("counter")[0]);
+    assert_eq!(fs::read_to_string(&formula).unwrap(), set("counter")[0]);
 }
 
-/// Runs at once on the same names leave the pair of one of them.
+/// Where one of three cannot be written, or the call is refused, none is.
 #[test]
-fn runs_at_once_leave_one_pair() {
+fn three_files_appear_together() {
+    let (folder, input) = folder_with_input();
+    let names = ["new.cnf", "new.drat", "new.tsv"].map(|name| folder.path(name));
+    let [formula, log, table] = names.each_ref().map(String::as_str);
+    let words = |table| set_words(&input, "counter", [formula, log, table]);
+    expect_failure(&run(&words("/dev/full")), 73, "cannot be written");
+    let refused = || {
+        for (option, number) in [
+            ("--table-room", 17),
+            ("--log-room", 12),
+            ("--formula-room", 13),
+        ] {
+            let ran = run(&[&words(table)[..], &[option, "0"]].concat());
+            expect_failure(&ran, number, "the caller can mend it");
+        }
+    };
+    refused();
+    assert_eq!(folder.names(), ["in.cnf"]);
+    fs::write(table, b"as it was").unwrap();
+    refused();
+    assert_eq!(fs::read(table).unwrap(), b"as it was");
+    assert_eq!(folder.names(), ["in.cnf", "new.tsv"]);
+
+    let ran = run(&words(table));
+    assert_eq!((ran.status, ran.err.as_str()), (0, ""));
+    assert_eq!(read_all([formula, log, table]), set("counter"));
+    assert_eq!(folder.names(), ["in.cnf", "new.cnf", "new.drat", "new.tsv"]);
+}
+
+/// Runs at once on the same names leave the files of one of them.
+#[test]
+fn runs_at_once_leave_one_set() {
     let (folder, input) = folder_with_input();
     fs::create_dir(folder.path("a")).unwrap();
     fs::create_dir(folder.path("b")).unwrap();
-    let pairs = [pair("counter"), pair("order")];
-    for (formula, log) in [
-        ("new.cnf", "new.drat"),
-        ("a/new", "b/new"),
-        ("b/new", "a/new"),
+    let sets = [set("counter"), set("order")];
+    for names in [
+        ["new.cnf", "new.drat", "new.tsv"],
+        ["a/new", "b/new", "a/table"],
+        ["b/new", "a/new", "a/table"],
     ] {
-        let (formula, log) = (folder.path(formula), folder.path(log));
+        let names = names.map(|name| folder.path(name));
+        let names = names.each_ref().map(String::as_str);
         thread::scope(|scope| {
             for turn in 0..8 {
                 let form = if turn % 2 == 0 { "counter" } else { "order" };
-                let words = pair_words(&input, form, &formula, &log);
+                let words = set_words(&input, form, names);
                 scope.spawn(move || {
                     for _ in 0..5 {
                         let ran = run(&words);
@@ -354,11 +409,11 @@ fn runs_at_once_leave_one_pair() {
                 });
             }
         });
-        let found = [&formula, &log].map(|name| fs::read_to_string(name).unwrap());
-        assert!(pairs.contains(&found));
+        assert!(sets.contains(&read_all(names)));
     }
-    assert_eq!(folder.names(), ["a", "b", "in.cnf", "new.cnf", "new.drat"]);
-    assert_eq!(fs::read_dir(folder.path("a")).unwrap().count(), 1);
+    let own = ["a", "b", "in.cnf", "new.cnf", "new.drat", "new.tsv"];
+    assert_eq!(folder.names(), own);
+    assert_eq!(fs::read_dir(folder.path("a")).unwrap().count(), 2);
     assert_eq!(fs::read_dir(folder.path("b")).unwrap().count(), 1);
 }
 
@@ -392,13 +447,14 @@ fn a_run_waits_for_the_lock() {
     );
 }
 
-/// Signals at any moment: a pair belongs together, and nothing is left.
+/// Signals at any moment: the files belong together, and nothing is left.
 #[test]
-fn signals_leave_one_pair_and_nothing_else() {
+fn signals_leave_one_set_and_nothing_else() {
     let (folder, input) = folder_with_input();
-    let pairs = [pair("counter"), pair("order")];
-    let (formula, log) = (folder.path("new.cnf"), folder.path("new.drat"));
-    let words = |form| pair_words(&input, form, &formula, &log);
+    let sets = [set("counter"), set("order")];
+    let names = ["new.cnf", "new.drat", "new.tsv"].map(|name| folder.path(name));
+    let names = names.each_ref().map(String::as_str);
+    let words = |form| set_words(&input, form, names);
     assert_eq!(run(&words("counter")).status, 0);
     let (mut ended, mut done) = (0, 0);
     for turn in 0..400 {
@@ -421,9 +477,8 @@ fn signals_leave_one_pair_and_nothing_else() {
                 done += 1;
             }
         }
-        let found = [&formula, &log].map(|name| fs::read_to_string(name).unwrap());
-        assert!(pairs.contains(&found));
-        assert_eq!(folder.names(), ["in.cnf", "new.cnf", "new.drat"]);
+        assert!(sets.contains(&read_all(names)));
+        assert_eq!(folder.names(), ["in.cnf", "new.cnf", "new.drat", "new.tsv"]);
     }
     println!("{ended} ended, {done} done");
     assert!(ended > 0);

@@ -4,7 +4,7 @@ mod common;
 
 use common::formulas::is_joined;
 use common::lines::{parts, Part};
-use common::{expect_more, note, over_seeds, run_model, sum, Occurred, WAYS};
+use common::{expect_more, note, over_seeds, run_model, skipped, sum, way_of, Occurred, WAYS};
 use model::encoding::{Encoding, PAIRS};
 use model::generator::{
     clauses_apart, clauses_with_repeat, planned, varied, written_clauses, Joined, Random,
@@ -12,28 +12,28 @@ use model::generator::{
 use model::reading::Formula;
 use model::texts::{count_true, log_text};
 use model::walk_back::{replay, satisfies};
-use sirgholyn::{calls, plan, Arrangement, Form};
+use sirgholyn::{calls, plan, ChoiceRecord, Form, Settings};
 
 /// One formula's log, which is the library's.
 struct Walk<'a> {
     input: &'a Joined,
-    way: (Form, Arrangement),
+    way: Settings,
     log: Vec<u8>,
     encoding: Encoding,
     in_choices: Vec<usize>,
 }
 
 impl<'a> Walk<'a> {
-    fn new(input: &'a Joined, (form, arrangement): (Form, Arrangement)) -> Walk<'a> {
+    fn new(input: &'a Joined, way: Settings) -> Walk<'a> {
         let (mut work, mut log, mut new) = (vec![0; 100_000], vec![0; 10_000], vec![0; 10_000]);
-        let text = &input.text;
-        let tally = calls::reencode(text, form, arrangement, &mut work, &mut log, &mut new);
+        let (text, table) = (&input.text, &mut [ChoiceRecord::default(); 2]);
+        let tally = calls::reencode(text, way, &mut work, &mut log, &mut new, table);
         log.truncate(tally.unwrap().log_bytes);
-        let encoding = run_model(&input.formula, form, arrangement);
+        let encoding = run_model(&input.formula, way);
         assert_eq!(log, log_text(&encoding.log));
         Walk {
             input,
-            way: (form, arrangement),
+            way,
             log,
             in_choices: encoding.input_clauses_in_choices(),
             encoding,
@@ -72,6 +72,7 @@ impl<'a> Walk<'a> {
         let parts = parts(formula, &self.encoding);
         assert_eq!(parts.len(), self.encoding.log.len());
         let free = self.encoding.tally.free_choices > 0;
+        let skips = skipped(formula, &self.encoding) > 0;
         let can = can_be_satisfied(formula.variables, &written_clauses(text));
         for kept in 0..=parts.len() {
             let lines = self.walk_cut(kept, walked);
@@ -80,7 +81,14 @@ impl<'a> Walk<'a> {
             note(walked, "cuts", 1);
             note(walked, "cuts with a free choice", usize::from(free));
             if let Some(place) = place_of_cut(&parts, kept).filter(|_| can) {
-                note(walked, format!("{:?}: cuts {place}", self.way.0), 1);
+                let form = self.way.form;
+                note(walked, format!("{form:?}: cuts {place}"), 1);
+                let skips = usize::from(skips);
+                note(
+                    walked,
+                    format!("{form:?}, numbers skipped: cuts {place}"),
+                    skips,
+                );
             }
         }
     }
@@ -168,16 +176,17 @@ fn drawn(random: &mut Random) -> Joined {
     varied(random, formula, 33, 33)
 }
 
-fn highest(formula: &Formula) -> i32 {
-    run_model(formula, Form::Counter, Arrangement::AsListed).highest
+/// The variables of a formula and the new ones.
+fn variables(formula: &Formula) -> i32 {
+    run_model(formula, WAYS[0]).highest
 }
 
 #[test]
 fn every_cut_walks_back() {
     let counted = over_seeds(0..600, |seed, walked: &mut Occurred| {
         let input = drawn(&mut Random::new(seed));
-        if highest(&input.formula) <= 13 {
-            Walk::new(&input, WAYS[seed as usize % WAYS.len()]).walk_all(walked);
+        if variables(&input.formula) <= 13 {
+            Walk::new(&input, way_of(seed)).walk_all(walked);
         }
     });
     let walked = sum(counted);
@@ -212,10 +221,14 @@ fn expect_cuts(walked: &Occurred) {
         ];
         let of_form = |(place, least)| (format!("{form:?}: cuts {place}"), least);
         expect_more(walked, cuts.map(of_form));
+        let skipping = format!("{form:?}, numbers skipped");
+        let of_skipping = |(place, least)| (format!("{skipping}: cuts {place}"), least / 2);
+        expect_more(walked, cuts.map(of_skipping));
     }
     let order = [
         ("Order: cuts between stage 4 and order form", 50),
         ("Order: cuts in order form", 500),
+        ("Order, numbers skipped: cuts in order form", 250),
     ];
     expect_more(walked, order);
 }

@@ -3,7 +3,8 @@
 mod common;
 
 use common::formulas::clash_chain;
-use common::{LISTED, WAYS};
+use common::{compare_reencode, run_model, Room, LISTED, WAYS};
+use model::generator::{clauses_apart, text_of};
 use sirgholyn::{reencode, walk_back, Error, ReencodeRoom, Refusal, WalkBackRoom};
 use std::collections::HashSet;
 
@@ -11,7 +12,7 @@ use std::collections::HashSet;
 fn each_number_has_a_meaning_and_a_mender() {
     let mender_of = |number| match number {
         1..=9 => "the formula's writer",
-        11..=14 => "the caller",
+        11..=17 => "the caller",
         31..=34 => "the log's writer",
         _ => "the solver",
     };
@@ -34,26 +35,57 @@ fn other_numbers_are_not_listed() {
     }
 }
 
+/// Reencoding with everything wrong, of which one thing after the other is mended.
+#[test]
+fn the_order_of_reencodings_refusals() {
+    let formula = clauses_apart(5, 1_600);
+    for way in WAYS {
+        let enough = Room::exact(&formula, &run_model(&formula, way.with_step(38)));
+        let (mut text, mut step) = (Vec::new(), 0);
+        let mut room = Room {
+            work: enough.work - 1,
+            log: enough.log - 1,
+            formula: enough.formula - 1,
+            table: enough.table - 1,
+        };
+        for number in [15, 1, 11, 16, 17, 12, 13] {
+            let found = compare_reencode(&text, way.with_step(step), room);
+            assert_eq!(found, number, "{way:?}");
+            match number {
+                15 => step = 39,
+                1 => text = text_of(&formula),
+                11 => room.work = enough.work,
+                16 => step = 38,
+                17 => room.table = enough.table,
+                12 => room.log = enough.log,
+                _ => room.formula = enough.formula,
+            }
+        }
+        assert_eq!(compare_reencode(&text, way.with_step(step), room), 0);
+    }
+}
+
 /// A log some hundred times as long as its formula, which no first guess covers.
 #[test]
 fn buffers_grow() {
     let text = clash_chain(700);
-    let (form, arrangement) = WAYS[0];
+    let way = WAYS[0];
     let open = ReencodeRoom::default();
-    let new = reencode(&text, form, arrangement, open).unwrap();
+    let new = reencode(&text, way, open).unwrap();
     assert!(new.log.len() > 100 * text.len());
     let exact = ReencodeRoom {
         work: None,
         log: Some(new.log.len()),
         formula: Some(new.formula.len()),
+        table: Some(new.table.len()),
     };
-    assert_eq!(reencode(&text, form, arrangement, exact).as_ref(), Ok(&new));
+    assert_eq!(reencode(&text, way, exact).as_ref(), Ok(&new));
     let short = ReencodeRoom {
         log: Some(new.log.len() - 1),
         ..open
     };
     let refused = Err(Error::Refused(Refusal(12)));
-    assert_eq!(reencode(&text, form, arrangement, short), refused);
+    assert_eq!(reencode(&text, way, short), refused);
 
     let none = b"s SATISFIABLE\nv 0\n";
     let lines = new.tally.lines as usize;

@@ -509,7 +509,7 @@ fn interrupted_while_building() {
 
 /// Words that the script answers where nothing is built, each with its message, or the text that is told.
 #[rustfmt::skip]
-const WORDS: [(&[&str], Result<&str, &str>); 40] = [
+const WORDS: [(&[&str], Result<&str, &str>); 45] = [
     (&[], Err("which command? `sirgholyn --help` lists them")),
     (&["--help"], Ok("help")),
     (&["-h"], Ok("help")),
@@ -546,6 +546,11 @@ const WORDS: [(&[&str], Result<&str, &str>); 40] = [
     (&["reencode", "--work", ""], Err("`--work` wants a number")),
     (&["reencode", "--log-room", "18446744073709551616"], Err("`--log-room` wants a number")),
     (&["reencode", "--log-room=0018446744073709551615"], Err("wanted: IN.cnf; found 0 file names")),
+    (&["reencode", "--step", "ten"], Err("`--step` wants a number")),
+    (&["solve", "a", "--step"], Err("`--step` wants a value")),
+    (&["read-back", "a", "--step=1"], Err("there is no option `--step` here")),
+    (&["reencode", "a", "--table"], Err("`--table` wants a value")),
+    (&["reencode", "--table-room="], Err("`--table-room` wants a number")),
     (&["solve", "--timeout=00"], Err("`--timeout` wants a number of seconds")),
     (&["solve", "--solver", "--proof", "--timeout=9"], Err("wanted: IN.cnf; found 0 file names")),
     (&["solve", "a", "--no-align", "--align"], Err("`--align` and `--no-align` exclude each other")),
@@ -586,6 +591,15 @@ fn words_are_read_before_anything_is_built() {
     for words in [
         &["reencode", "--", "-"][..],
         &["solve", "a", "--proof=", "--no-check", "--align"],
+        &[
+            "reencode",
+            "a",
+            "--step=0",
+            "--table",
+            "-",
+            "--table-room",
+            "0",
+        ],
         &["walk-back", "a", "b", "-", "--keep", "18446744073709551615"],
     ] {
         let ran = ran(checkout.command("sirgholyn", "").args(words));

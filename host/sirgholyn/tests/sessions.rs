@@ -4,17 +4,18 @@ mod common;
 
 use common::{compare_reencode, run_model, Room, WAYS};
 use model::reading::{read_formula, INPUT_LIMITS};
-use model::sessions::{COPIES, F, SIX};
+use model::sessions::{CHAIN, COPIES, F, SIX};
 use sirgholyn::{
-    read_back, reencode, walk_back, Arrangement, Error, Form, ReencodeRoom, Reencoded, Refusal,
-    WalkBackRoom,
+    read_back, reencode, walk_back, Arrangement, ChoiceRecord, Error, Form, ReencodeRoom,
+    Reencoded, Refusal, Settings, WalkBackRoom,
 };
 
 const G: &str =
     "p cnf 10 8\n8 -7 0\n9 -8 0\n10 -9 0\n-7 6 0\n7 -8 6 0\n8 -9 6 0\n9 -10 -6 0\n10 -6 0\n";
 
 fn encode(text: &str, form: Form, arrangement: Arrangement) -> Reencoded {
-    reencode(text.as_bytes(), form, arrangement, ReencodeRoom::default()).unwrap()
+    let settings = Settings::new(form, arrangement);
+    reencode(text.as_bytes(), settings, ReencodeRoom::default()).unwrap()
 }
 
 fn expect(text: &str, log: &str, formula: &str) {
@@ -132,9 +133,9 @@ fn copies_of_pairs() {
     assert!(order.log.starts_with(log.as_bytes()));
 
     let read = read_formula(COPIES.as_bytes(), &INPUT_LIMITS).unwrap();
-    for (form, arrangement) in WAYS {
-        let room = Room::exact(&read, &run_model(&read, form, arrangement));
-        let number = compare_reencode(COPIES.as_bytes(), form, arrangement, room);
+    for way in WAYS {
+        let room = Room::exact(&read, &run_model(&read, way));
+        let number = compare_reencode(COPIES.as_bytes(), way, room);
         assert_eq!(number, 0);
     }
 }
@@ -157,17 +158,80 @@ fn one_clause() {
     }
 }
 
+fn record(first: u32, length: u32, clauses: u32) -> ChoiceRecord {
+    ChoiceRecord {
+        first,
+        length,
+        clauses,
+    }
+}
+
+/// Three clauses of the input are resolved into one choice; with a step its new variables begin later.
+#[test]
+fn three_clauses_in_a_choice() {
+    let clashes = "1 2 4 5 0\nd 3 1 2 0\nd -3 4 5 0\n1 2 4 6 7 8 0\nd 5 1 2 4 0\nd -5 6 7 8 0\n";
+    for way in WAYS {
+        for (step, first) in [
+            (1, 9),
+            (2, 9),
+            (3, 10),
+            (8, 9),
+            (9, 10),
+            (10, 11),
+            (100, 101),
+        ] {
+            let way = way.with_step(step);
+            let new = reencode(CHAIN.as_bytes(), way, ReencodeRoom::default()).unwrap();
+            let log = String::from_utf8_lossy(&new.log);
+            assert!(log.starts_with(&format!("{clashes}-{first} 1 0\n{first} -1 0\n")));
+            assert_eq!(new.table, [record(first, 6, 3)]);
+            assert_eq!(new.tally.highest, u64::from(first) + 4);
+        }
+    }
+}
+
+/// A choice longer than the step: the next begins at the first number above it that is 1 more than a multiple.
+#[test]
+fn tables() {
+    let choices = |sizes: &[i32]| {
+        let mut text = format!("p cnf {} {}\n", sizes.iter().sum::<i32>(), sizes.len());
+        let mut literals = 1..;
+        for &size in sizes {
+            let clause = literals.by_ref().take(size as usize);
+            text += &clause
+                .map(|literal| format!("{literal} "))
+                .collect::<String>();
+            text += "0\n";
+        }
+        text
+    };
+    for (sizes, step, firsts) in [
+        (&[5, 64, 6][..], 1, &[76, 80, 143][..]),
+        (&[5, 64, 6], 10, &[81, 91, 161]),
+        (&[64, 64], 63, &[190, 253]),
+        (&[64, 64], 62, &[187, 311]),
+        (&[5, 65, 5], 7, &[78, 85]),
+        (&[4], 100, &[]),
+    ] {
+        let text = choices(sizes);
+        let taken = sizes.iter().filter(|size| (5..=64).contains(*size));
+        let records = firsts.iter().zip(taken);
+        let records = records.map(|(&first, &size)| record(first, size as u32, 1));
+        let records: Vec<ChoiceRecord> = records.collect();
+        for way in WAYS {
+            let way = way.with_step(step);
+            let new = reencode(text.as_bytes(), way, ReencodeRoom::default()).unwrap();
+            assert_eq!(new.table, records, "{sizes:?}, step {step}");
+        }
+    }
+}
+
 #[test]
 fn refusals_of_one_clause() {
     let cases = [("2 0", 4), ("-0", 3), ("1", 7), ("1 0 1 0", 8)];
     for (body, number) in cases {
         let text = format!("p cnf 1 1\n{body}\n");
-        let refused = reencode(
-            text.as_bytes(),
-            Form::Counter,
-            Arrangement::AsListed,
-            ReencodeRoom::default(),
-        );
+        let refused = reencode(text.as_bytes(), WAYS[0], ReencodeRoom::default());
         assert_eq!(refused, Err(Error::Refused(Refusal(number))), "{body}");
     }
 }

@@ -5,13 +5,15 @@ mod common;
 use common::formulas::{any_kind, any_kind_joined, beside_free_choice, is_joined, rewritten};
 use common::lines::check_lines;
 use common::solvers::{cadical, fullest_answer, minisat, Answer};
-use common::{expect_more, note, over_seeds, run_model, sum, Occurred, WAYS};
+use common::{
+    expect_more, note, over_seeds, records, run_model, skipped, sum, way_of, Occurred, STEPS, WAYS,
+};
 use model::generator::{one_of_three_joined, paired, Joined, Random};
 use model::log_reading::read_kept_lines;
 use model::texts::count_true;
 use model::valleys::Valley;
 use sirgholyn::drat::{self, Ground};
-use sirgholyn::{plan, Arrangement, Form, ReencodeRoom, Reencoded, WalkBackRoom};
+use sirgholyn::{plan, ReencodeRoom, Reencoded, Settings, WalkBackRoom};
 use std::io::Read;
 
 fn either(formula: &[u8], is_satisfiable: bool, solve: fn(&[u8]) -> Answer) -> Answer {
@@ -32,14 +34,17 @@ struct Trip<'a> {
     paired: bool,
     /// Whether no pair of some choice stands.
     unpaired: bool,
+    /// Whether numbers are skipped, with several choices.
+    skipping: bool,
 }
 
 impl<'a> Trip<'a> {
-    fn new(input: &'a Joined, (form, arrangement): (Form, Arrangement)) -> Trip<'a> {
+    fn new(input: &'a Joined, way: Settings) -> Trip<'a> {
         let room = ReencodeRoom::default();
-        let new = sirgholyn::reencode(&input.text, form, arrangement, room).unwrap();
-        let encoding = run_model(&input.formula, form, arrangement);
-        assert_eq!(new.tally.choices as usize, encoding.choices.len());
+        let new = sirgholyn::reencode(&input.text, way, room).unwrap();
+        let encoding = run_model(&input.formula, way);
+        assert_eq!(new.table, records(&encoding.table));
+        let skips = skipped(&input.formula, &encoding) > 0;
         let clause = |place: usize| input.formula.clauses[place].as_slice();
         let places = encoding.input_clauses_in_choices();
         let tally = &encoding.tally;
@@ -50,6 +55,7 @@ impl<'a> Trip<'a> {
             free: tally.free_choices > 0,
             paired: tally.partly_paired + tally.fully_paired > 0,
             unpaired: tally.unpaired > 0,
+            skipping: skips && encoding.choices.len() > 1,
         }
     }
 
@@ -60,6 +66,7 @@ impl<'a> Trip<'a> {
             ("free", self.free),
             ("paired", self.paired),
             ("unpaired", self.unpaired),
+            ("skipping", self.skipping),
         ] {
             note(trips, format!("{of}: {what}"), usize::from(applies));
         }
@@ -114,8 +121,9 @@ fn total(trips: Vec<Occurred>) -> Occurred {
     trips
 }
 
-/// Also of texts that are not kept in full, with a choice that has a pure literal, and with and without pairs.
-const ROUNDS: [(&str, usize); 10] = [
+/// Also of texts that are not kept in full, with a choice that has a pure literal, with and without pairs, and with
+/// numbers skipped.
+const ROUNDS: [(&str, usize); 12] = [
     ("plans", 60),
     ("proofs", 60),
     ("joined: plans", 20),
@@ -126,6 +134,8 @@ const ROUNDS: [(&str, usize); 10] = [
     ("paired: proofs", 10),
     ("unpaired: plans", 20),
     ("unpaired: proofs", 10),
+    ("skipping: plans", 20),
+    ("skipping: proofs", 5),
 ];
 
 #[test]
@@ -146,7 +156,7 @@ fn valleys() {
             0 => rewritten(&mut random, formula),
             _ => formula.into(),
         };
-        Trip::new(&input, WAYS[seed as usize % WAYS.len()]).round(trips);
+        Trip::new(&input, way_of(seed)).round(trips);
     }));
     expect_more(&trips, ROUNDS);
     expect_more(&trips, [("proof lines", 10_000)]);
@@ -201,7 +211,8 @@ fn valleys_with_free_lures() {
         let valley = with_free_lures(&mut Random::new(seed));
         let input: Joined = valley.formula().into();
         for form in [0, 2] {
-            let trip = Trip::new(&input, WAYS[form + seed as usize % 2]);
+            let (turn, step) = (seed as usize % 2, seed as usize / 2 % STEPS.len());
+            let trip = Trip::new(&input, WAYS[form + turn].with_step(STEPS[step]));
             assert!(trip.free);
             let mut lines = trip.round(trips);
             if let Some(answer) = fullest_answer(&trip.new.formula, input.formula.variables) {
@@ -230,7 +241,7 @@ fn random_formulas() {
             _ => formula,
         };
         let input = one_of_three_joined(random, formula);
-        Trip::new(&input, WAYS[seed as usize % WAYS.len()]).round(trips);
+        Trip::new(&input, way_of(seed)).round(trips);
     }));
     expect_more(&trips, ROUNDS);
 }
@@ -244,7 +255,7 @@ fn our_lines_follow() {
             0 => with_free_lures(random).formula().into(),
             _ => any_kind_joined(random),
         };
-        let trip = Trip::new(&input, WAYS[seed as usize % WAYS.len()]);
+        let trip = Trip::new(&input, way_of(seed));
         let kept = read_kept_lines(&trip.new.log, trip.new.tally.lines as usize).unwrap();
         check_lines(&input.text, &kept, |_, _, ground| {
             let what = match ground {
@@ -263,5 +274,6 @@ fn our_lines_follow() {
         let of = |kind: &str, share: usize| (format!("{kind}{what}"), least / share);
         expect_more(&lines, [of("", 1), of("joined: ", 10), of("free: ", 4)]);
         expect_more(&lines, [of("paired: ", 2), of("unpaired: ", 4)]);
+        expect_more(&lines, [of("skipping: ", 10)]);
     }
 }

@@ -9,7 +9,7 @@ use common::formulas::rewritten;
 use common::solvers::{fullest_answer, named, Folder};
 use common::{run_model, WAYS as NAMED_WAYS};
 use model::encoding::PAIRS;
-use model::generator::{paired, text_of, Random};
+use model::generator::{clauses_apart, paired, text_of, Random};
 use model::reading::{read_formula, Formula, INPUT_LIMITS};
 use model::sessions::F;
 use model::texts::log_text;
@@ -197,7 +197,7 @@ fn paired_example(name: &str) -> Formula {
 fn plans_and_proofs_where_pairs_stand() {
     let folder = Folder::new();
     let proof = folder.path("proof.drat");
-    for ((form, arrangement), words) in NAMED_WAYS.into_iter().zip(WAYS) {
+    for (way, words) in NAMED_WAYS.into_iter().zip(WAYS) {
         let solve = |input: &str| {
             let own = ["solve", input, "--proof", &proof];
             run(&[&own, &words[..]].concat())
@@ -212,7 +212,7 @@ fn plans_and_proofs_where_pairs_stand() {
         assert_eq!(found, (20, "s UNSATISFIABLE\n", ""));
         let whole = fs::read_to_string(&proof).unwrap();
         check(&String::from_utf8(text).unwrap(), &whole);
-        let encoding = run_model(&formula, form, arrangement);
+        let encoding = run_model(&formula, way);
         assert!(whole.as_bytes().starts_with(&log_text(&encoding.log)));
         let [_, pairs @ ..] = PAIRS.map(|(_, times)| times(&encoding.tally));
         assert!(!pairs.contains(&0), "{pairs:?}");
@@ -257,6 +257,39 @@ fn a_proof_for_a_text_with_repeats_and_tautologies() {
         drat::deletions_of_tautologies(small.as_bytes()),
         "d 1 -1 0\nd -1 1 0\n"
     );
+}
+
+/// With a step: plans are carried back over the numbers that it skips, and a proof begins with our log. A step that is
+/// refused, or leads too far, starts no solver.
+#[test]
+fn steps() {
+    let folder = Folder::new();
+    let (proof, started) = (folder.path("proof.drat"), folder.path("started"));
+    let (valley, no_plan) = (example("valley.cnf"), example("no_plan.cnf"));
+    let text = fs::read_to_string(&no_plan).unwrap();
+    for form in ["counter", "order"] {
+        for step in ["7", "100"] {
+            let settings = ["--form", form, "--align", "--step", step];
+            let solve = |input: &str| {
+                let own = ["solve", input, "--proof", &proof];
+                run(&[&own, &settings[..]].concat())
+            };
+            expect_one_lure_each(&valley, &solve(&valley));
+            assert_eq!(solve(&no_plan).status, 20);
+            let lines = fs::read_to_string(&proof).unwrap();
+            check(&text, &lines);
+            let own = ["reencode", &no_plan, "--log", "-"];
+            let log = run(&[&own, &settings[..]].concat()).out;
+            assert!(lines.starts_with(&log));
+        }
+    }
+    let solver = script(&folder, "solver", &format!("echo >{started}; exit 1"));
+    let many = folder.write("many.cnf", &text_of(&clauses_apart(5, 1_600)));
+    for (input, step, number) in [(&valley, "0", 15), (&valley, "101", 15), (&many, "39", 16)] {
+        let ran = run(&["solve", input, "--step", step, "--solver", &solver]);
+        expect_failure(&ran, number, "the caller can mend it");
+    }
+    assert!(!fs::exists(&started).unwrap());
 }
 
 /// The solver gets the formula in order form and aligned, unless told otherwise.

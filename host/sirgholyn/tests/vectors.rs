@@ -12,12 +12,10 @@ use model::valleys::Valley;
 /// Compares number, counts and every byte in all ways; the answer is the number.
 fn compare(text: &[u8]) -> u8 {
     let mut number = 0;
-    for (form, arrangement) in WAYS {
-        let (model_form, model_wish) = in_model(form, arrangement);
-        let settings = model::Settings::new(model_form, model_wish);
-        let expected = model::reencode(text, settings, model::Room::enough());
-        let found = vectors::reencode(text, form, arrangement);
-        let seen = || format!("{form:?} {arrangement:?} {}", String::from_utf8_lossy(text));
+    for way in WAYS {
+        let expected = model::reencode(text, in_model(way), model::Room::enough());
+        let found = vectors::reencode(text, way.form, way.arrangement);
+        let seen = || format!("{way:?} {}", String::from_utf8_lossy(text));
         match (expected, found) {
             (Ok(expected), Ok(found)) => {
                 let numbers = [found.choices, found.clauses, found.lines];

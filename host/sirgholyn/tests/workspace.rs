@@ -17,17 +17,14 @@ use model::encoding::Encoding;
 use model::generator::{clauses_apart, text_of, Random};
 use model::reading::{read_formula, Formula, INPUT_LIMITS};
 use model::valleys::Valley;
-use sirgholyn::{Arrangement, Form};
+use sirgholyn::{Arrangement, Form, Settings};
 
-type Way = (Form, Arrangement);
-
-fn by_model(text: &[u8], (form, arrangement): Way, work: usize) -> Result<model::Reencoded, u8> {
-    let (form, wish) = in_model(form, arrangement);
+fn by_model(text: &[u8], way: Settings, work: usize) -> Result<model::Reencoded, u8> {
     let room = model::Room {
         workspace: work as u64,
         ..model::Room::enough()
     };
-    model::reencode(text, model::Settings::new(form, wish), room)
+    model::reencode(text, in_model(way), room)
 }
 
 /// Whether all clauses of the run and two entries for each of their literals are more than the rule asks for, so that
@@ -43,9 +40,9 @@ fn is_filled(formula: &Formula, encoding: &Encoding) -> bool {
 /// The model's bytes on just enough workspace, on one entry more and on twice as much; on one entry less number 11.
 /// The new formula is read back on just enough and on one entry less. The answer tells whether the run fills the
 /// workspace.
-fn expect_enough(text: &[u8], way: Way) -> bool {
+fn expect_enough(text: &[u8], way: Settings) -> bool {
     let formula = read_formula(text, &INPUT_LIMITS).unwrap();
-    let encoding = run_model(&formula, way.0, way.1);
+    let encoding = run_model(&formula, way);
     let enough = Room::exact(&formula, &encoding);
     let expected = by_model(text, way, enough.work);
     for work in [enough.work, enough.work + 1, 2 * enough.work] {
@@ -85,7 +82,7 @@ fn wide_clauses_over_choices() {
             &wide_over_choices(64, 30, 6_000),
             &linked,
         ] {
-            assert_eq!(expect_enough(text, way), way.0 == Form::Order);
+            assert_eq!(expect_enough(text, way), way.form == Form::Order);
         }
     }
 }
@@ -110,9 +107,11 @@ fn long_logs() {
         (unit_chain(3_000), Form::Counter, 50..55),
         (wide_over_choices(5, 500, 15_000), Form::Order, 120..130),
     ] {
-        let way = (form, Arrangement::Alignment);
+        let way = Settings::new(form, Arrangement::Alignment);
         let formula = read_formula(&text, &INPUT_LIMITS).unwrap();
-        let new = vectors::reencode(&text, way.0, way.1).ok().unwrap();
+        let new = vectors::reencode(&text, way.form, way.arrangement)
+            .ok()
+            .unwrap();
         assert!(megabytes.contains(&(new.log.len() / 1_000_000)));
         let expected = model::Reencoded {
             choices: new.choices,
@@ -121,13 +120,20 @@ fn long_logs() {
             lines: new.lines,
             log: new.log,
             formula: new.formula,
-            // the library gives none, so it is not compared
-            table: Vec::new(),
+            // what stands on its own is taken as it is, each choice of five
+            table: (0..new.choices)
+                .map(|place| model::ChoiceRecord {
+                    first: formula.variables + 1 + 4 * place as i32,
+                    length: 5,
+                    clauses: 1,
+                })
+                .collect(),
         };
         let room = Room {
             work: work_for(&formula),
             log: expected.log.len(),
             formula: expected.formula.len(),
+            table: new.choices,
         };
         let work = &mut vec![-7; room.work];
         let number = expect_reencoded(&Ok(expected), &text, way, work, room);
@@ -149,7 +155,7 @@ fn used_workspace() {
         let mut work = vec![-7; 1 << 20];
         for text in &texts {
             let formula = read_formula(text, &INPUT_LIMITS).unwrap();
-            let enough = Room::exact(&formula, &run_model(&formula, way.0, way.1));
+            let enough = Room::exact(&formula, &run_model(&formula, way));
             let expected = by_model(text, way, enough.work);
             let own = &mut work[..enough.work];
             assert_eq!(expect_reencoded(&expected, text, way, own, enough), 0);

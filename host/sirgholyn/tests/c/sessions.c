@@ -1,5 +1,5 @@
-/* The header's calls from C: sessions F to H, what is kept, refusals, the workspace rules and the limits. Prints
- * each expectation that fails; the exit status is 1 if any does. */
+/* The header's calls from C: sessions F to H, what is kept, tables and steps, refusals, the workspace rules and the
+ * limits. Prints each expectation that fails; the exit status is 1 if any does. */
 #define _POSIX_C_SOURCE 200112L
 
 #include "sirgholyn.h"
@@ -18,9 +18,10 @@ static const char H_LINE[] = "v -1 -2 -3 4 -5 -6 0\n";
 
 enum {
     F_WORK = SIRGHOLYN_WORK(17, 7, 6),
-    LOG_ROOM = 600,
+    LOG_ROOM = 1200,
     FORMULA_ROOM = 100,
     LINE_ROOM = 30,
+    TABLE_ROOM = 3,
     PATTERN = 0xA5
 };
 
@@ -28,6 +29,7 @@ static int32_t work[SIRGHOLYN_WORK(
     SIRGHOLYN_MOST_NEW_LITERALS, SIRGHOLYN_MOST_NEW_CLAUSES, SIRGHOLYN_MOST_NEW_VARIABLES)];
 static const size_t work_len = sizeof work / sizeof *work;
 static uint8_t new_log[LOG_ROOM], new_formula[FORMULA_ROOM], line[LINE_ROOM];
+static struct sirgholyn_choice table[TABLE_ROOM];
 static uint64_t tally[SIRGHOLYN_REENCODE_COUNTS];
 static int failures = 0;
 
@@ -71,14 +73,23 @@ static size_t numbers(const uint8_t *log, size_t size)
     return count;
 }
 
-static uint32_t reencode(const char *text, size_t entries, size_t log_len, size_t formula_len)
+static uint32_t reencode_with(
+    const char *text, uint32_t step, size_t entries, size_t log_len, size_t formula_len,
+    size_t table_len)
 {
     memset(new_log, PATTERN, sizeof new_log);
     memset(new_formula, PATTERN, sizeof new_formula);
+    memset(table, PATTERN, sizeof table);
     memset(tally, PATTERN, sizeof tally);
     return sirgholyn_reencode(
-        bytes(text), strlen(text), SIRGHOLYN_ORDER, SIRGHOLYN_AS_LISTED, work, entries,
-        new_log, log_len, new_formula, formula_len, tally, SIRGHOLYN_REENCODE_COUNTS);
+        bytes(text), strlen(text), SIRGHOLYN_ORDER, SIRGHOLYN_AS_LISTED, step, work, entries,
+        new_log, log_len, new_formula, formula_len, table, table_len,
+        tally, SIRGHOLYN_REENCODE_COUNTS);
+}
+
+static uint32_t reencode(const char *text, size_t entries, size_t log_len, size_t formula_len)
+{
+    return reencode_with(text, 1, entries, log_len, formula_len, TABLE_ROOM);
 }
 
 /* walks back over session F's log, which stands in new_log */
@@ -130,6 +141,68 @@ static void sessions(void)
     EXPECT(all(work, (8 + 19) * sizeof *work, 64 * sizeof *work, PATTERN));
 }
 
+static int is_record(size_t place, uint32_t first, uint32_t length, uint32_t clauses)
+{
+    return table[place].first == first && table[place].length == length
+        && table[place].clauses == clauses;
+}
+
+/* a table by its records, the step, and their own refusals */
+static void tables_and_steps(void)
+{
+    static const char chain[] = "p cnf 8 3\n1 2 3 0\n-3 4 5 0\n-5 6 7 8 0\n";
+    static const char two[] = "p cnf 11 2\n1 2 3 4 5 0\n6 7 8 9 10 11 0\n";
+    static const size_t size = sizeof(struct sirgholyn_choice);
+
+    EXPECT(size == 12);
+    EXPECT(reencode(chain, work_len, LOG_ROOM, FORMULA_ROOM) == SIRGHOLYN_DONE);
+    EXPECT(is_record(0, 9, 6, 3) && all(table, size, sizeof table, PATTERN));
+    EXPECT(memcmp(new_log, "1 2 4 5 0\nd 3 1 2 0\n", 20) == 0);
+    EXPECT(reencode_with(chain, 10, work_len, LOG_ROOM, FORMULA_ROOM, 1) == SIRGHOLYN_DONE);
+    EXPECT(is_record(0, 11, 6, 3) && all(table, size, sizeof table, PATTERN));
+    EXPECT(tally[SIRGHOLYN_REENCODE_CHOICES] == 1 && tally[SIRGHOLYN_REENCODE_HIGHEST] == 15);
+
+    EXPECT(reencode_with(two, SIRGHOLYN_MOST_STEP, work_len, LOG_ROOM, FORMULA_ROOM, 2)
+           == SIRGHOLYN_DONE);
+    EXPECT(is_record(0, 101, 5, 1) && is_record(1, 201, 6, 1));
+    EXPECT(all(table, 2 * size, sizeof table, PATTERN));
+    EXPECT(tally[SIRGHOLYN_REENCODE_HIGHEST] == 205);
+    EXPECT(reencode_with(two, 100, work_len, 0, 0, 1) == SIRGHOLYN_TABLE_SHORT);
+    EXPECT(all(table, 0, size, 0) && all(table, size, sizeof table, PATTERN));
+
+    EXPECT(reencode_with("", SIRGHOLYN_MOST_STEP + 1, 0, 0, 0, TABLE_ROOM)
+           == SIRGHOLYN_STEP_OUTSIDE);
+    EXPECT(all(table, 0, sizeof table, 0) && all(tally, 0, sizeof tally, 0));
+    EXPECT(reencode_with(two, 0, work_len, LOG_ROOM, FORMULA_ROOM, TABLE_ROOM)
+           == SIRGHOLYN_STEP_OUTSIDE);
+}
+
+/* as many choices as there can be: the longest table, and the step that leads too far */
+static void most_choices(void)
+{
+    static char text[60000];
+    static struct sirgholyn_choice records[SIRGHOLYN_MOST_CHOICES];
+    static const size_t records_len = SIRGHOLYN_MOST_CHOICES;
+    static uint8_t log[1 << 20], formula[1 << 20];
+    char *at = text;
+    unsigned i;
+    uint32_t number, step;
+
+    at += sprintf(at, "p cnf %u %u\n", 5 * SIRGHOLYN_MOST_CHOICES, SIRGHOLYN_MOST_CHOICES);
+    for (i = 1; i <= 5 * SIRGHOLYN_MOST_CHOICES; i++) {
+        at += sprintf(at, "%u%s", i, i % 5 == 0 ? " 0\n" : " ");
+    }
+    for (step = 38; step <= 39; step++) {
+        memset(records, PATTERN, sizeof records);
+        number = sirgholyn_reencode(
+            bytes(text), strlen(text), SIRGHOLYN_COUNTER, SIRGHOLYN_ALIGNED, step, work, work_len,
+            log, sizeof log, formula, sizeof formula, records, records_len, tally, 2);
+        EXPECT(number == (step == 38 ? SIRGHOLYN_DONE : SIRGHOLYN_STEP_TOO_LARGE));
+        EXPECT(records[records_len - 1].first == (step == 38 ? 68781 : 0));
+        EXPECT(tally[SIRGHOLYN_REENCODE_HIGHEST] == (step == 38 ? 68784 : 0));
+    }
+}
+
 /* a repeated literal is kept once, and a clause that holds a literal and its negation is left out */
 static void one_clause(void)
 {
@@ -169,7 +242,7 @@ static void zero_after_refusals(void)
            == SIRGHOLYN_VARIABLE_ABOVE_V);
     EXPECT(all(new_log, 0, sizeof new_log, 0));
     EXPECT(all(new_formula, 0, sizeof new_formula, 0));
-    EXPECT(all(tally, 0, sizeof tally, 0));
+    EXPECT(all(table, 0, sizeof table, 0) && all(tally, 0, sizeof tally, 0));
     EXPECT(reencode(F, F_WORK, 9, FORMULA_ROOM) == SIRGHOLYN_LOG_SHORT);
     EXPECT(all(new_log, 0, 9, 0) && all(new_log, 9, sizeof new_log, PATTERN));
     EXPECT(reencode(F, F_WORK, LOG_ROOM, 9) == SIRGHOLYN_FORMULA_SHORT);
@@ -255,6 +328,8 @@ static void limits(void)
 static void *run(void *unused)
 {
     sessions();
+    tables_and_steps();
+    most_choices();
     one_clause();
     short_tally();
     zero_after_refusals();

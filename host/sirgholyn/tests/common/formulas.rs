@@ -77,6 +77,23 @@ pub fn with_pairs(size: usize, count: usize, copies: usize) -> Formula {
     formula
 }
 
+/// So many choices of one size that with the step, 39 or more, the highest variable is near 70,000, on either side;
+/// and a few clauses with negated literals of theirs, in two copies each, so that nothing clashes. All are shuffled.
+pub fn choices_near_the_limit(random: &mut Random, step: usize) -> Formula {
+    // a choice takes its variables, of which there are 8,000 at most, and a step
+    let size = random.between(5, 8_000 * step / 62_000);
+    let count = (70_000 / (size + step) + random.below(5) - 2).min(8_000 / size);
+    let mut formula = clauses_apart(size, count);
+    for _ in 0..random.below(20) {
+        let pair = [(); 2].map(|()| -(random.between(1, size * count) as i32));
+        if pair[0] != pair[1] {
+            formula.clauses.extend([pair.to_vec(), pair.to_vec()]);
+        }
+    }
+    random.shuffle(&mut formula.clauses);
+    formula
+}
+
 /// Whether a clause of the text has a repeat or is left out.
 pub fn is_joined(input: &Joined) -> bool {
     input.formula.left_out > 0 || !clauses_with_repeat(&input.text).is_empty()

@@ -51,13 +51,12 @@ fn parts_of_choice(choice: &[i32], copies: usize) -> [(Part, usize); 5] {
 pub fn parts(formula: &Formula, encoding: &Encoding) -> Vec<Part> {
     let standing = cleared(formula, encoding);
     let mut parts = vec![Part::Clearing; encoding.tally.clearing_lines()];
-    let mut used = formula.variables;
-    for (_, choice) in &encoding.choices {
+    for ((_, choice), record) in encoding.choices.iter().zip(&encoding.table) {
         let copies = copies_of_pairs(&standing, choice);
         for (part, lines) in parts_of_choice(choice, copies) {
             parts.extend(repeat_n(part, lines));
         }
-        used += choice.len() as i32 - 1;
+        let used = record.first + record.length as i32 - 2;
         let rest = encoding.log[parts.len()..].iter();
         let of_order = rest.take_while(|line| line.literals.iter().all(|l| l.abs() <= used));
         parts.extend(of_order.map(|_| Part::Order));

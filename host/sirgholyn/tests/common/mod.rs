@@ -10,21 +10,34 @@ use model::encoding::Encoding;
 use model::generator::text_of;
 use model::reading::Formula;
 use model::texts::log_text;
-use sirgholyn::{calls, Arrangement, Form, Refusal};
+use sirgholyn::{calls, Arrangement, ChoiceRecord, Form, Refusal, Settings};
 use std::collections::BTreeMap;
 use std::ops::Range;
 use std::thread;
 
-pub const WAYS: [(Form, Arrangement); 4] = [
-    (Form::Counter, Arrangement::AsListed),
-    (Form::Counter, Arrangement::Alignment),
-    (Form::Order, Arrangement::AsListed),
-    (Form::Order, Arrangement::Alignment),
+/// All forms and arrangements, with step 1.
+pub const WAYS: [Settings; 4] = [
+    Settings::new(Form::Counter, Arrangement::AsListed),
+    Settings::new(Form::Counter, Arrangement::Alignment),
+    Settings::new(Form::Order, Arrangement::AsListed),
+    Settings::new(Form::Order, Arrangement::Alignment),
 ];
 
+/// Steps that are accepted.
+pub const STEPS: [u32; 8] = [1, 2, 3, 7, 10, 39, 64, 100];
+
+/// Steps that are refused.
+pub const NO_STEPS: [u32; 3] = [0, 101, u32::MAX];
+
+/// A way for each seed: all ways with the first step, then with the second, and so on.
+pub fn way_of(seed: u64) -> Settings {
+    let seed = seed as usize;
+    WAYS[seed % WAYS.len()].with_step(STEPS[seed / WAYS.len() % STEPS.len()])
+}
+
 /// The numbers of refusals.
-pub const LISTED: [u32; 19] = [
-    1, 2, 3, 4, 7, 8, 9, 11, 12, 13, 14, 31, 32, 33, 34, 41, 42, 43, 44,
+pub const LISTED: [u32; 22] = [
+    1, 2, 3, 4, 7, 8, 9, 11, 12, 13, 14, 15, 16, 17, 31, 32, 33, 34, 41, 42, 43, 44,
 ];
 
 /// The listed numbers that someone can mend, as in `1 to 4, 7 to 9`.
@@ -65,21 +78,34 @@ pub fn expect_more<S: AsRef<str>>(
     }
 }
 
-pub fn in_model(form: Form, arrangement: Arrangement) -> (model::Form, model::Arrangement) {
-    let form = match form {
+pub fn in_model(way: Settings) -> model::Settings {
+    let form = match way.form {
         Form::Counter => model::Form::Counter,
         Form::Order => model::Form::Order,
     };
-    let arrangement = match arrangement {
+    let arrangement = match way.arrangement {
         Arrangement::AsListed => model::Arrangement::AsListed,
         Arrangement::Alignment => model::Arrangement::Alignment,
     };
-    (form, arrangement)
+    model::Settings {
+        form,
+        arrangement,
+        step: way.step,
+    }
 }
 
-pub fn run_model(formula: &Formula, form: Form, arrangement: Arrangement) -> Encoding {
-    let (form, arrangement) = in_model(form, arrangement);
-    Encoding::run(formula, model::Settings::new(form, arrangement))
+pub fn run_model(formula: &Formula, way: Settings) -> Encoding {
+    Encoding::run(formula, in_model(way))
+}
+
+/// The model's records as the library has them.
+pub fn records(table: &[model::ChoiceRecord]) -> Vec<ChoiceRecord> {
+    let record = |choice: &model::ChoiceRecord| ChoiceRecord {
+        first: choice.first as u32,
+        length: choice.length as u32,
+        clauses: choice.clauses as u32,
+    };
+    table.iter().map(record).collect()
 }
 
 /// Sizes of a reencoding's buffers.
@@ -88,46 +114,58 @@ pub struct Room {
     pub work: usize,
     pub log: usize,
     pub formula: usize,
+    /// Records.
+    pub table: usize,
 }
 
 impl Room {
-    /// What reencoding asks for, and the lengths of both texts.
+    /// What reencoding asks for, the lengths of both texts, and a record for each choice.
     pub fn exact(formula: &Formula, encoding: &Encoding) -> Room {
         Room {
             work: work_for(formula),
             log: log_text(&encoding.log).len(),
             formula: text_of(&new_formula(encoding)).len(),
+            table: encoding.table.len(),
+        }
+    }
+
+    fn in_model(self) -> model::Room {
+        model::Room {
+            workspace: self.work as u64,
+            log: self.log,
+            formula: self.formula,
+            table: self.table,
         }
     }
 }
 
-/// Reencodes by library and model, and compares number, tally and every byte; the answer is the number.
-pub fn compare_reencode(text: &[u8], form: Form, arrangement: Arrangement, room: Room) -> u32 {
-    let (model_form, model_wish) = in_model(form, arrangement);
-    let model_room = model::Room {
-        workspace: room.work as u64,
-        log: room.log,
-        formula: room.formula,
-        table: usize::MAX,
-    };
-    let settings = model::Settings::new(model_form, model_wish);
-    let expected = model::reencode(text, settings, model_room);
+/// A record that no choice has.
+const NO_RECORD: ChoiceRecord = ChoiceRecord {
+    first: 0xA5A5_A5A5,
+    length: 0x5A5A_5A5A,
+    clauses: 0xA5A5_5A5A,
+};
+
+/// Reencodes by library and model, and compares number, tally, table and every byte; the answer is the number.
+pub fn compare_reencode(text: &[u8], way: Settings, room: Room) -> u32 {
+    let expected = model::reencode(text, in_model(way), room.in_model());
     let mut work = vec![-7; room.work];
-    expect_reencoded(&expected, text, (form, arrangement), &mut work, room)
+    expect_reencoded(&expected, text, way, &mut work, room)
 }
 
 /// Reencodes by library on the workspace, and compares with what the model gives; the answer is the number.
 pub fn expect_reencoded(
     expected: &Result<model::Reencoded, u8>,
     text: &[u8],
-    (form, arrangement): (Form, Arrangement),
+    way: Settings,
     work: &mut [i32],
     room: Room,
 ) -> u32 {
     let mut log = vec![0xA5; room.log];
     let mut formula = vec![0x5A; room.formula];
-    let found = calls::reencode(text, form, arrangement, work, &mut log, &mut formula);
-    let seen = || format!("{} {form:?} {arrangement:?} {room:?}", shown(text));
+    let mut table = vec![NO_RECORD; room.table];
+    let found = calls::reencode(text, way, work, &mut log, &mut formula, &mut table);
+    let seen = || format!("{} {way:?} {room:?}", shown(text));
     match (expected, found) {
         (Ok(expected), Ok(tally)) => {
             let expected_tally = calls::Tally {
@@ -141,6 +179,7 @@ pub fn expect_reencoded(
             assert_eq!(tally, expected_tally, "{}", seen());
             assert_written(&log, &expected.log, 0xA5, &seen);
             assert_written(&formula, &expected.formula, 0x5A, &seen);
+            assert_written(&table, &records(&expected.table), NO_RECORD, &seen);
             0
         }
         (Err(expected), Err(number)) => {
@@ -150,6 +189,8 @@ pub fn expect_reencoded(
                 "{}",
                 seen()
             );
+            let zero = ChoiceRecord::default();
+            assert!(table.iter().all(|&record| record == zero), "{}", seen());
             number
         }
         _ => panic!("{expected:?}, found {found:?}: {}", seen()),
@@ -288,6 +329,12 @@ pub fn over_seeds<C: Default + Send>(
             })
             .collect()
     })
+}
+
+/// How many numbers between V and H stand in no clause, as they are skipped.
+pub fn skipped(formula: &Formula, encoding: &Encoding) -> usize {
+    let used: usize = encoding.table.iter().map(|choice| choice.length - 1).sum();
+    (encoding.highest - formula.variables) as usize - used
 }
 
 /// The clauses left standing.

@@ -4,7 +4,7 @@ use crate::failure::Failure;
 use crate::words::{CommandWords, Follows};
 use sirgholyn::limits::MOST_NAME_SHOWN;
 use sirgholyn::shown::shown;
-use sirgholyn::Form;
+use sirgholyn::{Arrangement, Form, Settings};
 use std::ffi::{OsStr, OsString};
 use std::os::unix::ffi::{OsStrExt, OsStringExt};
 
@@ -77,13 +77,16 @@ impl Args {
         self.value(name).and_then(number)
     }
 
-    /// The form that is named, or else the other.
-    pub fn form_or(&self, unnamed: Form) -> Form {
-        match self.value("--form").and_then(OsStr::to_str) {
+    /// The settings: the form that is named, or else the other, and the step. A step too large for 32 bits stays one
+    /// that the library refuses.
+    pub fn settings(&self, unnamed: Form, arrangement: Arrangement) -> Settings {
+        let form = match self.value("--form").and_then(OsStr::to_str) {
             Some("counter") => Form::Counter,
             Some(_) => Form::Order,
             None => unnamed,
-        }
+        };
+        let step = self.number("--step").unwrap_or(1);
+        Settings::new(form, arrangement).with_step(u32::try_from(step).unwrap_or(u32::MAX))
     }
 }
 

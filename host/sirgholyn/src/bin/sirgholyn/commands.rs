@@ -6,7 +6,7 @@ use crate::files::{self, say};
 use crate::outputs::{self, Output, Taken};
 use sirgholyn::limits::Limits;
 use sirgholyn::location;
-use sirgholyn::{Arrangement, Error, Form, ReencodeRoom, Tally, WalkBackRoom};
+use sirgholyn::{Arrangement, ChoiceRecord, Error, Form, ReencodeRoom, Tally, WalkBackRoom};
 use std::io::Cursor;
 
 pub fn reencode(args: &Args) -> Result<u8, Failure> {
@@ -14,6 +14,7 @@ pub fn reencode(args: &Args) -> Result<u8, Failure> {
         work: args.number("--work"),
         log: args.number("--log-room"),
         formula: args.number("--formula-room"),
+        table: args.number("--table-room"),
     };
     let input = files::read(args.file(0))?;
     let mut taken = Taken::new(&[&input])?;
@@ -22,16 +23,21 @@ pub fn reencode(args: &Args) -> Result<u8, Failure> {
             .map(|file| Output::open(file, &mut taken))
             .transpose()
     };
-    let (formula, log) = (open("--formula")?, open("--log")?);
+    let (formula, log, table) = (open("--formula")?, open("--log")?, open("--table")?);
 
     let arrangement = match args.has("--align") {
         true => Arrangement::Alignment,
         false => Arrangement::AsListed,
     };
-    let new = sirgholyn::reencode(&input.text, args.form_or(Form::Counter), arrangement, room)
+    let settings = args.settings(Form::Counter, arrangement);
+    let new = sirgholyn::reencode(&input.text, settings, room)
         .map_err(|error| refused_formula(error, &input.text, &Limits::INPUT))?;
     let mut all = Vec::new();
-    for (output, bytes) in [(formula, new.formula), (log, new.log)] {
+    for (output, bytes) in [
+        (formula, new.formula),
+        (log, new.log),
+        (table, table_text(&new.table)),
+    ] {
         if let Some(mut output) = output {
             output.write(Cursor::new(bytes))?;
             all.push(output);
@@ -41,6 +47,15 @@ pub fn reencode(args: &Args) -> Result<u8, Failure> {
     outputs::finish(all)?;
     tell(&new.tally, on_standard)?;
     Ok(0)
+}
+
+/// A line with the columns' names, and one for each choice, tabs between.
+fn table_text(table: &[ChoiceRecord]) -> Vec<u8> {
+    let mut text = String::from("first\tlength\tclauses\n");
+    for choice in table {
+        text += &format!("{}\t{}\t{}\n", choice.first, choice.length, choice.clauses);
+    }
+    text.into_bytes()
 }
 
 /// Prints the tally, on standard error where a text went to standard output.

@@ -33,8 +33,8 @@ pub fn solve(args: &Args) -> Result<u8, Failure> {
     };
     let text = &input.text;
 
-    let form = args.form_or(Form::Order);
-    let new = sirgholyn::reencode(text, form, arrangement, ReencodeRoom::default())
+    let settings = args.settings(Form::Order, arrangement);
+    let new = sirgholyn::reencode(text, settings, ReencodeRoom::default())
         .map_err(|error| refused_formula(error, text, &Limits::INPUT))?;
     let scratch = Scratch::new(&new.formula)?;
     let mut given = vec![scratch.formula.path.as_path()];

@@ -23,13 +23,13 @@ pub fn next_below(highest: u32, g: u32) -> u32
 }
 
 // Writes a row at its place.
-fn put_row(rows: &mut [u32], at: usize, first: u32, length: u32, clauses: u32)
+fn put_row(rows: &mut [u32], at: usize, first: u32, n: u32, clauses: u32)
     requires { ⌜ 3 * at + 3 ≤ length (now rows) ⌝ }
-    ensures { λ _. ⌜ now (rows .exit) ≡ sets (now (rows .entry)) (3 * at) (first ∷ «length» ∷ clauses ∷ []) ⌝ }
+    ensures { λ _. ⌜ now (rows .exit) ≡ sets (now (rows .entry)) (3 * at) (first ∷ n ∷ clauses ∷ []) ⌝ }
 {
     let place = 3 * at;
     rows[place] = first;
-    rows[place + 1] = length;
+    rows[place + 1] = n;
     rows[place + 2] = clauses;
 }
 

@@ -3,18 +3,20 @@ use mathlib.Core.Path.{_≡_}
 use mathlib.Core.List.{List}
 use Prim.Native.Nat.{ℕ}
 use lib.IntN.{ℤ}
-use Rattle.definition.specs.Literals.{Formula}
+use Rattle.definition.specs.Literals.{Clause, Formula}
 use Rattle.definition.specs.Text.{Bytes}
 use Rattle.definition.specs.Clearing.{clear-clashes, clear-pure}
 use Rattle.definition.specs.Reencoding.{unclashed}
 use Rattle.theory_clearing.specs.Clashes.{Clash-free}
 use Rattle.theory_clearing.proofs.Clashes.{unclashed-proper, lowest-none, no-clash-left}
+use Rattle.theory_clearing.proofs.Pure.{eliminates-mem, pure-eliminates}
 use Rattle.theory_room.specs.Choices.{clearing}
 use Rattle.tables.specs.Sizes.{input-reach}
 use Rattle.progress.specs.declared.Progress.{Progress}
 use Rattle.progress.specs.Progress.{standing, Good, Runs}
 use Rattle.progress.proofs.Laws.{good-first, good-rest, runs-join}
 use Rattle.pass_clashes.specs.Scan.{Clash-ready}
+use Rattle.pass_clashes.specs.Weights.{Weighed}
 use Rattle.run.specs.Run.{Clear-ready}
 
 module _ {step : ℕ} {work : List ℤ} {p : Progress} (r : Clear-ready step work p) where
@@ -40,3 +42,7 @@ module _ {step : ℕ} {work : List ℤ} {p : Progress} (r : Clear-ready step wor
     pub cleared-runs : {new : List ℤ} {z : Bytes} {t : Progress} → Runs (clear-pure (standing mid q)) mid y q new z t → Runs (clearing F) work x p new z t
     unfolding clearing
     cleared-runs b = runs-join a (rw unclashed-here at b)
+
+    -- the weights count the input clauses of what is left too
+    pub weighed-left : {new : List ℤ} {z : Bytes} {t : Progress} {count : Clause → ℕ} {most : ℕ} {w : List ℕ} → Runs (clear-pure (standing mid q)) mid y q new z t → Weighed count most (standing mid q) w → Weighed count most (standing new t) w
+    weighed-left b u = record { counts = λ d m. u .counts d (eliminates-mem (pure-eliminates (standing mid q)) d (rw (b .stands) at m)); few = u .few }

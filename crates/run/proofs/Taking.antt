@@ -54,6 +54,7 @@ module _ {form : Form} {step : ℕ} {work : List ℤ} {p : Progress} {l : Clause
       good = rw moved-same (good-still (o .good) (m []));
       clause = o .clause;
       takeable = rw (moved-same, m [] .size) (o .takeable);
+      new-few = o .new-few;
     };
     indexed = i;
     roomy = r;
@@ -79,11 +80,11 @@ module _ {form : Form} {work : List ℤ} {newest : List ℕ} {p : Progress} {l :
   abbrev k : Choice
   k = choice-of l below
 
-  t : Takeable form (length work) (o .step) F (o .ready .clause) k
+  t : Takeable (length work) (o .step) F (o .ready .clause) k
   t = o .ready .takeable
 
   small : Small l below
-  small = record { few = t .most; old = t .reach; new = t .new-few }
+  small = record { few = t .most; old = t .reach; new = o .ready .new-few }
 
   pub choice-ready : Choice-ready work newest p l below
   choice-ready = record {

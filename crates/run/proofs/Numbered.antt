@@ -1,10 +1,9 @@
 -- The choices numbered: refused with 16 or 17, or taken.
-use mathlib.Core.Path.{_≡_, refl}
+use mathlib.Core.Path.{refl}
 use mathlib.Core.List.{List}
 use Prim.Native.Nat.{ℕ, _≤_, _<_}
 use native.Mathlib.Omega.{arith}
 use lib.IntN.{ℤ}
-use lib.ListN.{length}
 use Rattle.definition.specs.Literals.{Clause}
 use Rattle.definition.specs.Text.{Bytes}
 use Rattle.definition.specs.Reencoding.{Form}

@@ -314,9 +314,7 @@ fn take_all(
     if room < m.choices {
         return Ran::Refused(17);
     }
-    Ran::Done(take(
-        work, newest, places, log, p, form, g, chosen, highest, step,
-    ))
+    Ran::Done(take(work, newest, places, log, p, form, g, chosen, highest, step))
 }
 
 // Clears an indexed store, then chooses and takes its choices.
@@ -344,15 +342,7 @@ fn run_indexed(
     let step = step_of(newest, end);
     let mut places = [0u32; tables::INPUT_SIZE];
     let mut weights = [0u32; tables::INPUT_SIZE];
-    let p = clear(
-        work,
-        newest,
-        &mut places,
-        &mut weights,
-        log,
-        start,
-        step,
-    );
+    let p = clear(work, newest, &mut places, &mut weights, log, start, step);
     let mut chosen = [0i32; 9600];
     let n = choose(work, newest, p, &mut chosen, arrangement);
     take_all(
@@ -387,14 +377,5 @@ pub fn run(
 {
     let mut newest = [0u32; tables::LOG_SIZE];
     index::enter_all(work, &mut newest, end);
-    run_indexed(
-        work,
-        &mut newest,
-        log,
-        rows,
-        room,
-        end,
-        highest,
-        settings,
-    )
+    run_indexed(work, &mut newest, log, rows, room, end, highest, settings)
 }

@@ -1,10 +1,9 @@
 -- The step: the first new variable, the step 1, and a record for each choice.
-use mathlib.Core.Path.{_≡_, refl, sym, _∙_, ap}
+use mathlib.Core.Path.{_≡_, refl, _∙_, ap}
 use mathlib.Core.List.{List, [], _∷_, _++_}
 use Prim.Native.Nat.{ℕ, zero, suc, _+_, _-_, _*_, _/_, _%_, _≤_, _<_}
 use native.Mathlib.Omega.{arith}
 use native.Mathlib.Nat.{mod-lt, mod-self, mod-one, mod-eq-of-lt, div-add-mod', mul-le-mul-right}
-use lib.ListN.{length}
 use lib.Dec.{leb}
 use borrow.Author.Tests.{leb-true, leb-false}
 use Rattle.theory_base.proofs.Tests.{by-test}
@@ -13,7 +12,7 @@ use Rattle.definition.specs.Standing.{after}
 use Rattle.definition.specs.Events.{Event, choice-of}
 use Rattle.definition.specs.Clearing.{clear-clashes, clear-pure}
 use Rattle.definition.specs.Counter.{below-new, last-new}
-use Rattle.definition.specs.Reencoding.{Form, Settings, lines, choice-events, choices-events, unclashed, cleared, events, chosen}
+use Rattle.definition.specs.Reencoding.{Form, lines, choice-events, choices-events, unclashed, cleared, events, chosen}
 use Rattle.theory_counter.proofs.NewVariables.{below-new-least}
 use Rattle.theory_room.specs.Choices.{order-of}
 use Rattle.theory_run.proofs.Table.{table-length}

@@ -2,16 +2,15 @@
 use mathlib.Core.Path.{_≡_, refl}
 use mathlib.Core.Bool.{Bool, true, false, not}
 use mathlib.Core.List.{List, [], _∷_, _++_, map, List·Memᴰ·head as here}
-use Prim.Native.Nat.{ℕ, suc, _+_, _-_, _*_, _≤_}
+use Prim.Native.Nat.{ℕ, suc, _-_, _*_, _≤_}
 use native.Mathlib.Omega.{arith}
 use lib.IntN.{ℤ, negℤ}
-use Rattle.definition.specs.Lists.{sum-of, only-if, for-from}
+use Rattle.definition.specs.Lists.{sum-of, only-if}
 use Rattle.definition.specs.Literals.{Clause, Formula, with-first, opposed}
 use Rattle.definition.specs.Standing.{addition, deletion, literals}
 use Rattle.definition.specs.Events.{Choice, Event}
 use Rattle.definition.specs.Clearing.{resolvent, clash-lines, pure-lines}
 use Rattle.definition.specs.Counter.{size, counter, take-choice}
-use Rattle.definition.specs.Order.{replacement-lines, replaced, deletions-of, literal-deletions}
 use Rattle.definition.specs.Reencoding.{lines-of}
 use Rattle.definition.specs.Calls.{numbers-of}
 use Rattle.theory_base.specs.Cells.{cells-of}
@@ -20,10 +19,9 @@ use Rattle.theory_base.proofs.Fitting.{Proper-to, proper-length}
 use Rattle.theory_base.proofs.Replay.{All-lines}
 use Rattle.theory_room.proofs.Weights.{weight, added, added-deletions}
 use Rattle.theory_room.proofs.Replaced.{Weighs}
-use Rattle.theory_room.proofs.Lines.{Of-choice, taken, replacing, deleting}
 use Rattle.theory_room.proofs.Cleared.{Clearing, clash, pure-clause}
 use Rattle.theory_room.proofs.Runs.{weight-most, weight-least}
-use Rattle.theory_room.proofs.Rises.{risen, risen-taken, taken-changes, counter-weight}
+use Rattle.theory_room.proofs.Rises.{taken-changes, counter-weight}
 
 -- the cells of a clause
 abbrev pub cells : Clause → ℕ

@@ -9,9 +9,9 @@ use Rattle.definition.specs.Reading.{Input}
 use Rattle.definition.specs.Reencoding.{Settings, log, result, highest-used}
 use Rattle.theory_base.proofs.Members.{proper-literal}
 use Rattle.theory_base.specs.Clauses.{Proper, Proper-all, Fits, Fit-all}
-use Rattle.theory_base.proofs.Fitting.{fit-up, highest-at, highest-le, highest-in-at, highest-in-le}
+use Rattle.theory_base.proofs.Fitting.{fit-up, highest-at, highest-in-at}
 use Rattle.theory_base.proofs.Replay.{all-after}
-use Rattle.theory_room.proofs.Runs.{Run, top, log-to, log-proper, few-new-variables, result-size, top-most}
+use Rattle.theory_room.proofs.Runs.{Run, log-proper, few-new-variables, result-size}
 
 -- ---- what stands at the end
 module _ (s : Settings) (i : Input) (h : Run s i) where

@@ -1,9 +1,8 @@
 -- What stands while the formula is cleared fits into the workspace, and leaves room for a step. Assumes what a run keeps (`Run`).
 use mathlib.Core.Path.{_≡_, refl, _∙_, ap}
-use mathlib.Core.Logic.{_⊎_, inl, inr}
 use mathlib.Core.Bool.{not}
 use mathlib.Core.List.{List, [], _∷_, _++_, append-assoc, List·Memᴰ, List·Memᴰ·head as here, Memᴰ·append-right}
-use Prim.Native.Nat.{ℕ, suc, _+_, _*_, _≤_}
+use Prim.Native.Nat.{ℕ, _+_, _≤_}
 use native.Mathlib.Omega.{arith}
 use lib.IntN.{ℤ, negℤ}
 use lib.ListN.{length, take, length-append}
@@ -13,22 +12,16 @@ use Rattle.definition.specs.Standing.{after}
 use Rattle.definition.specs.Reading.{Input}
 use Rattle.definition.specs.Events.{Clash, Event, clash-cleared}
 use Rattle.definition.specs.Clearing.{resolvent, clear-clashes, clear-pure}
-use Rattle.definition.specs.Reencoding.{lines-of, lines, Settings, unclashed, chosen, events, log}
+use Rattle.definition.specs.Reencoding.{lines-of, lines, Settings, unclashed}
 use Rattle.definition.specs.Calls.{workspace-need, numbers-of}
-use Rattle.theory_base.specs.Clauses.{Parted}
 use Rattle.theory_base.specs.Cells.{cells-of}
 use Rattle.theory_base.proofs.Loops.{mem-for-each}
-use Rattle.theory_base.proofs.Sums.{sum-++, sum-≤, sum-at, sum-those, count-length}
-use Rattle.theory_base.proofs.Fitting.{Proper-to}
-use Rattle.theory_base.proofs.Replay.{All-lines}
-use Rattle.theory_room.proofs.Weights.{weight, added, at-each-event}
-use Rattle.theory_room.proofs.Lines.{ordered-size, From-choices, from-choice}
-use Rattle.theory_room.specs.Choices.{as-choice, clearing, order-of}
+use Rattle.theory_base.proofs.Sums.{sum-at, sum-those, count-length}
+use Rattle.theory_room.proofs.Weights.{at-each-event}
+use Rattle.theory_room.specs.Choices.{clearing}
 use Rattle.theory_room.specs.Step.{step-of}
 use Rattle.theory_room.proofs.Cleared.{clash-stands, clearing-event, clearing-lines-to}
-use Rattle.theory_room.proofs.Rises.{risen}
 use Rattle.theory_room.proofs.Additions.{cells, cells-sum, clearing-adds}
-use Rattle.theory_room.proofs.Chosen.{chosen-few}
 use Rattle.theory_room.proofs.Runs.{Run, clearing-weight, weight-most, weight-least}
 
 shorter : (x : ℤ) (c : Clause) → length (without x c) ≤ length c

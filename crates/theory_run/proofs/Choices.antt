@@ -2,7 +2,7 @@
 use mathlib.Core.Path.{_≡_, refl, sym, _∙_, ap}
 use mathlib.Core.Bool.{Bool, true, false, not}
 use mathlib.Core.List.{List, [], _∷_, _++_, append-assoc, append-nil, List·Memᴰ, List·Memᴰ·head as here, Memᴰ·append-left, Memᴰ·append-right}
-use Prim.Native.Nat.{ℕ, _+_, _-_, _≤_}
+use Prim.Native.Nat.{ℕ, _+_, _≤_}
 use native.Mathlib.Omega.{arith}
 use lib.ListN.{length}
 use Rattle.definition.specs.Lists.{sum-of, only-if, for-each}
@@ -29,12 +29,11 @@ use Rattle.theory_order.proofs.Order.{order-events-are}
 use Rattle.theory_order.specs.Pass.{results, added as results-of}
 use Rattle.theory_text.specs.Accepted.{Accepted}
 use Rattle.theory_room.proofs.Weights.{gained, added}
-use Rattle.theory_room.proofs.Lines.{Arranges, ordered-length, ordered-proper, used-most, used-++}
-use Rattle.theory_room.specs.Choices.{new-variables, clearing, order-of, events-of-first, standing-after-first, next-choice, used-after}
+use Rattle.theory_room.proofs.Lines.{Arranges, ordered-length, ordered-proper, used-++}
+use Rattle.theory_room.specs.Choices.{clearing, order-of, events-of-first, standing-after-first, next-choice, used-after}
 use Rattle.theory_room.proofs.Cleared.{cleared-after}
 use Rattle.theory_room.proofs.Rises.{taken-changes}
 use Rattle.theory_room.proofs.Additions.{cells, cells-sum}
-use Rattle.theory_room.proofs.Chosen.{chosen-few}
 use Rattle.theory_room.specs.Step.{step-of}
 use Rattle.theory_room.proofs.Runs.{Run, choosing, events-are, chosen-mem, arranges}
 use Rattle.theory_room.proofs.Compaction.{choices-split, first-to, choice-room, choice-step, choice-touched}

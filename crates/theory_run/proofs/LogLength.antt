@@ -14,9 +14,8 @@ use Rattle.definition.specs.Standing.{Line, addition, deletion, literals, after
 use Rattle.definition.specs.Reading.{Input, input-limits}
 use Rattle.definition.specs.Events.{Clash, Event}
 use Rattle.definition.specs.Clearing.{clash-lines, lowest-clash, pure-literal, clear-next, clear-up-to, clear-clashes, pure-next, clear-pure-from, clear-pure}
-use Rattle.definition.specs.Counter.{last-new}
 use Rattle.definition.specs.Log.{clause-text, log-line-text, log-text}
-use Rattle.definition.specs.Reencoding.{lines-of, lines, Settings, choice-events, choices-events, unclashed, cleared, chosen, events, log}
+use Rattle.definition.specs.Reencoding.{lines-of, lines, Settings, choice-events, unclashed, chosen, events, log}
 use Rattle.theory_base.specs.Clauses.{Parted}
 use Rattle.theory_base.proofs.Digits.{digits-within}
 use Rattle.theory_base.proofs.Loops.{for-each-++, mem-for-each}
@@ -24,7 +23,7 @@ use Rattle.theory_base.proofs.Sums.{sum-++, sum-≤, sum-most, sum-least, sum-f
 use Rattle.theory_base.proofs.Fitting.{Up-to}
 use Rattle.theory_base.proofs.Replay.{All-lines, lines-++}
 use Rattle.theory_room.proofs.Weights.{weight, weight-of-set, gained, added, deleted, balance}
-use Rattle.theory_room.specs.Choices.{clearing, order-of, events-of-first, standing-after-first, next-choice, used-after}
+use Rattle.theory_room.specs.Choices.{clearing, standing-after-first, next-choice}
 use Rattle.theory_room.proofs.Cleared.{clearing-event, clearing-lines-to}
 use Rattle.theory_room.proofs.Additions.{cells, clearing-adds}
 use Rattle.theory_room.proofs.Chosen.{chosen-few}

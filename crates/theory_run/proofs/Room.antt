@@ -9,7 +9,6 @@ use Rattle.definition.specs.Lists.{sum-of, for-each}
 use Rattle.definition.specs.Literals.{Clause, Formula}
 use Rattle.definition.specs.Standing.{Line, after}
 use Rattle.definition.specs.Reading.{Input, input-limits}
-use Rattle.definition.specs.Events.{Event}
 use Rattle.definition.specs.Reencoding.{lines, Settings, choice-events, cleared, chosen, log}
 use Rattle.definition.specs.Calls.{workspace-need}
 use Rattle.theory_base.specs.Cells.{cells-of}

@@ -18,7 +18,7 @@ use Rattle.theory_base.proofs.Fitting.{Up-to, proper-fit}
 use Rattle.theory_text.specs.Accepted.{Accepted}
 use Rattle.theory_room.proofs.Room.{clearing-room, resolvent-step}
 use Rattle.theory_room.proofs.Chosen.{chosen-proper, chosen-few}
-use Rattle.theory_room.proofs.Runs.{choosing, top-most}
+use Rattle.theory_room.proofs.Runs.{choosing}
 use Rattle.theory_room.proofs.Limits.{result-fits, clauses-limit, literals-limit}
 use Rattle.theory_run.proofs.LogSound.{chosen-parted, accepted-run}
 use Rattle.theory_room.specs.Choices.{clearing, standing-after-first, next-choice}

@@ -1,7 +1,7 @@
 -- The table of a run is the records of its choices. Only taking a choice gives a record.
-use mathlib.Core.Path.{_≡_, refl, sym, _∙_, ap}
+use mathlib.Core.Path.{_≡_, refl, _∙_, ap}
 use mathlib.Core.Bool.{Bool, true, false}
-use mathlib.Core.List.{List, [], _∷_, _++_, map, List·Memᴰ, List·Memᴰ·head as here, List·Memᴰ·tail as there}
+use mathlib.Core.List.{List, [], _∷_, map, List·Memᴰ, List·Memᴰ·head as here, List·Memᴰ·tail as there}
 use Prim.Native.Nat.{ℕ, _-_}
 use native.Mathlib.Omega.{arith}
 use lib.ListN.{length, take}
@@ -13,7 +13,7 @@ use Rattle.definition.specs.Events.{Choice, Choice-record, Event, clause-replac
 use Rattle.definition.specs.Clearing.{clear-clashes}
 use Rattle.definition.specs.Counter.{last-new, counter, take-choice}
 use Rattle.definition.specs.Order.{replaced, replace, order-events}
-use Rattle.definition.specs.Reencoding.{lines-of, lines, Form, counter-form, order-form, Settings, choice-events, choices-events, resolved-into, record-of, cleared, chosen, events, table}
+use Rattle.definition.specs.Reencoding.{lines-of, lines, Form, counter-form, order-form, Settings, choice-events, choices-events, resolved-into, record-of, cleared, chosen, table}
 use Rattle.theory_base.proofs.Loops.{for-each-++}
 use Rattle.theory_room.specs.Choices.{as-choice, clearing, order-of}
 use Rattle.theory_room.proofs.Cleared.{Clearing, clash, pure-clause, clearing-event}

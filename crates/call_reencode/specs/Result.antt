@@ -51,11 +51,16 @@ pub record Finishes (work : List ℤ) (log-room : ℕ) (formula : Bytes) (r : Re
 abbrev pub Stepped : ℕ → Type 0
 Stepped g = step-allowed g ≡ true
 
--- the answer is that of an outcome, and where it is a result, both texts and the rows of the table are written
+-- both texts and the rows of the table are written; there is a record for each choice, and the table has room for them
+pub record Written (r : Reencoded) (room : ℕ) (log formula : Bytes) (rows : List ℕ) (new-log new-formula : Bytes) (new-rows : List ℕ) : Type 0 where
+  pub log-written : new-log ≡ r .log ++ drop (length (r .log)) log
+  pub formula-written : new-formula ≡ r .formula ++ drop (length (r .formula)) formula
+  pub rows-written : new-rows ≡ sets rows 0 (rows-of (r .table))
+  pub records-counted : length (r .table) ≡ r .tally .choices
+  pub rows-fit : 3 * length (r .table) ≤ length rows
+  pub records-fit : r .tally .choices ≤ room
+
+-- the answer is that of an outcome, and where it is a result, all is written
 pub record Answers (o : Checked Reencoded) (room : ℕ) (log formula : Bytes) (rows : List ℕ) (a : Code.Reencoding) (new-log new-formula : Bytes) (new-rows : List ℕ) : Type 0 where
   pub answer : a ≡ outcome-of o
-  pub log-written : (r : Reencoded) → o ≡ value r → new-log ≡ r .log ++ drop (length (r .log)) log
-  pub formula-written : (r : Reencoded) → o ≡ value r → new-formula ≡ r .formula ++ drop (length (r .formula)) formula
-  pub rows-written : (r : Reencoded) → o ≡ value r → new-rows ≡ sets rows 0 (rows-of (r .table))
-  -- there is a record for each choice, and the table has so many
-  pub records-few : (r : Reencoded) → o ≡ value r → (length (r .table) ≡ r .tally .choices) × (3 * length (r .table) ≤ length rows) × (r .tally .choices ≤ room)
+  pub written : (r : Reencoded) → o ≡ value r → Written r room log formula rows new-log new-formula new-rows

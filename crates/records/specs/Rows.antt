@@ -1,6 +1,6 @@
 -- Records of choices, and the rows of three numbers that hold them.
 use mathlib.Core.List.{List, [], _∷_}
-use Prim.Native.Nat.{ℕ, zero, suc, _+_, _*_, _<_}
+use Prim.Native.Nat.{ℕ, zero, suc, _+_, _*_}
 use lib.Dec.{ltb}
 use mathlib.Core.Bool.{Bool, true, false}
 use lib.ListN.{length, getD}

@@ -1,114 +1,55 @@
-use mathlib.Core.Path.{sym}
-use native.Mathlib.Omega.{arith}
-use lib.Seq.{length-take-le}
+use mathlib.Core.Path.{sym, _∙_}
 use denote.Ref.{now}
-use Rattle.call_reencode.proofs.Call.{call-fault, call-short, lent-ready, call-run}
+use Rattle.call_reencode.proofs.Call.{call-step}
 use borrow.Author.Needs.{needs}
 use Rattle.call_reencode.proofs.reencode_into.Statement.{statement}
 use Rattle.call_reencode.proofs.reencode_into.Tie as tie
+use Rattle.call_reencode.proofs.reencode_into.Reads as reads
+use Rattle.call_reencode.proofs.reencode_into.Lts as lts
+use Rattle.call_reencode.proofs.is_step.Reads as is-step-reads
+use Rattle.call_reencode.proofs.read_and_run.Reads as read-and-run-reads
 
-input-limits-requires : tie.Need-input-limits-requires
-input-limits-requires c κs = search needs
+-- src/lib.rt:160:8
+is-step-requires : tie.Need-is-step-requires
+is-step-requires c κs = search needs
 
-read-requires : tie.Need-read-requires
-read-requires c κs = search needs
+-- src/lib.rt:161:9
+read-and-run-requires : tie.Need-read-and-run-requires
+read-and-run-requires c κs = (sym (c .before .before .before .before .before .is-step .ensures) ∙ c .before .before .before .before .if1 .taken, c .before .before .before .before .before .before .before .before .before .before .pre)
 
-enum-known-n : tie.Need-enum-known-n
-enum-known-n c = search needs
-
-enum-known-v : tie.Need-enum-known-v
-enum-known-v c = search needs
-
-workspace-need-requires : tie.Need-workspace-need-requires
-workspace-need-requires c κs = search needs
-
+-- src/lib.rt:147:1
 same-length : tie.Need-same-length
 same-length c = search needs
 
-returns : tie.Need-returns
-returns c =
-    let back = c .before .before .before in let v = back .v in
-    let back = back .before .before .before in let read = back .read in
-    let back = back .before .before in let input-limits = back .input-limits in
-    let start = back .before .before .before .before in
-    call-short (now (start .args .text)) (start .args .settings) (now (start .args .work)) (now (start .args .log))
-    (now (start .args .formula)) (input-limits .result) (input-limits .ensures .0) _ (read .ensures .0) _ _ _ _ _
-    (v .given .1) (c .before .workspace-need .ensures) (omega (arith, c .if1 .taken, read .kept .1 .1 .0))
-
-slice-relend-prefix-run-all : tie.Need-slice-relend-prefix-run-all
-slice-relend-prefix-run-all c = search needs
-
-slice-aggregate-run-all : tie.Need-slice-aggregate-run-all
-slice-aggregate-run-all c =
-    let read = c .before .before .before .before .before .before .before .read in
-    sym
-    (length-take-le (c .before .before .workspace-need .result) (read .last .1 .1 .0)
-    (omega (arith, c .before .if1 .left)))
-
-run-all-requires : tie.Need-run-all-requires
-run-all-requires c κs =
-    let back = c .before .before .before in let if1 = back .if1 in
-    let back = back .before in let workspace-need = back .workspace-need in
-    let back = back .before .before in let v = back .v in
-    let back = back .before .before .before in let read = back .read in
-    let back = back .before .before in let input-limits = back .input-limits in
-    let start = back .before .before .before .before in
-    lent-ready (now (start .args .text)) (start .args .settings) (now (start .args .work)) (now (start .args .log))
-    (now (start .args .formula)) (input-limits .result) (input-limits .ensures .0) _ (read .ensures .0) _ _ _ _ _
-    (v .given .1) (workspace-need .ensures) (omega (arith, if1 .left, read .kept .1 .1 .0)) (read .ensures .1)
-
+-- src/lib.rt:147:1
 same-length-2 : tie.Need-same-length-2
 same-length-2 c = search needs
 
-returns-2 : tie.Need-returns-2
-returns-2 c =
-    let back = c .before .before .before .before in let read = back .read in
-    let back = back .before .before in let input-limits = back .input-limits in
-    let start = back .before .before .before .before in
-    call-fault (now (start .args .text)) (start .args .settings) (now (start .args .work)) (now (start .args .log))
-    (now (start .args .formula)) (input-limits .result) (input-limits .ensures .0) _ (read .ensures .0) _
-    (c .before .n .given .1)
-
+-- src/lib.rt:147:1
 same-length-3 : tie.Need-same-length-3
 same-length-3 c = search needs
 
+-- src/lib.rt:147:1
 same-length-4 : tie.Need-same-length-4
 same-length-4 c = search needs
 
-same-length-5 : tie.Need-same-length-5
-same-length-5 c = search needs
+-- src/lib.rt:147:1
+returns : tie.Need-returns
+returns c = search needs
 
-returns-3 : tie.Need-returns-3
-returns-3 c =
-    let back = c .before .before .before .before .before in let run-all = back .run-all in
-    let back = back .before .before .before .before in let if1 = back .if1 in
-    let back = back .before in let workspace-need = back .workspace-need in
-    let back = back .before .before in let v = back .v in
-    let back = back .before .before .before in let read = back .read in
-    let back = back .before .before in let input-limits = back .input-limits in
-    let start = back .before .before .before .before in
-    call-run (now (start .args .text)) (start .args .settings) (now (start .args .work)) (now (start .args .log))
-    (now (start .args .formula)) (input-limits .result) (input-limits .ensures .0) _ (read .ensures .0) _ _ _ _ _
-    (v .given .1) (workspace-need .ensures) (omega (arith, if1 .left, read .kept .1 .1 .0)) (read .ensures .1)
-    (run-all .ensures)
+-- src/lib.rt:147:1
+returns-2 : tie.Need-returns-2
+returns-2 c = call-step (now (c .before .before .before .before .before .before .args .text)) (c .before .before .before .before .before .before .args .settings) (now (c .before .before .before .before .before .before .args .work)) (now (c .before .before .before .before .before .before .args .log)) (now (c .before .before .before .before .before .before .args .formula)) (now (c .before .before .before .before .before .before .args .rows)) (c .before .before .before .before .before .before .args .room) (sym (c .before .is-step .ensures) ∙ c .if1 .left)
 
 pub reencode-into-spec : {M : Type 1} → statement M
 reencode-into-spec =
     tie.close
     (tie.spec
-    input-limits-requires
-    read-requires
-    enum-known-n
-    enum-known-v
-    workspace-need-requires
+    is-step-requires
+    read-and-run-requires
     same-length
-    returns
-    slice-relend-prefix-run-all
-    slice-aggregate-run-all
-    run-all-requires
     same-length-2
-    returns-2
     same-length-3
     same-length-4
-    same-length-5
-    returns-3)
+    returns
+    returns-2)

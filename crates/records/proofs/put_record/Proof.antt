@@ -1,5 +1,5 @@
 -- `put_record` meets its contract: a walk of its MIR, by hand. The table's borrow is opened, the element is taken out of the row and stored to, and the borrow is closed at the list with the record in it.
-use mathlib.Core.Path.{_≡_, refl, sym, ap, subst}
+use mathlib.Core.Path.{refl, sym, ap, subst}
 use Prim.Native.Nat.{ℕ, _*_, _<_, _^_}
 use mathlib.Core.List.{[], _∷_, List}
 use lib.ListN.{length, set, length-set}

@@ -1,10 +1,12 @@
--- The step: the first new variable, the step 1, and a record for each choice.
+-- The step: the first new variable, the step 1, a record for each choice, and no skipped number in a clause.
 use mathlib.Core.Path.{_≡_, refl, _∙_, ap}
-use mathlib.Core.List.{List, [], _∷_, _++_}
+use mathlib.Core.Logic.{inl, inr}
+use mathlib.Core.List.{List, [], _∷_, _++_, Memᴰ·append-left}
 use Prim.Native.Nat.{ℕ, zero, suc, _+_, _-_, _*_, _/_, _%_, _≤_, _<_}
 use native.Mathlib.Omega.{arith}
 use native.Mathlib.Nat.{mod-lt, mod-self, mod-one, mod-eq-of-lt, div-add-mod', mul-le-mul-right}
 use lib.Dec.{leb}
+use lib.ListN.{take, drop, take-append-drop}
 use borrow.Author.Tests.{leb-true, leb-false}
 use Rattle.theory_base.proofs.Tests.{by-test}
 use Rattle.definition.specs.Literals.{Clause, Formula}
@@ -12,11 +14,19 @@ use Rattle.definition.specs.Standing.{after}
 use Rattle.definition.specs.Events.{Event, choice-of}
 use Rattle.definition.specs.Clearing.{clear-clashes, clear-pure}
 use Rattle.definition.specs.Counter.{below-new, last-new}
-use Rattle.definition.specs.Reencoding.{Form, lines, choice-events, choices-events, unclashed, cleared, events, chosen}
+use Rattle.definition.specs.Reencoding.{Form, Settings, lines, choice-events, choices-events, unclashed, cleared, events, chosen, log}
+use Rattle.definition.specs.Reading.{Input}
 use Rattle.theory_counter.proofs.NewVariables.{below-new-least}
 use Rattle.theory_room.specs.Choices.{order-of}
+use Rattle.theory_base.proofs.Replay.{All-lines, all-after}
+use Rattle.theory_text.proofs.Accepted.{input-accepted}
+use Rattle.theory_room.proofs.Runs.{Run}
+use Rattle.theory_room.proofs.Used.{Used}
+use Rattle.theory_run.proofs.LogSound.{accepted-run}
 use Rattle.theory_run.proofs.Table.{table-length}
-use Rattle.theorems.specs.Step.{First-new, unstepped, Stepping-holds}
+use Rattle.theory_run.proofs.Used.{log-used}
+use Rattle.theorems.specs.Demand3.{standing}
+use Rattle.theorems.specs.Step.{First-new, unstepped, Stepping-holds, Not-skipped, None-skipped, None-skipped-holds}
 
 -- ---- the first new variable: a multiple of g is n itself, where the remainder is 0, or the next
 
@@ -69,3 +79,21 @@ stepping s i =
           ∙ ap (λ (xs : List Event). clear-clashes f ++ clear-pure (unclashed f) ++ xs) (unstepped-is (s .form) (order-of s i) (i .highest) (cleared f) (chosen s i));
       one-each = table-length s i;
     }
+
+-- ---- no skipped number in a clause
+run-none-skipped : (s : Settings) (i : Input) → Run s i → None-skipped s i
+unfolding standing
+run-none-skipped s i h = record {
+  in-lines = in-log;
+  in-clauses = λ j. all-after Unskipped (i .formula) (take j (log s i)) (λ d m l k. inl (h .fits d m l k .1)) (λ x m. in-log x (rw (take-append-drop j (log s i)) at (Memᴰ·append-left (drop j (log s i)) m)));
+}
+  where
+    Unskipped : Clause → Type 0
+    Unskipped = Used (Not-skipped s i)
+
+    in-log : All-lines Unskipped (log s i)
+    in-log = log-used (Not-skipped s i) s i h (λ v b. inl b) (λ r m v lo hi. inr (r, m, (lo, hi)))
+
+pub none-skipped : None-skipped-holds
+unfolding None-skipped-holds
+none-skipped t i e s = run-none-skipped s i (accepted-run s i (input-accepted t i e))

@@ -147,7 +147,7 @@ module _ (b : Clause) (c : Choice) (u : Well-formed c) (f : Formula) (a : All-cl
         balance g i t (λ d m. a d m .0) (λ x m. taken-lines b c u f a x m .0),
         taken-changes g b c f .0,
         taken-changes g b c f .1,
-        ap (sum-of g) (after-taken b c u f a),
+        ap (sum-of g) (after-taken b c u f),
         sum-++ g (before-counter c f) (counter c),
       )
 
@@ -159,7 +159,7 @@ module _ (b : Clause) (c : Choice) (u : Well-formed c) (f : Formula) (a : All-cl
       omega (
         arith,
         sum-for-each (gained v) (order-events c (after f (lines-of (take-choice f b c)))) lines-of,
-        ap (sum-of n) (order-gone-through b c u f a),
+        ap (sum-of n) (order-gone-through b c u f),
         sum-++ n (for-each G (replace c)) (literals-deleted c ∷ []),
         sum-for-each n G (replace c),
         sum-≤ (λ d. sum-of n (replace c d)) (touched (c .literals) g) G (λ d _. replacement-adds v g c h d),
@@ -276,7 +276,7 @@ module _ (s : Settings) (i : Input) (h : Run s i) (disjoint : Parted (chosen s i
   -- and that of the clauses with a negated literal of the choice not at all
   first-foreign : (u a : ℕ) → Raises (touched (order-of s i c) (heavier u a)) (risen 0) (events-of-first s i cs)
   unfolding events-of-first heavier
-  first-foreign u a d m = by-choice (events-of-choices (s .form) (s .step) (order-of s i) (i .highest) (cleared (i .formula)) cs (standing-to s i h) arranges-first d m)
+  first-foreign u a d m = by-choice (events-of-choices (s .form) (s .step) (order-of s i) (i .highest) (cleared (i .formula)) cs arranges-first d m)
     where
       w : ℤ → ℕ
       w = literal-weight a (chosen s i)

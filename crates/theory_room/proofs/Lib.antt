@@ -2,6 +2,7 @@ pub mod Weights
 pub mod Choice
 pub mod Replaced
 pub mod Lines
+pub mod Used
 pub mod Cleared
 pub mod Rises
 pub mod Runs

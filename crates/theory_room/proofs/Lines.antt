@@ -1,18 +1,18 @@
--- Every line of the choices' part of a log is a proper clause, and its variables go no higher than the new ones.
+-- Every line of the choices' part of a log is a proper clause, and its variables go no higher than the new ones. What holds of each line of a choice is proved for any property that is `Carried`.
 -- Assumes that what stands before the first choice is proper, and that each choice is arranged in a proper order.
 use mathlib.Core.Path.{_≡_, refl, sym, _∙_, ap, subst}
 use mathlib.Core.Logic.{⊎-elim}
-use mathlib.Core.Bool.{not}
+use mathlib.Core.Bool.{false, not}
 use mathlib.Core.List.{List, [], _∷_, _++_, map, List·Memᴰ, List·Memᴰ·head as here, List·Memᴰ·tail as there, List·Memᴰ·append-cases, List·Memᴰ·not-nil, List·Memᴰ·eq-of-singleton}
 use Prim.Native.Nat.{ℕ, _+_, _-_, _*_, _≤_}
 use native.Mathlib.Omega.{arith}
 use lib.ListN.{length}
-use Rattle.definition.specs.Lists.{sum-of, only-if, for-each, for-from}
+use Rattle.definition.specs.Lists.{sum-of, only-if, for-each}
 use Rattle.definition.specs.Literals.{Clause, Formula, opposes, opposed}
 use Rattle.definition.specs.Standing.{addition, deletion, literals, after}
 use Rattle.definition.specs.Events.{Choice, Event, clause-replaced, literals-deleted}
-use Rattle.definition.specs.Counter.{below-new, last-new, size, counter, copies, take-choice}
-use Rattle.definition.specs.Order.{replacement-lines, replaced, replace, order-events, deletions-of, literal-deletions}
+use Rattle.definition.specs.Counter.{below-new, last-new, size, pairs, counter, copies, take-choice}
+use Rattle.definition.specs.Order.{replacement-lines, replaced, replace, order-events, literal-deletions}
 use Rattle.definition.specs.Reencoding.{lines-of, lines, Form, counter-form, order-form, choice-events, choices-events}
 use Rattle.theory_base.proofs.Tests.{not-true, to-false}
 use Rattle.theory_base.proofs.Members.{same-set-same}
@@ -25,6 +25,7 @@ use Rattle.theory_counter.specs.Ready.{Well-formed}
 use Rattle.theory_counter.proofs.CounterLiterals.{counter-new}
 use Rattle.theory_counter.proofs.Front.{taken-lines-are, copies-mem}
 use Rattle.theory_order.proofs.Order.{order-events-are}
+use Rattle.theory_order.proofs.Recursive.{deletions}
 use Rattle.theory_room.proofs.Choice.{pairs-to, counter-clause, deletions-clause}
 use Rattle.theory_room.proofs.Replaced.{replaced-to}
 use Rattle.theory_room.specs.Choices.{new-variables, as-choice, used-after}
@@ -40,50 +41,42 @@ pub data Of-choice (b : Clause) (c : Choice) (f : Formula) : Event → Type 0 wh
   replacing : (d : Clause) → List·Memᴰ d (before-counter c f) → Of-choice b c f (clause-replaced d (replaced c d))
   deleting : Of-choice b c f (literals-deleted c)
 
-module _ (b : Clause) (c : Choice) (u : Well-formed c) (f : Formula) (a : All-clauses (Proper-to (c .below)) f) where
-  own-to : Proper-to (c .below) (c .literals)
-  own-to = (u .proper, λ x i. u .fit x i .1)
+-- what makes P of all that stands before a choice into Q of all its lines, and of what stands after it
+pub record Carried (c : Choice) (P Q : Clause → Type 0) : Type 0 where
+  pub more : (d : Clause) → P d → Q d
+  pub own : P (c .literals)
+  pub of-pairs : All-clauses P (pairs (c .literals))
+  pub of-counter : All-clauses Q (counter c)
+  pub of-deletions : All-clauses Q (deletions c)
+  pub of-replaced : (d : Clause) → P d → opposed (replaced c d) ≡ false → Q (replaced c d)
 
-  low : (d : Clause) → Proper-to (c .below) d → Proper-to (last-new c) d
-  unfolding last-new
-  low d q = proper-to-more (c .below) (last-new c) (omega arith) d q
+carried-to : (c : Choice) → Well-formed c → Carried c (Proper-to (c .below)) (Proper-to (last-new c))
+unfolding last-new
+carried-to c u =
+    let own-to : Proper-to (c .below) (c .literals) = (u .proper, λ x i. u .fit x i .1) in
+    record {
+      more = λ d q. proper-to-more (c .below) (last-new c) (omega arith) d q;
+      own = own-to;
+      of-pairs = pairs-to (c .below) (c .literals) own-to;
+      of-counter = counter-clause c u;
+      of-deletions = deletions-clause c u;
+      of-replaced = replaced-to c u;
+    }
 
-  deleted-to : All-clauses (Proper-to (c .below)) (c .literals ∷ copies f (c .literals))
-  deleted-to d (here e) = rw e own-to
-  deleted-to d (there m) = pairs-to (c .below) (c .literals) own-to d (copies-mem f c d m)
+deleted-carried : (c : Choice) (f : Formula) (P Q : Clause → Type 0) → Carried c P Q → All-clauses P (c .literals ∷ copies f (c .literals))
+deleted-carried c f P Q h d (here e) = rw e (h .own)
+deleted-carried c f P Q h d (there m) = h .of-pairs d (copies-mem f c d m)
 
-  before-counter-to : All-clauses (Proper-to (c .below)) (before-counter c f)
-  unfolding before-counter
-  before-counter-to =
-      let ds = c .literals ∷ copies f (c .literals) in
-      all-after (Proper-to (c .below)) f (map deletion ds) a (all-deletions (Proper-to (c .below)) ds deleted-to)
-
+module _ (b : Clause) (c : Choice) (u : Well-formed c) (f : Formula) where
   pub after-taken : after f (lines-of (take-choice f b c)) ≡ before-counter c f ++ counter c
   unfolding before-counter
   after-taken =
       let ds = c .literals ∷ copies f (c .literals) in
+      let deleted-to = deleted-carried c f (Proper-to (c .below)) (Proper-to (last-new c)) (carried-to c u) in
       ap (after f) (taken-lines-are f b c)
       ∙ after-++ f (map addition (counter c)) (map deletion ds)
       ∙ ap (λ (Y : Formula). after Y (map deletion ds)) (after-additions f (counter c))
       ∙ after-deletions f (counter c) ds (λ d m x k. to-false (λ t. counter-new c (u .long) d (proper-fit (deleted-to d m)) x k (same-set-same d x t)))
-
-  pub taken-lines : All-lines (Proper-to (last-new c)) (lines-of (take-choice f b c))
-  taken-lines =
-      let P = Proper-to (last-new c) in
-      let ds = c .literals ∷ copies f (c .literals) in
-      rw (taken-lines-are f b c)
-      (all-lines-++ P (map addition (counter c)) (map deletion ds) (all-additions P (counter c) (counter-clause c u)) (all-deletions P ds (λ d m. low d (deleted-to d m))))
-
-  replacement-lines-to : (d : Clause) → Proper-to (c .below) d → All-lines (Proper-to (last-new c)) (replacement-lines d (replaced c d))
-  unfolding replacement-lines literals
-  replacement-lines-to d q =
-      let P = Proper-to (last-new c) in
-      let r = replaced c d in
-      let xs = only-if (not (opposed r)) (addition r ∷ []) in
-      all-lines-++ P xs (deletion d ∷ [])
-      (λ x m. let t = only-if-mem (not (opposed r)) (addition r ∷ []) x m in
-      rw (List·Memᴰ·eq-of-singleton (t .1)) (replaced-to c u d q (not-true (t .0))))
-      (λ x m. rw (List·Memᴰ·eq-of-singleton m) (low d q))
 
   -- the clauses gone through are those before the counter clauses
   pub order-gone-through : order-events c (after f (lines-of (take-choice f b c))) ≡ for-each (before-counter c f) (replace c) ++ (literals-deleted c ∷ [])
@@ -100,17 +93,50 @@ module _ (b : Clause) (c : Choice) (u : Well-formed c) (f : Formula) (a : All-cl
       each : (d : Clause) → List·Memᴰ d (before-counter c f) → List·Memᴰ e (replace c d) → Of-choice b c f e
       each d i k = rw (List·Memᴰ·eq-of-singleton (only-if-mem (opposes (c .literals) d) (clause-replaced d (replaced c d) ∷ []) e k .1)) (replacing d i)
 
-  choice-lines-to : (form : Form) → All-lines (Proper-to (last-new c)) (lines (choice-events form f b c))
-  unfolding lines-of literal-deletions
-  choice-lines-to form = all-events (Proper-to (last-new c)) (choice-events form f b c) (λ e m. by-event e (events-of-choice form e m))
-    where
-      by-event : (e : Event) → Of-choice b c f e → All-lines (Proper-to (last-new c)) (lines-of e)
-      by-event e taken = taken-lines
-      by-event e (replacing d m) = replacement-lines-to d (before-counter-to d m)
-      by-event e deleting = all-deletions (Proper-to (last-new c)) (for-from 1 (size c) (deletions-of c)) (deletions-clause c u)
+  module _ (P Q : Clause → Type 0) (h : Carried c P Q) (a : All-clauses P f) where
+    before-counter-carried : All-clauses P (before-counter c f)
+    unfolding before-counter
+    before-counter-carried =
+        let ds = c .literals ∷ copies f (c .literals) in
+        all-after P f (map deletion ds) a (all-deletions P ds (deleted-carried c f P Q h))
 
-  pub after-choice-to : (form : Form) → All-clauses (Proper-to (last-new c)) (after f (lines (choice-events form f b c)))
-  after-choice-to form = all-after (Proper-to (last-new c)) f (lines (choice-events form f b c)) (λ d m. low d (a d m)) (choice-lines-to form)
+    taken-carried : All-lines Q (lines-of (take-choice f b c))
+    taken-carried =
+        let ds = c .literals ∷ copies f (c .literals) in
+        rw (taken-lines-are f b c)
+        (all-lines-++ Q (map addition (counter c)) (map deletion ds) (all-additions Q (counter c) (h .of-counter)) (all-deletions Q ds (λ d m. h .more d (deleted-carried c f P Q h d m))))
+
+    replacement-carried : (d : Clause) → P d → All-lines Q (replacement-lines d (replaced c d))
+    unfolding replacement-lines literals
+    replacement-carried d q =
+        let r = replaced c d in
+        let xs = only-if (not (opposed r)) (addition r ∷ []) in
+        all-lines-++ Q xs (deletion d ∷ [])
+        (λ x m. let t = only-if-mem (not (opposed r)) (addition r ∷ []) x m in
+        rw (List·Memᴰ·eq-of-singleton (t .1)) (h .of-replaced d q (not-true (t .0))))
+        (λ x m. rw (List·Memᴰ·eq-of-singleton m) (h .more d q))
+
+    pub choice-lines-carried : (form : Form) → All-lines Q (lines (choice-events form f b c))
+    unfolding lines-of literal-deletions
+    choice-lines-carried form = all-events Q (choice-events form f b c) (λ e m. by-event e (events-of-choice form e m))
+      where
+        by-event : (e : Event) → Of-choice b c f e → All-lines Q (lines-of e)
+        by-event e taken = taken-carried
+        by-event e (replacing d m) = replacement-carried d (before-counter-carried d m)
+        by-event e deleting = all-deletions Q (deletions c) (h .of-deletions)
+
+    pub after-choice-carried : (form : Form) → All-clauses Q (after f (lines (choice-events form f b c)))
+    after-choice-carried form = all-after Q f (lines (choice-events form f b c)) (λ d m. h .more d (a d m)) (choice-lines-carried form)
+
+  module _ (a : All-clauses (Proper-to (c .below)) f) where
+    pub taken-lines : All-lines (Proper-to (last-new c)) (lines-of (take-choice f b c))
+    taken-lines = taken-carried (Proper-to (c .below)) (Proper-to (last-new c)) (carried-to c u) a
+
+    choice-lines-to : (form : Form) → All-lines (Proper-to (last-new c)) (lines (choice-events form f b c))
+    choice-lines-to = choice-lines-carried (Proper-to (c .below)) (Proper-to (last-new c)) (carried-to c u) a
+
+    pub after-choice-to : (form : Form) → All-clauses (Proper-to (last-new c)) (after f (lines (choice-events form f b c)))
+    after-choice-to = after-choice-carried (Proper-to (c .below)) (Proper-to (last-new c)) (carried-to c u) a
 
 -- ---- all choices, where f stands and n is the highest variable used
 -- each choice is a proper clause of two literals at least, and stays so in its order
@@ -188,15 +214,15 @@ choices-standing-to form g order n f cs a h =
 pub data From-choices (g n : ℕ) (order : Clause → Clause) (cs : List Clause) : Event → Type 0 where
   from-choice : {e : Event} (m : ℕ) (c : Clause) (f : Formula) → n ≤ m → List·Memᴰ c cs → Of-choice c (as-choice g m order c) f e → From-choices g n order cs e
 
-pub events-of-choices : (form : Form) (g : ℕ) (order : Clause → Clause) (n : ℕ) (f : Formula) (cs : List Clause) → All-clauses (Proper-to n) f → Arranges n order cs →
+pub events-of-choices : (form : Form) (g : ℕ) (order : Clause → Clause) (n : ℕ) (f : Formula) (cs : List Clause) → Arranges n order cs →
     (e : Event) → List·Memᴰ e (choices-events form g order n f cs) → From-choices g n order cs e
 unfolding choices-events
-events-of-choices form g order n f (c ∷ cs) a h e m =
+events-of-choices form g order n f (c ∷ cs) h e m =
     let k = as-choice g n order c in
     let es = choice-events form f c k in
     let u = ordered-formed n order (c ∷ cs) h c (here refl) g n (omega arith) in
-    ⊎-elim (λ m. from-choice n c f (omega arith) (here refl) (events-of-choice c k u f (below-to g n f a) form e m))
-    (λ m. later (events-of-choices form g order (last-new k) (after f (lines es)) cs (after-choice-to c k u f (below-to g n f a) form) (others g n order c cs h) e m))
+    ⊎-elim (λ m. from-choice n c f (omega arith) (here refl) (events-of-choice c k u f form e m))
+    (λ m. later (events-of-choices form g order (last-new k) (after f (lines es)) cs (others g n order c cs h) e m))
     (List·Memᴰ·append-cases es m)
   where
     later : From-choices g (last-new (as-choice g n order c)) order cs e → From-choices g n order (c ∷ cs) e

@@ -131,7 +131,7 @@ module _ (s : Settings) (i : Input) (h : Run s i) where
   pub arranges : Arranges (i .highest) (order-of s i) (chosen s i)
   arranges = chosen-arranges s i (h .proper) (h .fits)
 
-  log-is : log s i ≡ lines (clearing (i .formula)) ++ lines (choosing s i)
+  pub log-is : log s i ≡ lines (clearing (i .formula)) ++ lines (choosing s i)
   unfolding log
   log-is = ap lines (events-are s i) ∙ lines-++ (clearing (i .formula)) (choosing s i)
 
@@ -151,7 +151,7 @@ module _ (s : Settings) (i : Input) (h : Run s i) where
   unfolding events clearing
   event-of e m =
       ⊎-elim (λ k. inl (clearing-event (i .formula) e k))
-      (λ k. inr (events-of-choices (s .form) (s .step) (order-of s i) (i .highest) (cleared (i .formula)) (chosen s i) standing-to arranges e k))
+      (λ k. inr (events-of-choices (s .form) (s .step) (order-of s i) (i .highest) (cleared (i .formula)) (chosen s i) arranges e k))
       (List·Memᴰ·append-cases (clearing (i .formula)) m)
 
   pub run-raises : (u a : ℕ) → Raises (weight u (literal-weight a (chosen s i))) (risen (4 * unit u a)) (events s i)

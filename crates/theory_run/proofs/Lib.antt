@@ -9,3 +9,4 @@ pub mod LogSound
 pub mod Taken
 pub mod Room
 pub mod Table
+pub mod Used

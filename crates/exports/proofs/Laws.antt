@@ -9,9 +9,7 @@ use Rattle.definition.specs.Checked.{Checked, fault, value}
 use Rattle.definition.specs.Literals.{literals-of}
 use Rattle.definition.specs.Text.{Bytes}
 use Rattle.definition.specs.Reading.{Input}
-use Rattle.definition.specs.Alignment.{Arrangement}
-use Rattle.definition.specs.Reencoding.{Form, Settings}
-use Rattle.definition.specs.Calls.{Reencoded, Tally, reencode, buffer-after}
+use Rattle.definition.specs.Calls.{Reencoded, Tally}
 use Rattle.call_read_back.specs.declared.ReadBack.the-variants as ReadBack
 use Rattle.call_read_back.specs.Outcome.{read-back-of}
 use Rattle.call_walk_back.specs.declared.WalkedBack.the-variants as WalkedBack
@@ -21,7 +19,6 @@ use Rattle.run.specs.declared.Arrangement as Code-arrangement
 use Rattle.run.specs.declared.Settings as Code-settings
 use Rattle.run.specs.Settings.{named-form, named-arrangement, settings-of}
 use Rattle.call_reencode.specs.declared.Tally as Code
-use Rattle.call_reencode.specs.declared.Reencoding as Code-outcome
 use Rattle.call_reencode.specs.declared.Reencoding.the-variants as Reencoding
 use Rattle.call_reencode.specs.Outcome.{outcome, outcome-of}
 use Rattle.exports.specs.Numbers.{form-number, arrangement-number, settings-number, number-of, reencoding}
@@ -67,44 +64,22 @@ result-tally r =
       «formula_bytes» = r .formula-bytes;
     }
 
-reencoding-counted : (o : Checked Reencoded) (t : Code.Tally) (before after : List ℕ) → outcome-of o ≡ Reencoding.Done t → after ≡ overwritten (done-counts t) before → (0 ≡ number-of o) × (after ≡ tally-after o reencoding-counts before)
+pub reencoding-counted : (o : Checked Reencoded) (t : Code.Tally) (before after : List ℕ) → outcome-of o ≡ Reencoding.Done t → after ≡ overwritten (done-counts t) before → (0 ≡ number-of o) × (after ≡ tally-after o reencoding-counts before)
 unfolding number-of tally-after
 reencoding-counted (fault m) t before after e w = let z : _≡_ {A = ℕ} 0 1 = cc in absurd (omega arith)
 reencoding-counted (value r) t before after e w =
     let et : result-tally (r .tally) ≡ t = cc in
     (refl, w ∙ ap (λ (x : Code.Tally). overwritten (done-counts x) before) (sym et))
 
-reencoding-refused : (o : Checked Reencoded) (n : ℕ) (before after : List ℕ) → outcome-of o ≡ Reencoding.Refused n → after ≡ replicate (length before) 0 → (n ≡ number-of o) × (after ≡ tally-after o reencoding-counts before)
+pub reencoding-refused : (o : Checked Reencoded) (n : ℕ) (before after : List ℕ) → outcome-of o ≡ Reencoding.Refused n → after ≡ replicate (length before) 0 → (n ≡ number-of o) × (after ≡ tally-after o reencoding-counts before)
 unfolding number-of tally-after
 reencoding-refused (fault m) n before after e w = (cc, w)
 reencoding-refused (value r) n before after e w = let z : _≡_ {A = ℕ} 0 1 = cc in absurd (omega arith)
 
--- the settings that two numbers name
-pub settings-named : (f : Code-form.Form) (a : Code-arrangement.Arrangement) (m n : ℕ) → named-form f ≡ form-number m → named-arrangement a ≡ arrangement-number n → settings-of (record { form = f; arrangement = a }) ≡ settings-number m n
-settings-named f a m n e d = rw (e, d) refl
+-- the settings that two numbers name, with a step
+pub settings-named : (f : Code-form.Form) (a : Code-arrangement.Arrangement) (m n g : ℕ) → named-form f ≡ form-number m → named-arrangement a ≡ arrangement-number n → settings-of (record { form = f; arrangement = a; step = g }) ≡ settings-number m n g
+settings-named f a m n g e d = rw (e, d) refl
 
--- what the exported call ensures, from what reencoding ensures for the settings that the numbers name
-module _ (s : Code-settings.Settings) (m n : ℕ) (text : Bytes) (work : List ℤ) (log formula : Bytes) {log' formula' : Bytes} (before : List ℕ) {r : Code-outcome.Reencoding}
-    (es : settings-of s ≡ settings-number m n)
-    (er : r ≡ outcome-of (outcome s text work log formula))
-    (el : log' ≡ buffer-after 0 (outcome s text work log formula) (λ o. o .log) log)
-    (eo : formula' ≡ buffer-after 0 (outcome s text work log formula) (λ o. o .formula) formula)
-  where
-    same-outcome : outcome s text work log formula ≡ reencoding m n text work log formula
-    same-outcome = ap (λ (z : Settings). reencode z (length work) (length log) (length formula) text) es
-
-    abbrev Exported : ℕ → List ℕ → Type 0
-    Exported k tally =
-        (k ≡ number-of (reencoding m n text work log formula))
-        × ((log' ≡ buffer-after 0 (reencoding m n text work log formula) (λ o. o .log) log)
-        × ((formula' ≡ buffer-after 0 (reencoding m n text work log formula) (λ o. o .formula) formula)
-        × (tally ≡ tally-after (reencoding m n text work log formula) reencoding-counts before)))
-
-    with-buffers : {k : ℕ} {after : List ℕ} → (k ≡ number-of (reencoding m n text work log formula)) × (after ≡ tally-after (reencoding m n text work log formula) reencoding-counts before) → Exported k after
-    with-buffers d = (d .0, (rw same-outcome at el, (rw same-outcome at eo, d .1)))
-
-    pub exported-done : (t : Code.Tally) {after : List ℕ} → r ≡ Reencoding.Done t → after ≡ overwritten (done-counts t) before → Exported 0 after
-    exported-done t {after} e c = with-buffers (reencoding-counted (reencoding m n text work log formula) t before after (sym (rw same-outcome at er) ∙ e) c)
-
-    pub exported-refused : (k : ℕ) {after : List ℕ} → r ≡ Reencoding.Refused k → after ≡ replicate (length before) 0 → Exported k after
-    exported-refused k {after} e c = with-buffers (reencoding-refused (reencoding m n text work log formula) k before after (sym (rw same-outcome at er) ∙ e) c)
+-- the outcome for settings that the numbers name
+pub same-outcome : (s : Code-settings.Settings) (m n g : ℕ) (text : Bytes) (work : List ℤ) (log formula : Bytes) (room : ℕ) → settings-of s ≡ settings-number m n g → outcome s text work log formula room ≡ reencoding m n g text work log formula room
+same-outcome s m n g text work log formula room e = rw e refl

@@ -14,7 +14,7 @@ returns c =
     let back = c .before in let form-named = back .form-named in
     let start = back .before in
     settings-named (form-named .result) (c .arrangement-named .result) (start .args .form) (start .args .arrangement)
-    (form-named .ensures) (c .arrangement-named .ensures)
+    (start .args .step) (form-named .ensures) (c .arrangement-named .ensures)
 
 pub settings-named-spec : {M : Type 1} → statement M
 settings-named-spec = tie.close (tie.spec form-named-requires arrangement-named-requires returns)

@@ -1,13 +1,13 @@
 -- The call case by case: what the reader and the run leave is what the definition's outcome has.
 use mathlib.Core.Path.{_≡_, refl, sym, ap, _∙_, subst}
-use mathlib.Core.Bool.{Bool, true, false, not, _&&_, cond}
-use mathlib.Core.List.{List, [], _++_, map, append-nil}
+use mathlib.Core.Bool.{Bool, true, false, _&&_, cond}
+use mathlib.Core.List.{List, _++_, append-nil}
 use Prim.Native.Nat.{ℕ, _+_, _*_, _≤_, _<_, _^_}
 use native.Mathlib.Omega.{arith}
 use lib.Dec.{ltb, leb}
 use lib.IntN.{ℤ}
 use lib.ListN.{length, take, drop, replicate, length-map, drop-of-length-le}
-use lib.Seq.{sets, sets-eq, length-sets, take-at, take-take, length-take-le}
+use lib.Seq.{sets-eq, length-sets, take-at, take-take, length-take-le}
 use borrow.Author.Tests.{lt-ltb, le-ltb, ltb-true, ltb-false, leb-true, le-leb, lt-leb}
 use Rattle.definition.specs.Checked.{Checked, fault, value, _>>=_, refuse-if}
 use Rattle.definition.specs.Literals.{Formula, literals-of}
@@ -20,7 +20,7 @@ use Rattle.theory_text.specs.Accepted.{Accepted}
 use Rattle.theory_text.proofs.Accepted.{input-read, input-accepted, input-highest}
 use Rattle.theory_run.proofs.Table.{table-length}
 use Rattle.records.specs.declared.ChoiceRecord.{ChoiceRecord}
-use Rattle.records.specs.Rows.{shown-record, rows-of, no-record, records-in}
+use Rattle.records.specs.Rows.{shown-record, no-record, records-in}
 use Rattle.records.proofs.Rows.{records-in-zeros, records-in-sets}
 use Rattle.text.specs.Output.{Put}
 use Rattle.text.proofs.Output.{put-length}

@@ -136,11 +136,7 @@ fn read_and_run(
 fn is_step(g: u32) -> bool
     ensures { λ r. ⌜ r ≡ step-allowed g ⌝ }
 {
-    if 1 <= g {
-        g <= 100
-    } else {
-        false
-    }
+    if 1 <= g { g <= 100 } else { false }
 }
 
 // Tests the step, then reads and runs.

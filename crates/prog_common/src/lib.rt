@@ -33,7 +33,11 @@ fn named_arrangement() -> Arrangement {
 fn named_settings() -> Settings {
     let form = named_form();
     let arrangement = named_arrangement();
-    Settings { form, arrangement }
+    Settings {
+        form,
+        arrangement,
+        step: 1,
+    }
 }
 
 // A number given as an argument; 0 if it is none up to 1,000,000.
@@ -97,7 +101,7 @@ fn print_reencoded(
         return;
     }
     let settings = named_settings();
-    match call_reencode::reencode(&text[..n], settings, work, log, formula) {
+    match call_reencode::reencode_texts(&text[..n], settings, work, log, formula) {
         Reencoding::Refused(k) => print_refusal(k),
         Reencoding::Done(t) => {
             if is_log {

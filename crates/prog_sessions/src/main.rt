@@ -22,7 +22,11 @@ pub fn print_end() {
 // Counter form.
 fn counter(arrangement: Arrangement) -> Settings {
     let form = Form::Counter;
-    Settings { form, arrangement }
+    Settings {
+        form,
+        arrangement,
+        step: 1,
+    }
 }
 
 // Prints choices, H, M, lines and both lengths.
@@ -41,7 +45,7 @@ fn print_outcome(text: &[u8]) {
     let mut log = [0u8; 1024];
     let mut formula = [0u8; 1024];
     let s = counter(Arrangement::AsListed);
-    match call_reencode::reencode(text, s, &mut work, &mut log, &mut formula) {
+    match call_reencode::reencode_texts(text, s, &mut work, &mut log, &mut formula) {
         Reencoding::Done(t) => {
             io::write_all(STDOUT_FILENO, b"accepted");
             print_tally(t);
@@ -72,7 +76,7 @@ fn print_size(size: u8) {
     print_number(size as usize);
     if n <= text.len() {
         let s = counter(Arrangement::AsListed);
-        match call_reencode::reencode(&text[..n], s, &mut work, &mut log, &mut formula) {
+        match call_reencode::reencode_texts(&text[..n], s, &mut work, &mut log, &mut formula) {
             Reencoding::Done(t) => print_tally(t),
             Reencoding::Refused(k) => prog_common::print_refusal(k),
         }
@@ -88,7 +92,7 @@ fn print_alignment(arrangement: Arrangement) {
     let mut log = [0u8; 1024];
     let mut formula = [0u8; 1024];
     let s = counter(arrangement);
-    match call_reencode::reencode(text, s, &mut work, &mut log, &mut formula) {
+    match call_reencode::reencode_texts(text, s, &mut work, &mut log, &mut formula) {
         Reencoding::Done(_) => {
             let a = texts::past_lines(&log, 33);
             let b = texts::past_lines(&log, 34);

@@ -47,14 +47,18 @@ fn print_zero(is_all: bool) {
 fn order() -> Settings {
     let form = Form::Order;
     let arrangement = Arrangement::AsListed;
-    Settings { form, arrangement }
+    Settings {
+        form,
+        arrangement,
+        step: 1,
+    }
 }
 
 // Reencodes a formula in order form, over filled buffers.
 fn print_reencoding(text: &[u8], work: &mut [i32], log: &mut [u8], formula: &mut [u8]) {
     fill(log);
     fill(formula);
-    match call_reencode::reencode(text, order(), work, log, formula) {
+    match call_reencode::reencode_texts(text, order(), work, log, formula) {
         Reencoding::Done(_) => print_outcome(b"reencode", 0),
         Reencoding::Refused(n) => print_outcome(b"reencode", n),
     }

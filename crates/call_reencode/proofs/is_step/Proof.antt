@@ -1,14 +1,10 @@
 use Rattle.call_reencode.proofs.Call.{step-tested, no-step}
 use Rattle.call_reencode.proofs.is_step.Statement.{statement}
 use Rattle.call_reencode.proofs.is_step.Tie as tie
-use Rattle.call_reencode.proofs.is_step.Reads as reads
-use Rattle.call_reencode.proofs.is_step.Lts as lts
 
--- src/lib.rt:136:1
 returns : tie.Need-returns
 returns c = step-tested _ (c .if1 .taken)
 
--- src/lib.rt:136:1
 returns-2 : tie.Need-returns-2
 returns-2 c = no-step _ (c .if1 .left)
 

@@ -25,22 +25,22 @@ counter-requires c κs = search needs
 array-share-prefix-text : tie.Need-array-share-prefix-text
 array-share-prefix-text c = search needs
 
-slice-aggregate-reencode : tie.Need-slice-aggregate-reencode
-slice-aggregate-reencode c =
+slice-aggregate-reencode-texts : tie.Need-slice-aggregate-reencode-texts
+slice-aggregate-reencode-texts c =
     let put-unique = c .before .before .before .before .before .before .before .put-unique in
     sym (length-take-le (put-unique .result) (put-unique .last .0) (search needs))
 
-slice-aggregate-reencode-2 : tie.Need-slice-aggregate-reencode-2
-slice-aggregate-reencode-2 c = search needs
+slice-aggregate-reencode-texts-2 : tie.Need-slice-aggregate-reencode-texts-2
+slice-aggregate-reencode-texts-2 c = search needs
 
-slice-aggregate-reencode-3 : tie.Need-slice-aggregate-reencode-3
-slice-aggregate-reencode-3 c = search needs
+slice-aggregate-reencode-texts-3 : tie.Need-slice-aggregate-reencode-texts-3
+slice-aggregate-reencode-texts-3 c = search needs
 
-slice-aggregate-reencode-4 : tie.Need-slice-aggregate-reencode-4
-slice-aggregate-reencode-4 c = search needs
+slice-aggregate-reencode-texts-4 : tie.Need-slice-aggregate-reencode-texts-4
+slice-aggregate-reencode-texts-4 c = search needs
 
-reencode-requires : tie.Need-reencode-requires
-reencode-requires c κs = search needs
+reencode-texts-requires : tie.Need-reencode-texts-requires
+reencode-texts-requires c κs = search needs
 
 enum-known-t : tie.Need-enum-known-t
 enum-known-t c = search needs
@@ -71,11 +71,11 @@ print-size-spec =
     print-number-requires
     counter-requires
     array-share-prefix-text
-    slice-aggregate-reencode
-    slice-aggregate-reencode-2
-    slice-aggregate-reencode-3
-    slice-aggregate-reencode-4
-    reencode-requires
+    slice-aggregate-reencode-texts
+    slice-aggregate-reencode-texts-2
+    slice-aggregate-reencode-texts-3
+    slice-aggregate-reencode-texts-4
+    reencode-texts-requires
     enum-known-t
     print-tally-requires
     enum-known-k

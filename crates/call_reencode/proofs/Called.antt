@@ -59,6 +59,36 @@ settings-val s = LL.val S.the-type S′.the-laws s
 abbrev pub answer-val : Reencoding → Val
 answer-val a = EL.val E.the-type E′.the-laws a
 
+-- both buffers and the table after an outcome
+abbrev pub log-after : Checked Reencoded → List ℕ → List ℕ
+log-after o log = buffer-after 0 o (λ r. r .log) log
+
+abbrev pub formula-after : Checked Reencoded → List ℕ → List ℕ
+formula-after o formula = buffer-after 0 o (λ r. r .formula) formula
+
+abbrev pub table-after : Checked Reencoded → List ChoiceRecord → List ChoiceRecord
+table-after o table = buffer-after no-record o shown-table table
+
+-- ---- what is known of the value w that a callee returned, and of the last lists
+module _ (text : RefT (List ℕ)) (settings : Settings) (work : RefT (List ℤ)) (log formula : RefT (List ℕ)) where
+  -- the outcome, where the table has so many records
+  abbrev pub out : ℕ → Checked Reencoded
+  out room = outcome settings (text .now) (work .now) (log .now) (formula .now) room
+
+  -- the last list of the workspace, and both buffers, are as long as they were
+  abbrev Long : ℕ → List ℤ → Type 0
+  Long room us = (length us ≡ length (work .now)) × (length (log-after (out room) (log .now)) ≡ length (log .now)) × (length (formula-after (out room) (formula .now)) ≡ length (formula .now))
+
+  -- n records of the rows zs fill each table of so many records as the outcome asks
+  abbrev Fills : ℕ → ℕ → List ℕ → Type 0
+  Fills room n zs = (t : List ChoiceRecord) → length t ≡ room → records-in zs 0 n ++ dropped n t ≡ table-after (out room) t
+
+  abbrev pub Told-rows : ℕ → Val → Made → List ℤ → List ℕ → Type 0
+  Told-rows room w r us zs = (w ≡ made-val r) × Is R.the-row r (made-val r ∷ []) × (r .answer ≡ outcome-of (out room)) × (r .records ≤ room) × Fills room (r .records) zs × Long room us
+
+  abbrev pub Told-reencode : List ChoiceRecord → Val → List ℤ → Type 0
+  Told-reencode table w us = (w ≡ answer-val (outcome-of (out (length table)))) × Is E.the-row (outcome-of (out (length table))) (answer-val (outcome-of (out (length table))) ∷ []) × Long (length table) us × (length (table-after (out (length table)) table) ≡ length table)
+
 -- the contracts that the callers cite
 abbrev pub Rows : {M : Type 1} (𝓤 : URA M) (H : Heap 𝓤) (A : Atoms 𝓤) (mem : Memory → SProp 𝓤) (run : Routine → Fun 𝓤) → Contract 𝓤
 Rows 𝓤 H A mem run = tripleOf 𝓤 H A reencode-rows.signature (reencode-rows.spec 𝓤 H A mem run)
@@ -92,30 +122,15 @@ module _ {M : Type 1} (𝓤 : URA M) (H : Heap 𝓤) (A : Atoms 𝓤) (W : Given
         move ! (5 ∷ 0 ∷ []) $ fjoin ! $ move ! (4 ∷ 0 ∷ []) $ fjoin ! $ move ! (3 ∷ 0 ∷ []) $ fjoin ! $ move ! (2 ∷ 0 ∷ []) $ fjoin ! $
         owned ! S.the-row (Is S.the-row) (LL.makes S.the-type S′.the-plain 𝓤 H A) settings _ settings-is $ fjoin ! $ move ! (1 ∷ 0 ∷ []) $ fjoin ! $ done !
 
-    -- the outcome, and both buffers after it
-    abbrev rows-outcome : Checked Reencoded
-    rows-outcome = outcome settings (text .now) (work .now) (log .now) (formula .now) room
-
-    abbrev rows-log : List ℕ
-    rows-log = buffer-after 0 rows-outcome (λ o. o .log) (log .now)
-
-    abbrev rows-formula : List ℕ
-    rows-formula = buffer-after 0 rows-outcome (λ o. o .formula) (formula .now)
-
-    -- n records of rows fill each table of so many records as the outcome asks
-    abbrev Fills : ℕ → List ℕ → Type 0
-    Fills n zs = (t : List ChoiceRecord) → length t ≡ room → records-in zs 0 n ++ dropped n t ≡ buffer-after no-record rows-outcome shown-table t
-
-    -- what is known of the value w that `reencode_rows` returned, and of the last lists of workspace and rows
-    abbrev pub Told-rows : Val → Made → List ℤ → List ℕ → Type 0
-    Told-rows w r us zs = (w ≡ made-val r) × Is R.the-row r (made-val r ∷ []) × (r .answer ≡ outcome-of rows-outcome) × (r .records ≤ room) × Fills (r .records) zs × (length us ≡ length (work .now)) × (length rows-log ≡ length (log .now)) × (length rows-formula ≡ length (formula .now))
+    abbrev o : Checked Reencoded
+    o = out text settings work log formula room
 
     abbrev pub Of-rows : List ℤ → List ℕ → List (Item 𝓤)
     Of-rows us zs = Tokens 𝓤 5 κs qs
-        ++ (‵ (finally i32 (work .name) us) ∷ ‵ (finally u8 (log .name) rows-log) ∷ ‵ (finally u8 (formula .name) rows-formula) ∷ ‵ (finally u32 (rows .name) zs) ∷ [])
+        ++ (‵ (finally i32 (work .name) us) ∷ ‵ (finally u8 (log .name) (log-after o (log .now))) ∷ ‵ (finally u8 (formula .name) (formula-after o (formula .now))) ∷ ‵ (finally u32 (rows .name) zs) ∷ [])
 
     abbrev Promised : Val → Made → List ℤ → List ℕ → SProp 𝓤
-    Promised w r us zs = guard 𝓤 (Told-rows w r us zs) (⋆ 𝓤 H A (Of-rows us zs))
+    Promised w r us zs = guard 𝓤 (Told-rows text settings work log formula room w r us zs) (⋆ 𝓤 H A (Of-rows us zs))
 
     pub gives-rows : (w : Val) → ent 𝓤 (Rows 𝓤 H A mem run .post to-rows w) (H .⇛ (ex 𝓤 (λ (r : Made). ex 𝓤 (λ (us : List ℤ). ex 𝓤 (λ (zs : List ℕ). Promised w r us zs)))))
     gives-rows w =
@@ -123,10 +138,10 @@ module _ {M : Type 1} (𝓤 : URA M) (H : Heap 𝓤) (A : Atoms 𝓤) (W : Given
         use1 W (later (some (λ (r : Made). (raw (toks 𝓤 A 5 κs qs) ⊛ ‵ (R.the-row .own r (w ∷ [])))
         ⊛ raw (ensured 𝓤 H A reencode-rows.ended (reencode-rows.clauses 𝓤 H A mem run) κs arg tt r)))) (id⊢ 𝓤 _) $ await ! tt $ pick ! (λ r.
         split ! $ move ! (1 ∷ []) $ use1 W (some (λ (ls : Unit {0} × (Unit {0} × (List ℤ × (List ℕ × (List ℕ × (List ℕ × (Unit {0} × Unit {0}))))))). ‵ (lasts reencode-rows.ended κs arg ls)
-        ⊛ (raw (fact 𝓤 (r .answer ≡ outcome-of rows-outcome)) ⊛ (raw (fact 𝓤 (ls .1 .1 .1 .0 ≡ rows-log)) ⊛ (raw (fact 𝓤 (ls .1 .1 .1 .1 .0 ≡ rows-formula))
-        ⊛ (raw (fact 𝓤 (r .records ≤ room)) ⊛ raw (fact 𝓤 (Fills (r .records) (ls .1 .1 .1 .1 .1 .0))))))))) (id⊢ 𝓤 _) $ pick ! (λ ls.
-        split ! $ move ! (1 ∷ []) $ split ! $ heard ! (r .answer ≡ outcome-of rows-outcome) (λ answered. split ! $ heard ! (ls .1 .1 .1 .0 ≡ rows-log) (λ logged. split ! $ heard ! (ls .1 .1 .1 .1 .0 ≡ rows-formula) (λ formed.
-        split ! $ heard ! (r .records ≤ room) (λ fits. heard ! (Fills (r .records) (ls .1 .1 .1 .1 .1 .0)) (λ fills.
+        ⊛ (raw (fact 𝓤 (r .answer ≡ outcome-of o)) ⊛ (raw (fact 𝓤 (ls .1 .1 .1 .0 ≡ log-after o (log .now))) ⊛ (raw (fact 𝓤 (ls .1 .1 .1 .1 .0 ≡ formula-after o (formula .now)))
+        ⊛ (raw (fact 𝓤 (r .records ≤ room)) ⊛ raw (fact 𝓤 (Fills text settings work log formula room (r .records) (ls .1 .1 .1 .1 .1 .0))))))))) (id⊢ 𝓤 _) $ pick ! (λ ls.
+        split ! $ move ! (1 ∷ []) $ split ! $ heard ! (r .answer ≡ outcome-of o) (λ answered. split ! $ heard ! (ls .1 .1 .1 .0 ≡ log-after o (log .now)) (λ logged. split ! $ heard ! (ls .1 .1 .1 .1 .0 ≡ formula-after o (formula .now)) (λ formed.
+        split ! $ heard ! (r .records ≤ room) (λ fits. heard ! (Fills text settings work log formula room (r .records) (ls .1 .1 .1 .1 .1 .0)) (λ fills.
         -- [the last lists; the tokens and the result]: each last list is taken off, and its length heard
         fsplit ! $ drop ! $ fsplit ! $ drop ! $ fsplit ! $ fsplit ! $ move ! (1 ∷ []) $ feqL ! (λ long.
         move ! (1 ∷ []) $ fsplit ! $ fsplit ! $ rewrite ! 0 (λ (l : List ℕ). ‵ (finally u8 (log .name) l)) logged refl $ move ! (1 ∷ []) $ feqL ! (λ long₁.
@@ -138,7 +153,7 @@ module _ {M : Type 1} (𝓤 : URA M) (H : Heap 𝓤) (A : Atoms 𝓤) (W : Given
         -- [[text]; [work]; [log]; [formula]; [rows]; the result; rows; its length; true; formula; log; work]
         let told = LL.tells R.the-type R′.the-laws r (w ∷ []) is in
         at-once ! $ show ! (λ (r′ : Made). ex 𝓤 (λ (us : List ℤ). ex 𝓤 (λ (zs : List ℕ). Promised w r′ us zs))) r $ show ! (λ (us : List ℤ). ex 𝓤 (λ (zs : List ℕ). Promised w r us zs)) (ls .1 .1 .0) $ show ! (Promised w r (ls .1 .1 .0)) (ls .1 .1 .1 .1 .1 .0) $
-        check ! (ap only told, subst (Is R.the-row r) told is, answered, fits, fills, long, subst (λ (l : List ℕ). length l ≡ length (log .now)) logged long₁, subst (λ (l : List ℕ). length l ≡ length (formula .now)) formed long₂) $
+        check ! (ap only told, subst (Is R.the-row r) told is, answered, fits, fills, (long, subst (λ (l : List ℕ). length l ≡ length (log .now)) logged long₁, subst (λ (l : List ℕ). length l ≡ length (formula .now)) formed long₂)) $
         keep ! (0 ∷ 1 ∷ 2 ∷ 3 ∷ 4 ∷ 11 ∷ 10 ∷ 9 ∷ 6 ∷ []) $ done !)))))))))))
 
   -- ---- `reencode`
@@ -164,31 +179,15 @@ module _ {M : Type 1} (𝓤 : URA M) (H : Heap 𝓤) (A : Atoms 𝓤) (W : Given
         nothing ! $ move ! (6 ∷ 0 ∷ []) $ fjoin ! $ move ! (5 ∷ 0 ∷ []) $ fjoin ! $ move ! (4 ∷ 0 ∷ []) $ fjoin ! $ move ! (3 ∷ 0 ∷ []) $ fjoin ! $
         owned ! S.the-row (Is S.the-row) (LL.makes S.the-type S′.the-plain 𝓤 H A) settings _ settings-is $ fjoin ! $ move ! (2 ∷ 0 ∷ []) $ fjoin ! $ move ! (1 ∷ 0 ∷ []) $ join ! $ frame ! $ done !
 
-    -- the outcome, and the buffers and the table after it
-    abbrev pub reencode-outcome : Checked Reencoded
-    reencode-outcome = outcome settings (text .now) (work .now) (log .now) (formula .now) (length (table .now))
-
-    abbrev pub answer : Reencoding
-    answer = outcome-of reencode-outcome
-
-    abbrev pub log-after : List ℕ
-    log-after = buffer-after 0 reencode-outcome (λ o. o .log) (log .now)
-
-    abbrev pub formula-after : List ℕ
-    formula-after = buffer-after 0 reencode-outcome (λ o. o .formula) (formula .now)
-
-    abbrev pub table-after : List ChoiceRecord
-    table-after = buffer-after no-record reencode-outcome shown-table (table .now)
-
-    abbrev pub Told-reencode : Val → List ℤ → Type 0
-    Told-reencode w us = (w ≡ answer-val answer) × Is E.the-row answer (answer-val answer ∷ []) × (length us ≡ length (work .now)) × (length log-after ≡ length (log .now)) × (length formula-after ≡ length (formula .now)) × (length table-after ≡ length (table .now))
+    abbrev o₁ : Checked Reencoded
+    o₁ = out text settings work log formula (length (table .now))
 
     abbrev pub Of-reencode : List ℤ → List (Item 𝓤)
     Of-reencode us = Tokens 𝓤 5 κs qs
-        ++ (‵ (finally i32 (work .name) us) ∷ ‵ (finally u8 (log .name) log-after) ∷ ‵ (finally u8 (formula .name) formula-after) ∷ ‵ (finally T.the-row (table .name) table-after) ∷ [])
+        ++ (‵ (finally i32 (work .name) us) ∷ ‵ (finally u8 (log .name) (log-after o₁ (log .now))) ∷ ‵ (finally u8 (formula .name) (formula-after o₁ (formula .now))) ∷ ‵ (finally T.the-row (table .name) (table-after o₁ (table .now))) ∷ [])
 
     abbrev Promised₁ : Val → List ℤ → SProp 𝓤
-    Promised₁ w us = guard 𝓤 (Told-reencode w us) (⋆ 𝓤 H A (Of-reencode us))
+    Promised₁ w us = guard 𝓤 (Told-reencode text settings work log formula (table .now) w us) (⋆ 𝓤 H A (Of-reencode us))
 
     pub gives-reencode : (w : Val) → ent 𝓤 (Reencode 𝓤 H A mem run .post to-reencode w) (H .⇛ (ex 𝓤 (λ (us : List ℤ). Promised₁ w us)))
     gives-reencode w =
@@ -196,18 +195,18 @@ module _ {M : Type 1} (𝓤 : URA M) (H : Heap 𝓤) (A : Atoms 𝓤) (W : Given
         use1 W (later (some (λ (r : Reencoding). (raw (toks 𝓤 A 5 κs qs) ⊛ ‵ (E.the-row .own r (w ∷ [])))
         ⊛ raw (ensured 𝓤 H A reencode.ended (reencode.clauses 𝓤 H A mem run) κs arg₁ tt r)))) (id⊢ 𝓤 _) $ await ! tt $ pick ! (λ r.
         split ! $ move ! (1 ∷ []) $ use1 W (some (λ (ls : Unit {0} × (Unit {0} × (List ℤ × (List ℕ × (List ℕ × (List ChoiceRecord × Unit {0})))))). ‵ (lasts reencode.ended κs arg₁ ls)
-        ⊛ (raw (fact 𝓤 (r ≡ answer)) ⊛ (raw (fact 𝓤 (ls .1 .1 .1 .0 ≡ log-after)) ⊛ (raw (fact 𝓤 (ls .1 .1 .1 .1 .0 ≡ formula-after)) ⊛ raw (fact 𝓤 (ls .1 .1 .1 .1 .1 .0 ≡ table-after))))))) (id⊢ 𝓤 _) $ pick ! (λ ls.
-        split ! $ move ! (1 ∷ []) $ split ! $ heard ! (r ≡ answer) (λ answered. split ! $ heard ! (ls .1 .1 .1 .0 ≡ log-after) (λ logged. split ! $ heard ! (ls .1 .1 .1 .1 .0 ≡ formula-after) (λ formed. heard ! (ls .1 .1 .1 .1 .1 .0 ≡ table-after) (λ tabled.
+        ⊛ (raw (fact 𝓤 (r ≡ outcome-of o₁)) ⊛ (raw (fact 𝓤 (ls .1 .1 .1 .0 ≡ log-after o₁ (log .now))) ⊛ (raw (fact 𝓤 (ls .1 .1 .1 .1 .0 ≡ formula-after o₁ (formula .now))) ⊛ raw (fact 𝓤 (ls .1 .1 .1 .1 .1 .0 ≡ table-after o₁ (table .now)))))))) (id⊢ 𝓤 _) $ pick ! (λ ls.
+        split ! $ move ! (1 ∷ []) $ split ! $ heard ! (r ≡ outcome-of o₁) (λ answered. split ! $ heard ! (ls .1 .1 .1 .0 ≡ log-after o₁ (log .now)) (λ logged. split ! $ heard ! (ls .1 .1 .1 .1 .0 ≡ formula-after o₁ (formula .now)) (λ formed. heard ! (ls .1 .1 .1 .1 .1 .0 ≡ table-after o₁ (table .now)) (λ tabled.
         -- [the last lists; the tokens and the result]: each last list is taken off, and its length heard
         fsplit ! $ drop ! $ fsplit ! $ drop ! $ fsplit ! $ fsplit ! $ move ! (1 ∷ []) $ feqL ! (λ long.
         move ! (1 ∷ []) $ fsplit ! $ fsplit ! $ rewrite ! 0 (λ (l : List ℕ). ‵ (finally u8 (log .name) l)) logged refl $ move ! (1 ∷ []) $ feqL ! (λ long₁.
         move ! (1 ∷ []) $ fsplit ! $ fsplit ! $ rewrite ! 0 (λ (l : List ℕ). ‵ (finally u8 (formula .name) l)) formed refl $ move ! (1 ∷ []) $ feqL ! (λ long₂.
         move ! (1 ∷ []) $ fsplit ! $ fsplit ! $ rewrite ! 0 (λ (l : List ChoiceRecord). ‵ (finally T.the-row (table .name) l)) tabled refl $ move ! (1 ∷ []) $ feqL ! (λ long₃.
         -- [table; true; formula; log; work; the tokens and the result]
-        move ! (5 ∷ []) $ split ! $ move ! (1 ∷ []) $ rewrite ! 0 (λ (v : Reencoding). ‵ (E.the-row .own v (w ∷ []))) answered refl $ peeks ! E.the-row (Is E.the-row) (shows 𝓤 H A E.the-row) answer (w ∷ []) (λ is.
+        move ! (5 ∷ []) $ split ! $ move ! (1 ∷ []) $ rewrite ! 0 (λ (v : Reencoding). ‵ (E.the-row .own v (w ∷ []))) answered refl $ peeks ! E.the-row (Is E.the-row) (shows 𝓤 H A E.the-row) (outcome-of o₁) (w ∷ []) (λ is.
         move ! (1 ∷ []) $ tokens-apart ! 5 κs qs $
         -- [[text]; [work]; [log]; [formula]; [table]; the result; table; true; formula; log; work]
-        let told = EL.tells E.the-type E′.the-laws answer (w ∷ []) is in
+        let told = EL.tells E.the-type E′.the-laws (outcome-of o₁) (w ∷ []) is in
         at-once ! $ show ! (Promised₁ w) (ls .1 .1 .0) $
-        check ! (ap only told, subst (Is E.the-row answer) told is, long, subst (λ (l : List ℕ). length l ≡ length (log .now)) logged long₁, subst (λ (l : List ℕ). length l ≡ length (formula .now)) formed long₂, subst (λ (l : List ChoiceRecord). length l ≡ length (table .now)) tabled long₃) $
+        check ! (ap only told, subst (Is E.the-row (outcome-of o₁)) told is, (long, subst (λ (l : List ℕ). length l ≡ length (log .now)) logged long₁, subst (λ (l : List ℕ). length l ≡ length (formula .now)) formed long₂), subst (λ (l : List ChoiceRecord). length l ≡ length (table .now)) tabled long₃) $
         keep ! (0 ∷ 1 ∷ 2 ∷ 3 ∷ 4 ∷ 10 ∷ 9 ∷ 8 ∷ 6 ∷ []) $ done !)))))))))))

@@ -1,7 +1,7 @@
 -- The phases of a run, one after another: what each asks for follows from what theory says of an accepted input.
 use mathlib.Core.Path.{_≡_, sym, ap, _∙_}
 use mathlib.Core.List.{List, [], _++_, map, List·Memᴰ, Memᴰ·of-map}
-use Prim.Native.Nat.{ℕ, _+_, _*_, _≤_, _<_, _^_}
+use Prim.Native.Nat.{ℕ, _+_, _*_, _≤_}
 use native.Mathlib.Omega.{arith}
 use lib.IntN.{ℤ}
 use lib.ListN.{length, take, length-map}
@@ -62,9 +62,6 @@ module _ {work : List ℤ} {end h g : ℕ} {rows : List ℕ} (r : Run-ready work
   pub step-is : {newest : List ℕ} {step : ℕ} → Indexed work end newest → step ≡ 5 * nodes newest + end + 2_520 → step ≡ step-of (input-in work end h)
   unfolding numbers-of
   step-is i e = omega (arith, i .counted, literals-are, r .whole)
-
-  pub few-nodes : {newest : List ℕ} → Indexed work end newest → (end < 2 ^ 31) × (nodes newest < 2 ^ 31)
-  few-nodes i = (omega (arith, i .room, i .small), omega (arith, i .room, i .small))
 
   -- a workspace with the same store
   module _ (w : List ℤ) (l : length w ≡ length work) (e : take end w ≡ take end work) where

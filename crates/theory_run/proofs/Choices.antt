@@ -1,7 +1,7 @@
 -- What is known where a choice is taken. Assumes that the formula was accepted.
 use mathlib.Core.Path.{_≡_, refl, sym, _∙_, ap}
 use mathlib.Core.Bool.{Bool, true, false, not}
-use mathlib.Core.List.{List, [], _∷_, _++_, append-assoc, append-nil, List·Memᴰ, List·Memᴰ·head as here, Memᴰ·append-left, Memᴰ·append-right}
+use mathlib.Core.List.{List, [], _∷_, _++_, append-assoc, append-nil, List·Memᴰ, List·Memᴰ·head as here, Memᴰ·append-right}
 use Prim.Native.Nat.{ℕ, _+_, _≤_}
 use native.Mathlib.Omega.{arith}
 use lib.ListN.{length}
@@ -29,7 +29,7 @@ use Rattle.theory_order.proofs.Order.{order-events-are}
 use Rattle.theory_order.specs.Pass.{results, added as results-of}
 use Rattle.theory_text.specs.Accepted.{Accepted}
 use Rattle.theory_room.proofs.Weights.{gained, added}
-use Rattle.theory_room.proofs.Lines.{Arranges, ordered-length, ordered-proper, used-++}
+use Rattle.theory_room.proofs.Lines.{ordered-length, ordered-proper, used-++}
 use Rattle.theory_room.specs.Choices.{clearing, order-of, events-of-first, standing-after-first, next-choice, used-after}
 use Rattle.theory_room.proofs.Cleared.{cleared-after}
 use Rattle.theory_room.proofs.Rises.{taken-changes}
@@ -112,9 +112,6 @@ module _ (i : Input) (a : Accepted input-limits i) (s : Settings) where
     -- the choice
     k : Choice
     k = next-choice s i cs c
-
-    arranged-first : Arranges (i .highest) (order-of s i) cs
-    arranged-first d m = arranges s i run d (rw e (Memᴰ·append-left (c ∷ ds) m))
 
     next-in : List·Memᴰ c (chosen s i)
     next-in = rw e (Memᴰ·append-right cs (here refl))

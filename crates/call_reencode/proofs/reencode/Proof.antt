@@ -41,6 +41,8 @@ use denote.Triple.Call.{calls-at}
 use denote.Triple.Table.{entered, cited}
 use denote.Triple.Walked.{Stays, stay-none, stay-none-slice, gave-slice, walkOf, AllGo, goes-none, goes-none-slice, goes-gave-slice, Walks, ends-at, walked, walk-meets}
 use denote.Exit.{yes}
+use Rattle.definition.specs.Checked.{Checked}
+use Rattle.definition.specs.Calls.{Reencoded}
 use Rattle.records.specs.declared.ChoiceRecord.{ChoiceRecord}
 use Rattle.records.specs.Rows.{records-in}
 use Rattle.records.proofs.ChoiceRecord as T
@@ -55,13 +57,13 @@ use Rattle.run.specs.declared.Settings.{Settings}
 use Rattle.run.specs.Run.{row-numbers}
 use Rattle.run.proofs.Settings as S
 use Rattle.run.proofs.Settings.Laws as S′
-use Rattle.call_reencode.specs.declared.Reencoding.{Reencoding}
 use Rattle.call_reencode.specs.declared.Made.{Made}
+use Rattle.call_reencode.specs.Outcome.{outcome-of}
 use Rattle.call_reencode.proofs.Reencoding as E
 use Rattle.call_reencode.proofs.Reencoding.Laws as E′
 use Rattle.call_reencode.proofs.Made as R
 use Rattle.call_reencode.proofs.Made.Laws as R′
-use Rattle.call_reencode.proofs.Called.{made-val, settings-val, answer-val as reencoding-val, Rows, to-rows, For-rows, Told-rows, Of-rows, asks-rows, gives-rows, answer, log-after, formula-after, table-after}
+use Rattle.call_reencode.proofs.Called.{made-val, settings-val, answer-val as reencoding-val, Rows, to-rows, For-rows, Told-rows, Of-rows, asks-rows, gives-rows, out, log-after, formula-after, table-after}
 use Rattle.call_reencode.proofs.reencode_rows.Symbol as rows-def
 use Rattle.call_reencode.proofs.reencode_rows.Symbol.{name as #call-reencode·reencode-rows}
 use Rattle.call_reencode.proofs.reencode_rows.Met as rows-thm
@@ -125,8 +127,8 @@ module _ {M : Type 1} (𝓤 : URA M) (H : Heap 𝓤) (A : Atoms 𝓤) (W : Given
   abbrev Handed : ℕ → GName → ℕ → List (Item 𝓤)
   Handed ν δ l = For-rows 𝓤 H A W mem run (lfts ν) shares text settings work log formula (lent-as l δ) 4800 (length (table .now))
 
-  abbrev Told : ℕ → GName → ℕ → Val → Made → List ℤ → List ℕ → Type 0
-  Told ν δ l = Told-rows 𝓤 H A W mem run (lfts ν) shares text settings work log formula (lent-as l δ) 4800 (length (table .now))
+  abbrev Told : Val → Made → List ℤ → List ℕ → Type 0
+  Told = Told-rows text settings work log formula (length (table .now))
 
   abbrev Given-back : ℕ → GName → ℕ → List ℤ → List ℕ → List (Item 𝓤)
   Given-back ν δ l = Of-rows 𝓤 H A W mem run (lfts ν) shares text settings work log formula (lent-as l δ) 4800 (length (table .now))
@@ -148,18 +150,15 @@ module _ {M : Type 1} (𝓤 : URA M) (H : Heap 𝓤) (A : Atoms 𝓤) (W : Given
   answer-is : (r : Made) → Is R.the-row r (made-val r ∷ []) → Is E.the-row (r .answer) (answer-val r ∷ [])
   answer-is r is = LL.owed R.the-type R′.the-laws r _ is .0
 
-  -- the answer, both buffers and the table after the call
-  abbrev reencoding : Reencoding
-  reencoding = answer 𝓤 H A W mem run κs qs text settings work log formula table
+  -- the outcome, and both buffers after it
+  abbrev o : Checked Reencoded
+  o = out text settings work log formula (length (table .now))
 
   abbrev log-left : List ℕ
-  log-left = log-after 𝓤 H A W mem run κs qs text settings work log formula table
+  log-left = log-after o (log .now)
 
   abbrev formula-left : List ℕ
-  formula-left = formula-after 𝓤 H A W mem run κs qs text settings work log formula table
-
-  abbrev table-left : List ChoiceRecord
-  table-left = table-after 𝓤 H A W mem run κs qs text settings work log formula table
+  formula-left = formula-after o (formula .now)
 
   abbrev Post : Val → SProp 𝓤
   Post = walkOf 𝓤 H A reencode.ended stayed (reencode.clauses 𝓤 H A mem run) .post ((κs, qs, tt, a, vals), tt)
@@ -168,12 +167,12 @@ module _ {M : Type 1} (𝓤 : URA M) (H : Heap 𝓤) (A : Atoms 𝓤) (W : Given
   Had us zs n = Tokens 𝓤 5 κs qs
       ++ (‵ Text ∷ ‵ (finally i32 (work .name) us) ∷ ‵ (finally u8 (log .name) log-left) ∷ ‵ (finally u8 (formula .name) formula-left) ∷ ‵ (finally T.the-row (table .name) (filled zs n)) ∷ [])
 
-  exits : (w : Val) (r : Made) (us : List ℤ) (zs : List ℕ) → Told-rows 𝓤 H A W mem run κs qs text settings work log formula (lent-as 0 0) 4800 (length (table .now)) w r us zs → ent 𝓤 (⋆ 𝓤 H A (Had us zs (r .records))) (Post (answer-val r))
+  exits : (w : Val) (r : Made) (us : List ℤ) (zs : List ℕ) → Told w r us zs → ent 𝓤 (⋆ 𝓤 H A (Had us zs (r .records))) (Post (answer-val r))
   exits w r us zs known =
       qed W (Had us zs (r .records)) ∵
       suffices ! _ (ends-at 𝓤 H A reencode.ended stayed (reencode.clauses 𝓤 H A mem run) W ((κs, qs, tt, a, vals), tt) (answer-val r) (r .answer)
-      (tt, (tt, (us, (log-left, (formula-left, (filled zs (r .records), tt)))))) (tt, (tt, (known .5, (known .6, (known .7, (length-filled zs 0 (r .records) (table .now) (known .3), tt))))))) $
-      says-all ! (also 𝓤 (fact-of 𝓤 (r .answer ≡ reencoding) (known .2)) (also 𝓤 (fact-of 𝓤 (log-left ≡ log-left) refl) (also 𝓤 (fact-of 𝓤 (formula-left ≡ formula-left) refl) (fact-of 𝓤 (filled zs (r .records) ≡ table-left) (known .4 (table .now) refl))))) $
+      (tt, (tt, (us, (log-left, (formula-left, (filled zs (r .records), tt)))))) (tt, (tt, (known .5 .0, (known .5 .1, (known .5 .2, (length-filled zs 0 (r .records) (table .now) (known .3), tt))))))) $
+      says-all ! (also 𝓤 (fact-of 𝓤 (r .answer ≡ outcome-of o) (known .2)) (also 𝓤 (fact-of 𝓤 (log-left ≡ log-left) refl) (also 𝓤 (fact-of 𝓤 (formula-left ≡ formula-left) refl) (fact-of 𝓤 (filled zs (r .records) ≡ table-after o (table .now)) (known .4 (table .now) refl))))) $
       tokens-whole ! 5 κs qs $ frame ! $
       -- [the text; the last lists of work, log, formula and table]
       nothing ! $ move ! (5 ∷ 0 ∷ []) $ fjoin ! $ move ! (4 ∷ 0 ∷ []) $ fjoin ! $ move ! (3 ∷ 0 ∷ []) $ fjoin ! $ move ! (2 ∷ 0 ∷ []) $ fjoin ! $
@@ -211,7 +210,7 @@ module _ {M : Type 1} (𝓤 : URA M) (H : Heap 𝓤) (A : Atoms 𝓤) (W : Given
         -- [[text]; [work]; [log]; [formula]; [table]; table; true; formula; log; work; settings; text; text; rows; the lender's part; [ν]; _22; …; _0; …]
         move ! (0 ∷ 1 ∷ 2 ∷ 3 ∷ 15 ∷ 11 ∷ 9 ∷ 8 ∷ 7 ∷ 13 ∷ []) $ hands ! (Handed ν δ l₈) (Rows 𝓤 H A mem run .pre (called ν δ l₈)) (asks-rows 𝓤 H A W mem run (lfts ν) (shares) text settings work log formula (lent-as l₈ δ) 4800 (length (table .now)) enough settings-is (room₄ .0)) $
         calls-at ! fm (Rows 𝓤 H A mem run) known-rows (called ν δ l₈) (and-then ! (load ! (from ! (stop !)) (look ! 48 refl)) (and-then ! (load ! (from ! (stop !)) (look ! 46 refl)) (and-then ! (load ! (from ! (stop !)) (look ! 29 refl)) (and-then ! (load ! (from ! (stop !)) (look ! 25 refl)) (and-then ! (load ! (from ! (stop !)) (look ! 21 refl)) (and-then ! (load ! (from ! (stop !)) (look ! 17 refl)) (and-then ! (load ! (from ! (stop !)) (look ! 36 refl)) (no-more !)))))))) (λ w.
-        use1 W (later (some (λ (r : Made). some (λ (us : List ℤ). some (λ (zs : List ℕ). given (Told ν δ l₈ w r us zs) (raw (⋆ 𝓤 H A (Given-back ν δ l₈ us zs)))))))) (gives-rows 𝓤 H A W mem run (lfts ν) shares text settings work log formula (lent-as l₈ δ) 4800 (length (table .now)) w) $ await ! tt $ pick ! (λ r. pick ! (λ us. pick ! (λ zs. learn ! (λ e. spread ! (Given-back ν δ l₈ us zs) $
+        use1 W (later (some (λ (r : Made). some (λ (us : List ℤ). some (λ (zs : List ℕ). given (Told w r us zs) (raw (⋆ 𝓤 H A (Given-back ν δ l₈ us zs)))))))) (gives-rows 𝓤 H A W mem run (lfts ν) shares text settings work log formula (lent-as l₈ δ) 4800 (length (table .now)) w) $ await ! tt $ pick ! (λ r. pick ! (λ us. pick ! (λ zs. learn ! (λ e. spread ! (Given-back ν δ l₈ us zs) $
         -- [[text]; [work]; [log]; [formula]; [ν]; the last lists of work, log, formula and rows; [table]; table; true; settings; text; the lender's part; _22; …; _0; …]
         land ! (from ! (stop !)) (init ! 41 refl (subst (λ (v : Val). Holds (hasTy R′.mir v) × WT v) (sym (e .0)) (LL.lawful R.the-type R′.the-laws 𝓤 H A W .typed r _ (e .1) .0))) $ rewrite ! 41 (λ (v : Val). ‵ (fat fullShare R′.mir l₉ 0 v)) (e .0) refl $
         -- the lifetime is ended, and the rows come back

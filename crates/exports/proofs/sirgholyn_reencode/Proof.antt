@@ -40,19 +40,18 @@ use denote.Triple.Table.{entered, cited}
 use denote.Triple.Walked.{Stays, stay-none, stay-none-slice, gave-slice, walkOf, AllGo, goes-none, goes-none-slice, goes-gave-slice, Walks, ends-at, walked, walk-meets}
 use denote.Exit.{yes}
 use Rattle.definition.specs.Checked.{Checked}
-use Rattle.definition.specs.Calls.{Reencoded, buffer-after}
+use Rattle.definition.specs.Calls.{Reencoded}
 use Rattle.records.specs.declared.ChoiceRecord.{ChoiceRecord}
-use Rattle.records.specs.Rows.{no-record}
 use Rattle.records.proofs.ChoiceRecord as T
 use Rattle.records.proofs.Walking.{Tokens, tokens-apart, tokens-whole, hands, spread, frees-all, says-all, fact-of, also}
 use Rattle.run.specs.declared.Settings.{Settings}
 use Rattle.run.specs.Settings.{settings-of}
 use Rattle.run.proofs.Settings as S
 use Rattle.run.proofs.Settings.Laws as S′
-use Rattle.call_reencode.specs.Outcome.{outcome-of, outcome, shown-table}
+use Rattle.call_reencode.specs.Outcome.{outcome-of}
 use Rattle.call_reencode.proofs.Reencoding as E
 use Rattle.call_reencode.proofs.Reencoding.Laws as E′
-use Rattle.call_reencode.proofs.Called.{Reencode, to-reencode, For-reencode, Told-reencode, Of-reencode, asks-reencode, gives-reencode}
+use Rattle.call_reencode.proofs.Called.{out, log-after, formula-after, table-after, Reencode, to-reencode, For-reencode, Told-reencode, Of-reencode, asks-reencode, gives-reencode}
 use Rattle.call_reencode.proofs.reencode.Symbol as reencode-def
 use Rattle.call_reencode.proofs.reencode.Symbol.{name as #call-reencode·reencode}
 use Rattle.call_reencode.proofs.reencode.Met as reencode-thm
@@ -99,13 +98,13 @@ module _ {M : Type 1} (𝓤 : URA M) (H : Heap 𝓤) (A : Atoms 𝓤) (W : Given
   promised = reencoding form arrangement step (text .now) (work .now) (log .now) (formula .now) (length (table .now))
 
   abbrev log-by : Checked Reencoded → List ℕ
-  log-by o = buffer-after 0 o (λ r. r .log) (log .now)
+  log-by o = log-after o (log .now)
 
   abbrev formula-by : Checked Reencoded → List ℕ
-  formula-by o = buffer-after 0 o (λ r. r .formula) (formula .now)
+  formula-by o = formula-after o (formula .now)
 
   abbrev table-by : Checked Reencoded → List ChoiceRecord
-  table-by o = buffer-after no-record o shown-table (table .now)
+  table-by o = table-after o (table .now)
 
   abbrev tally-by : Checked Reencoded → List ℕ
   tally-by o = tally-after o reencoding-counts (tally .now)
@@ -124,22 +123,22 @@ module _ {M : Type 1} (𝓤 : URA M) (H : Heap 𝓤) (A : Atoms 𝓤) (W : Given
   Handed s = For-reencode 𝓤 H A W mem run lfts shares text s work log formula table
 
   abbrev Told : Settings → Val → List ℤ → Type 0
-  Told s = Told-reencode 𝓤 H A W mem run lfts shares text s work log formula table
+  Told s = Told-reencode text s work log formula (table .now)
 
   abbrev Given-back : Settings → List ℤ → List (Item 𝓤)
   Given-back s = Of-reencode 𝓤 H A W mem run lfts shares text s work log formula table
 
-  abbrev out : Settings → Checked Reencoded
-  out s = outcome s (text .now) (work .now) (log .now) (formula .now) (length (table .now))
+  abbrev outcome-with : Settings → Checked Reencoded
+  outcome-with s = out text s work log formula (length (table .now))
 
   abbrev answering : Settings → Answered 𝓤 H A mem run .Ghost
-  answering s = to-answered 𝓤 H A W mem run (κs .1 .1 .1 .1 .1 .0) (qs .1 .1 .1 .1 .1 .0) tally (out s)
+  answering s = to-answered 𝓤 H A W mem run (κs .1 .1 .1 .1 .1 .0) (qs .1 .1 .1 .1 .1 .0) tally (outcome-with s)
 
   abbrev Told-last : Settings → Val → Type 0
-  Told-last s = Told-answered 𝓤 H A W mem run (κs .1 .1 .1 .1 .1 .0) (qs .1 .1 .1 .1 .1 .0) tally (out s)
+  Told-last s = Told-answered 𝓤 H A W mem run (κs .1 .1 .1 .1 .1 .0) (qs .1 .1 .1 .1 .1 .0) tally (outcome-with s)
 
   abbrev Given-last : Settings → List (Item 𝓤)
-  Given-last s = Of-answered 𝓤 H A W mem run (κs .1 .1 .1 .1 .1 .0) (qs .1 .1 .1 .1 .1 .0) tally (out s)
+  Given-last s = Of-answered 𝓤 H A W mem run (κs .1 .1 .1 .1 .1 .0) (qs .1 .1 .1 .1 .1 .0) tally (outcome-with s)
 
   abbrev Post : Val → SProp 𝓤
   Post = walkOf 𝓤 H A exported.ended stayed (exported.clauses 𝓤 H A mem run) .post ((κs, qs, tt, a, vals), tt)
@@ -148,19 +147,19 @@ module _ {M : Type 1} (𝓤 : URA M) (H : Heap 𝓤) (A : Atoms 𝓤) (W : Given
   Had us o = Tokens 𝓤 6 κs qs
       ++ (‵ Text ∷ ‵ (finally i32 (work .name) us) ∷ ‵ (finally u8 (log .name) (log-by o)) ∷ ‵ (finally u8 (formula .name) (formula-by o)) ∷ ‵ (finally T.the-row (table .name) (table-by o)) ∷ ‵ (finally u64 (tally .name) (tally-by o)) ∷ [])
 
-  exits : (w₁ w₂ : Val) (s : Settings) (us : List ℤ) → settings-of s ≡ settings-number form arrangement step → Told s w₁ us → Told-last s w₂ → ent 𝓤 (⋆ 𝓤 H A (Had us (out s))) (Post (vint w32 (number-of (out s))))
+  exits : (w₁ w₂ : Val) (s : Settings) (us : List ℤ) → settings-of s ≡ settings-number form arrangement step → Told s w₁ us → Told-last s w₂ → ent 𝓤 (⋆ 𝓤 H A (Had us (outcome-with s))) (Post (vint w32 (number-of (outcome-with s))))
   exits w₁ w₂ s us named-so e e₂ =
-      let same : out s ≡ promised = same-outcome s form arrangement step (text .now) (work .now) (log .now) (formula .now) (length (table .now)) named-so in
-      qed W (Had us (out s)) ∵
-      suffices ! _ (ends-at 𝓤 H A exported.ended stayed (exported.clauses 𝓤 H A mem run) W ((κs, qs, tt, a, vals), tt) (vint w32 (number-of (out s))) (number-of (out s))
-      (tt, (tt, (tt, (tt, (us, (log-by (out s), (formula-by (out s), (table-by (out s), (tally-by (out s), tt))))))))) (tt, (tt, (tt, (tt, (e .2, (e .3, (e .4, (e .5, (e₂ .2, tt)))))))))) $
-      says-all ! (also 𝓤 (fact-of 𝓤 (number-of (out s) ≡ number-of promised) (ap (λ (o : Checked Reencoded). number-of o) same)) (also 𝓤 (fact-of 𝓤 (log-by (out s) ≡ log-by promised) (ap log-by same)) (also 𝓤 (fact-of 𝓤 (formula-by (out s) ≡ formula-by promised) (ap formula-by same))
-      (also 𝓤 (fact-of 𝓤 (table-by (out s) ≡ table-by promised) (ap table-by same)) (fact-of 𝓤 (tally-by (out s) ≡ tally-by promised) (ap tally-by same)))))) $
+      let same : outcome-with s ≡ promised = same-outcome s form arrangement step (text .now) (work .now) (log .now) (formula .now) (length (table .now)) named-so in
+      qed W (Had us (outcome-with s)) ∵
+      suffices ! _ (ends-at 𝓤 H A exported.ended stayed (exported.clauses 𝓤 H A mem run) W ((κs, qs, tt, a, vals), tt) (vint w32 (number-of (outcome-with s))) (number-of (outcome-with s))
+      (tt, (tt, (tt, (tt, (us, (log-by (outcome-with s), (formula-by (outcome-with s), (table-by (outcome-with s), (tally-by (outcome-with s), tt))))))))) (tt, (tt, (tt, (tt, (e .2 .0, (e .2 .1, (e .2 .2, (e .3, (e₂ .2, tt)))))))))) $
+      says-all ! (also 𝓤 (fact-of 𝓤 (number-of (outcome-with s) ≡ number-of promised) (ap (λ (o : Checked Reencoded). number-of o) same)) (also 𝓤 (fact-of 𝓤 (log-by (outcome-with s) ≡ log-by promised) (ap log-by same)) (also 𝓤 (fact-of 𝓤 (formula-by (outcome-with s) ≡ formula-by promised) (ap formula-by same))
+      (also 𝓤 (fact-of 𝓤 (table-by (outcome-with s) ≡ table-by promised) (ap table-by same)) (fact-of 𝓤 (tally-by (outcome-with s) ≡ tally-by promised) (ap tally-by same)))))) $
       tokens-whole ! 6 κs qs $ frame ! $
       -- [the text; the last lists of work, log, formula, table and tally]
       nothing ! $ move ! (6 ∷ 0 ∷ []) $ fjoin ! $ move ! (5 ∷ 0 ∷ []) $ fjoin ! $ move ! (4 ∷ 0 ∷ []) $ fjoin ! $ move ! (3 ∷ 0 ∷ []) $ fjoin ! $ move ! (2 ∷ 0 ∷ []) $ fjoin ! $
       owned ! u32 (Is u32) (uint-makes 𝓤 H A W w32) step _ (refl, step-fits) $ fjoin ! $ owned ! u32 (Is u32) (uint-makes 𝓤 H A W w32) arrangement _ (refl, arrangement-fits) $ fjoin ! $ owned ! u32 (Is u32) (uint-makes 𝓤 H A W w32) form _ (refl, form-fits) $ fjoin ! $ move ! (1 ∷ 0 ∷ []) $ fjoin ! $ frame ! $
-      owned ! u32 (Is u32) (uint-makes 𝓤 H A W w32) (number-of (out s)) _ (refl, e₂ .1) $ done !
+      owned ! u32 (Is u32) (uint-makes 𝓤 H A W w32) (number-of (outcome-with s)) _ (refl, e₂ .1) $ done !
 
   module _ (C : Calls 𝓤 H) (Λ : Loops 𝓤 H) (fm : FmC 𝓤 H (W .laws) C) (known-named : Triple 𝓤 (C #exports·settings-named) (Named 𝓤 H A mem run)) (known-reencode : Triple 𝓤 (C #call-reencode·reencode) (Reencode 𝓤 H A mem run)) (known-answered : Triple 𝓤 (C #exports·answered) (Answered 𝓤 H A mem run)) where
     walk : ent 𝓤 (onEntry 𝓤 H A exported.signature κs qs a vals) (WpFn 𝓤 H C Λ code.function machs Post)
@@ -190,12 +189,12 @@ module _ {M : Type 1} (𝓤 : URA M) (H : Heap 𝓤) (A : Atoms 𝓤) (W : Given
         calls-at ! fm (Reencode 𝓤 H A mem run) known-reencode (called s) (and-then ! (load ! (from ! (stop !)) (look ! 48 refl)) (and-then ! (load ! (from ! (stop !)) (look ! 30 refl)) (and-then ! (load ! (from ! (stop !)) (look ! 24 refl)) (and-then ! (load ! (from ! (stop !)) (look ! 20 refl)) (and-then ! (load ! (from ! (stop !)) (look ! 16 refl)) (and-then ! (load ! (from ! (stop !)) (look ! 12 refl)) (no-more !))))))) (λ w₁.
         use1 W (later (some (λ (us : List ℤ). given (Told s w₁ us) (raw (⋆ 𝓤 H A (Given-back s us)))))) (gives-reencode 𝓤 H A W mem run lfts shares text s work log formula table w₁) $ await ! tt $ pick ! (λ us. learn ! (λ e. spread ! (Given-back s us) $
         -- [[text]; [work]; [log]; [formula]; [table]; the last lists of work, log, formula and table; [tally]; tally; true; step; arrangement; form; text; _21; …; _0; …]
-        land ! (from ! (stop !)) (init ! 36 refl (subst (λ (v : Val). Holds (hasTy E′.mir v) × WT v) (sym (e .0)) (EL.lawful E.the-type E′.the-laws 𝓤 H A W tt .typed (outcome-of (out s)) _ (e .1) .0))) $ rewrite ! 36 (λ (v : Val). ‵ (fat fullShare E′.mir l₁₁ 0 v)) (e .0) refl $
+        land ! (from ! (stop !)) (init ! 36 refl (subst (λ (v : Val). Holds (hasTy E′.mir v) × WT v) (sym (e .0)) (EL.lawful E.the-type E′.the-laws 𝓤 H A W tt .typed (outcome-of (outcome-with s)) _ (e .1) .0))) $ rewrite ! 36 (λ (v : Val). ‵ (fat fullShare E′.mir l₁₁ 0 v)) (e .0) refl $
         assigns ! (addr ! (from ! (fld ! refl (hop ! (look-in ! 40 (sub ! 0 refl (whole !))) (stop !))))) (from ! (stop !)) (init ! 18 refl (tt, tt)) $
         assigns ! (agg ! (and-then ! (load ! (from ! (stop !)) (look ! 18 refl)) (and-then ! (load ! (from ! (fld ! refl (stop !))) (look-in ! 40 (sub ! 1 refl (whole !)))) (no-more !)))) (from ! (stop !)) (init ! 16 refl (tt, (tt, (record { fits = room₅ .0 }, tt)))) $
-        move ! (9 ∷ 10 ∷ []) $ hands ! (For-answered 𝓤 H A W mem run (κs .1 .1 .1 .1 .1 .0) (qs .1 .1 .1 .1 .1 .0) tally (out s)) (Answered 𝓤 H A mem run .pre (answering s)) (asks-answered 𝓤 H A W mem run (κs .1 .1 .1 .1 .1 .0) (qs .1 .1 .1 .1 .1 .0) tally (out s) (e .1)) $
+        move ! (9 ∷ 10 ∷ []) $ hands ! (For-answered 𝓤 H A W mem run (κs .1 .1 .1 .1 .1 .0) (qs .1 .1 .1 .1 .1 .0) tally (outcome-with s)) (Answered 𝓤 H A mem run .pre (answering s)) (asks-answered 𝓤 H A W mem run (κs .1 .1 .1 .1 .1 .0) (qs .1 .1 .1 .1 .1 .0) tally (outcome-with s) (e .1)) $
         calls-at ! fm (Answered 𝓤 H A mem run) known-answered (answering s) (and-then ! (load ! (from ! (stop !)) (look ! 15 refl)) (and-then ! (load ! (from ! (stop !)) (look ! 35 refl)) (no-more !))) (λ w₂.
-        use1 W (later (given (Told-last s w₂) (raw (⋆ 𝓤 H A (Given-last s))))) (gives-answered 𝓤 H A W mem run (κs .1 .1 .1 .1 .1 .0) (qs .1 .1 .1 .1 .1 .0) tally (out s) w₂) $ await ! tt $ learn ! (λ e₂. spread ! (Given-last s) $
+        use1 W (later (given (Told-last s w₂) (raw (⋆ 𝓤 H A (Given-last s))))) (gives-answered 𝓤 H A W mem run (κs .1 .1 .1 .1 .1 .0) (qs .1 .1 .1 .1 .1 .0) tally (outcome-with s) w₂) $ await ! tt $ learn ! (λ e₂. spread ! (Given-last s) $
         -- [[tally]; the tally's last list; [text]; [work]; [log]; [formula]; [table]; the last lists of work, log, formula and table; true; step; arrangement; form; text; _21; …; _0; …]
         land ! (from ! (stop !)) (init ! 58 refl (subst (λ (v : Val). Holds (hasTy (tyInt w32) v) × WT v) (sym (e₂ .0)) (tt, record { fits = e₂ .1 }))) $ rewrite ! 58 (λ (v : Val). ‵ (fat fullShare (tyInt w32) l₀ 0 v)) (e₂ .0) refl $
         returns ! (look ! 58 refl) $ forget ! 16 refl $ forget ! 18 refl $ forget ! 20 refl $ forget ! 22 refl $ forget ! 24 refl $ forget ! 26 refl $ forget ! 28 refl $ forget ! 30 refl $ forget ! 32 refl $ forget ! 34 refl $ forget ! 36 refl $ forget ! 38 refl $ forget ! 40 refl $ forget ! 42 refl $ forget ! 44 refl $ forget ! 46 refl $ forget ! 48 refl $ forget ! 50 refl $ forget ! 52 refl $ forget ! 54 refl $ forget ! 56 refl $ forget ! 58 refl $

@@ -20,12 +20,12 @@ pub fn print_end() {
 }
 
 // Counter form.
-fn counter(arrangement: Arrangement) -> Settings {
+fn counter(arrangement: Arrangement, step: u32) -> Settings {
     let form = Form::Counter;
     Settings {
         form,
         arrangement,
-        step: 1,
+        step,
     }
 }
 
@@ -40,11 +40,11 @@ fn print_tally(t: Tally) {
 }
 
 // Prints the result, or the number of the refusal.
-fn print_outcome(text: &[u8]) {
+fn print_outcome(text: &[u8], step: u32) {
     let mut work = [0i32; 16384];
     let mut log = [0u8; 1024];
     let mut formula = [0u8; 1024];
-    let s = counter(Arrangement::AsListed);
+    let s = counter(Arrangement::AsListed, step);
     match call_reencode::reencode_texts(text, s, &mut work, &mut log, &mut formula) {
         Reencoding::Done(t) => {
             io::write_all(STDOUT_FILENO, b"accepted");
@@ -57,12 +57,21 @@ fn print_outcome(text: &[u8]) {
 
 // The six texts with V 1, C 1.
 fn print_outcomes() {
-    print_outcome(b"p cnf 1 1\n1 1 0\n");
-    print_outcome(b"p cnf 1 1\n1 -1 0\n");
-    print_outcome(b"p cnf 1 1\n2 0\n");
-    print_outcome(b"p cnf 1 1\n-0\n");
-    print_outcome(b"p cnf 1 1\n1\n");
-    print_outcome(b"p cnf 1 1\n1 0 1 0\n");
+    print_outcome(b"p cnf 1 1\n1 1 0\n", 1);
+    print_outcome(b"p cnf 1 1\n1 -1 0\n", 1);
+    print_outcome(b"p cnf 1 1\n2 0\n", 1);
+    print_outcome(b"p cnf 1 1\n-0\n", 1);
+    print_outcome(b"p cnf 1 1\n1\n", 1);
+    print_outcome(b"p cnf 1 1\n1 0 1 0\n", 1);
+}
+
+// Three clauses that are resolved into one choice: at the step 1, at the greatest step, and past both ends.
+fn print_steps() {
+    let text = b"p cnf 8 3\n1 2 3 0\n-3 4 5 0\n-5 6 7 8 0\n";
+    print_outcome(text, 1);
+    print_outcome(text, 100);
+    print_outcome(text, 0);
+    print_outcome(text, 101);
 }
 
 // Prints the result for a formula with one unique literal clause of a size, up to 65: with that 17,296 entries are asked for.
@@ -75,7 +84,7 @@ fn print_size(size: u8) {
     io::write_all(STDOUT_FILENO, b"size");
     print_number(size as usize);
     if n <= text.len() {
-        let s = counter(Arrangement::AsListed);
+        let s = counter(Arrangement::AsListed, 1);
         match call_reencode::reencode_texts(&text[..n], s, &mut work, &mut log, &mut formula) {
             Reencoding::Done(t) => print_tally(t),
             Reencoding::Refused(k) => prog_common::print_refusal(k),
@@ -91,7 +100,7 @@ fn print_alignment(arrangement: Arrangement) {
     let mut work = [0i32; 16384];
     let mut log = [0u8; 1024];
     let mut formula = [0u8; 1024];
-    let s = counter(arrangement);
+    let s = counter(arrangement, 1);
     match call_reencode::reencode_texts(text, s, &mut work, &mut log, &mut formula) {
         Reencoding::Done(_) => {
             let a = texts::past_lines(&log, 33);
@@ -104,6 +113,7 @@ fn print_alignment(arrangement: Arrangement) {
 
 fn main() {
     print_outcomes();
+    print_steps();
     print_size(4);
     print_size(5);
     print_size(64);

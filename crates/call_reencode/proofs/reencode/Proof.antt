@@ -185,8 +185,16 @@ module _ {M : Type 1} (𝓤 : URA M) (H : Heap 𝓤) (A : Atoms 𝓤) (W : Given
         qed W (raw (toks 𝓤 A 5 κs qs)
         ∷ ‵ (owns (ShrSlice (named 0) (κs .0) u8 ∷ S.the-row ∷ MutSlice (named 1) (κs .1 .0) i32 ∷ MutSlice (named 2) (κs .1 .1 .0) u8 ∷ MutSlice (named 3) (κs .1 .1 .1 .0) u8 ∷ MutSlice (named 4) (κs .1 .1 .1 .1 .0) T.the-row ∷ []) a vals) ∷ []) ∵
         enter ! C Λ code.function machs _ $
-        alloc1 ! (λ l₀. alloc1 ! (λ l₁. alloc1 ! (λ l₂. alloc1 ! (λ l₃. alloc1 ! (λ l₄. alloc1 ! (λ l₅. alloc1 ! (λ l₆. alloc1 ! (λ l₇. alloc1 ! (λ l₈. alloc1 ! (λ l₉. alloc1 ! (λ l₁₀. alloc1 ! (λ l₁₁. alloc1 ! (λ l₁₂. alloc1 ! (λ l₁₃. alloc1 ! (λ l₁₄. alloc1 ! (λ l₁₅. alloc1 ! (λ l₁₆. alloc1 ! (λ l₁₇. alloc1 ! (λ l₁₈. alloc1 ! (λ l₁₉. alloc1 ! (λ l₂₀. alloc1 ! (λ l₂₁. alloc1 ! (λ l₂₂. alloc0 ! $ params1 ! $
-        pass1 ! (init ! 42 refl (tt, (tt, (record { fits = room .0 }, tt)))) $ pass1 ! (init ! 40 refl (LL.lawful S.the-type S′.the-laws 𝓤 H A W .typed settings _ settings-is .0)) $ pass1 ! (init ! 38 refl (tt, (tt, (record { fits = room₁ .0 }, tt)))) $ pass1 ! (init ! 36 refl (tt, (tt, (record { fits = room₂ .0 }, tt)))) $ pass1 ! (init ! 34 refl (tt, (tt, (record { fits = room₃ .0 }, tt)))) $ pass1 ! (init ! 32 refl (tt, (tt, (record { fits = room₄ .0 }, tt)))) $ pass0 ! $
+        alloc1 ! (λ l₀. alloc1 ! (λ l₁. alloc1 ! (λ l₂. alloc1 ! (λ l₃. alloc1 ! (λ l₄. alloc1 ! (λ l₅.
+        alloc1 ! (λ l₆. alloc1 ! (λ l₇. alloc1 ! (λ l₈. alloc1 ! (λ l₉. alloc1 ! (λ l₁₀. alloc1 ! (λ l₁₁.
+        alloc1 ! (λ l₁₂. alloc1 ! (λ l₁₃. alloc1 ! (λ l₁₄. alloc1 ! (λ l₁₅. alloc1 ! (λ l₁₆. alloc1 ! (λ l₁₇.
+        alloc1 ! (λ l₁₈. alloc1 ! (λ l₁₉. alloc1 ! (λ l₂₀. alloc1 ! (λ l₂₁. alloc1 ! (λ l₂₂. alloc0 ! $ params1 ! $
+        pass1 ! (init ! 42 refl (tt, (tt, (record { fits = room .0 }, tt)))) $
+        pass1 ! (init ! 40 refl (LL.lawful S.the-type S′.the-laws 𝓤 H A W .typed settings _ settings-is .0)) $
+        pass1 ! (init ! 38 refl (tt, (tt, (record { fits = room₁ .0 }, tt)))) $
+        pass1 ! (init ! 36 refl (tt, (tt, (record { fits = room₂ .0 }, tt)))) $
+        pass1 ! (init ! 34 refl (tt, (tt, (record { fits = room₃ .0 }, tt)))) $
+        pass1 ! (init ! 32 refl (tt, (tt, (record { fits = room₄ .0 }, tt)))) $ pass0 ! $
         -- [_22; …; _0; …; the tokens; what the parameters own]
         assigns ! (of-opd ! (load ! (from ! (fld ! refl (stop !))) (look-in ! 32 (sub ! 1 refl (whole !))))) (from ! (stop !)) (init ! 30 refl (tt, record { fits = room₄ .0 })) $
         -- the rows are written
@@ -209,8 +217,13 @@ module _ {M : Type 1} (𝓤 : URA M) (H : Heap 𝓤) (A : Atoms 𝓤) (W : Given
         move ! (56 ∷ []) $ tokens-apart ! 5 κs qs $
         -- [[text]; [work]; [log]; [formula]; [table]; table; true; formula; log; work; settings; text; text; rows; the lender's part; [ν]; _22; …; _0; …]
         move ! (0 ∷ 1 ∷ 2 ∷ 3 ∷ 15 ∷ 11 ∷ 9 ∷ 8 ∷ 7 ∷ 13 ∷ []) $ hands ! (Handed ν δ l₈) (Rows 𝓤 H A mem run .pre (called ν δ l₈)) (asks-rows 𝓤 H A W mem run (lfts ν) (shares) text settings work log formula (lent-as l₈ δ) 4800 (length (table .now)) enough settings-is (room₄ .0)) $
-        calls-at ! fm (Rows 𝓤 H A mem run) known-rows (called ν δ l₈) (and-then ! (load ! (from ! (stop !)) (look ! 48 refl)) (and-then ! (load ! (from ! (stop !)) (look ! 46 refl)) (and-then ! (load ! (from ! (stop !)) (look ! 29 refl)) (and-then ! (load ! (from ! (stop !)) (look ! 25 refl)) (and-then ! (load ! (from ! (stop !)) (look ! 21 refl)) (and-then ! (load ! (from ! (stop !)) (look ! 17 refl)) (and-then ! (load ! (from ! (stop !)) (look ! 36 refl)) (no-more !)))))))) (λ w.
-        use1 W (later (some (λ (r : Made). some (λ (us : List ℤ). some (λ (zs : List ℕ). given (Told w r us zs) (raw (⋆ 𝓤 H A (Given-back ν δ l₈ us zs)))))))) (gives-rows 𝓤 H A W mem run (lfts ν) shares text settings work log formula (lent-as l₈ δ) 4800 (length (table .now)) w) $ await ! tt $ pick ! (λ r. pick ! (λ us. pick ! (λ zs. learn ! (λ e. spread ! (Given-back ν δ l₈ us zs) $
+        calls-at ! fm (Rows 𝓤 H A mem run) known-rows (called ν δ l₈)
+        (and-then ! (load ! (from ! (stop !)) (look ! 48 refl)) (and-then ! (load ! (from ! (stop !)) (look ! 46 refl))
+        (and-then ! (load ! (from ! (stop !)) (look ! 29 refl)) (and-then ! (load ! (from ! (stop !)) (look ! 25 refl))
+        (and-then ! (load ! (from ! (stop !)) (look ! 21 refl)) (and-then ! (load ! (from ! (stop !)) (look ! 17 refl))
+        (and-then ! (load ! (from ! (stop !)) (look ! 36 refl)) (no-more !)))))))) (λ w.
+        use1 W (later (some (λ (r : Made). some (λ (us : List ℤ). some (λ (zs : List ℕ). given (Told w r us zs) (raw (⋆ 𝓤 H A (Given-back ν δ l₈ us zs)))))))) (gives-rows 𝓤 H A W mem run (lfts ν) shares text settings work log formula (lent-as l₈ δ) 4800 (length (table .now)) w) $
+        await ! tt $ pick ! (λ r. pick ! (λ us. pick ! (λ zs. learn ! (λ e. spread ! (Given-back ν δ l₈ us zs) $
         -- [[text]; [work]; [log]; [formula]; [ν]; the last lists of work, log, formula and rows; [table]; table; true; settings; text; the lender's part; _22; …; _0; …]
         land ! (from ! (stop !)) (init ! 41 refl (subst (λ (v : Val). Holds (hasTy R′.mir v) × WT v) (sym (e .0)) (LL.lawful R.the-type R′.the-laws 𝓤 H A W .typed r _ (e .1) .0))) $ rewrite ! 41 (λ (v : Val). ‵ (fat fullShare R′.mir l₉ 0 v)) (e .0) refl $
         -- the lifetime is ended, and the rows come back
@@ -222,7 +235,8 @@ module _ {M : Type 1} (𝓤 : URA M) (H : Heap 𝓤) (A : Atoms 𝓤) (W : Given
         assigns ! (agg ! (and-then ! (load ! (from ! (stop !)) (look ! 15 refl)) (and-then ! (big-lit ! (record { fits = rows-room .0 })) (no-more !)))) (from ! (stop !)) (init ! 13 refl (tt, (tt, (record { fits = rows-room .0 }, tt)))) $
         -- they are lent again, to be read
         lft-new ! tt (λ ν′. move ! (1 ∷ []) $ use1 W (later (some (λ (δ′ : GName). ‵ (LentShr u32 4800 l₈ 𝓤 H A W (named 1) (ν′ ∷ []) rows-room zs δ′)))) (lends-shr u32 4800 l₈ 𝓤 H A W (named 1) (ν′ ∷ []) rows-room zs) $ await ! tt $ pick ! (λ δ′. fsplit ! $
-        move ! (10 ∷ 2 ∷ 11 ∷ 0 ∷ []) $ hands ! (For-fill′ ν′ δ′ l₈ zs (r .records)) (Fill 𝓤 H A mem run .pre (filling ν′ δ′ l₈ zs (r .records))) (asks-fill 𝓤 H A W mem run (κs .1 .1 .1 .1 .0) (ν′ ∷ []) (qs .1 .1 .1 .1 .0) fullShare table (length (table .now)) (of-local u32 4800 l₈ δ′ zs) 4800 (r .records) (e .3) (LL.owed R.the-type R′.the-laws r _ (e .1) .1 .0 .1)) $
+        move ! (10 ∷ 2 ∷ 11 ∷ 0 ∷ []) $
+        hands ! (For-fill′ ν′ δ′ l₈ zs (r .records)) (Fill 𝓤 H A mem run .pre (filling ν′ δ′ l₈ zs (r .records))) (asks-fill 𝓤 H A W mem run (κs .1 .1 .1 .1 .0) (ν′ ∷ []) (qs .1 .1 .1 .1 .0) fullShare table (length (table .now)) (of-local u32 4800 l₈ δ′ zs) 4800 (r .records) (e .3) (LL.owed R.the-type R′.the-laws r _ (e .1) .1 .0 .1)) $
         calls-at ! fm (Fill 𝓤 H A mem run) known-fill (filling ν′ δ′ l₈ zs (r .records)) (and-then ! (load ! (from ! (stop !)) (look ! 16 refl)) (and-then ! (load ! (from ! (stop !)) (look ! 12 refl)) (and-then ! (load ! (from ! (fld ! refl (stop !))) (look-in ! 38 (sub ! 1 refl (whole !)))) (no-more !)))) (λ u.
         use1 W (later (given (u ≡ vunit) (raw (⋆ 𝓤 H A (Of-fill′ ν′ δ′ l₈ zs (r .records)))))) (gives-fill 𝓤 H A W mem run (κs .1 .1 .1 .1 .0) (ν′ ∷ []) (qs .1 .1 .1 .1 .0) fullShare table (length (table .now)) (of-local u32 4800 l₈ δ′ zs) 4800 (r .records) u) $ await ! tt $ learn ! (λ e′. spread ! (Of-fill′ ν′ δ′ l₈ zs (r .records)) $
         -- [[table]; [ν′]; the table's last list; the lender's part; [text]; [work]; [log]; [formula]; the last lists of work, log and formula; true; settings; text; _22; …; _0; …]
@@ -230,7 +244,10 @@ module _ {M : Type 1} (𝓤 : URA M) (H : Heap 𝓤) (A : Atoms 𝓤) (W : Given
         move ! (1 ∷ []) $ lft-end ! tt $ move ! (0 ∷ 3 ∷ []) $ use2 W (later (‵ (Array-at u32 4800 l₈ zs))) (shr-back u32 4800 l₈ 𝓤 H A W (ν′ ∷ []) zs) $ await ! tt $ use1 W (‵ (froom (tyArray (tyInt w32) 4800) l₈ 0)) (array-room u32 4800 l₈ 𝓤 H A W zs) $
         -- [room for _8; [table]; the table's last list; [text]; [work]; [log]; [formula]; the last lists of work, log and formula; true; settings; text; _22; …; _0; …]
         assigns ! (of-opd ! (load ! (from ! (fld ! refl (stop !))) (look-in ! 39 (sub ! 0 refl (whole !))))) (from ! (stop !)) (init ! 56 refl (EL.lawful E.the-type E′.the-laws 𝓤 H A W tt .typed (r .answer) _ (answer-is r (e .1)) .0)) $
-        returns ! (look ! 56 refl) $ forget ! 13 refl $ forget ! 15 refl $ forget ! 17 refl $ forget ! 19 refl $ forget ! 21 refl $ forget ! 23 refl $ forget ! 25 refl $ forget ! 27 refl $ forget ! 29 refl $ forget ! 31 refl $ forget ! 33 refl $ forget ! 35 refl $ forget ! 37 refl $ forget ! 39 refl $ forget ! 42 refl $ forget ! 44 refl $ forget ! 46 refl $ forget ! 48 refl $ forget ! 50 refl $ forget ! 52 refl $ forget ! 54 refl $ forget ! 56 refl $
+        returns ! (look ! 56 refl) $ forget ! 13 refl $ forget ! 15 refl $ forget ! 17 refl $ forget ! 19 refl $ forget ! 21 refl $
+        forget ! 23 refl $ forget ! 25 refl $ forget ! 27 refl $ forget ! 29 refl $ forget ! 31 refl $ forget ! 33 refl $
+        forget ! 35 refl $ forget ! 37 refl $ forget ! 39 refl $ forget ! 42 refl $ forget ! 44 refl $ forget ! 46 refl $
+        forget ! 48 refl $ forget ! 50 refl $ forget ! 52 refl $ forget ! 54 refl $ forget ! 56 refl $
         move ! (56 ∷ 57 ∷ 54 ∷ 55 ∷ 52 ∷ 53 ∷ 50 ∷ 51 ∷ 48 ∷ 49 ∷ 46 ∷ 47 ∷ 44 ∷ 45 ∷ 42 ∷ 43 ∷ 0 ∷ 41 ∷ 39 ∷ 40 ∷ 37 ∷ 38 ∷ 35 ∷ 36 ∷ 33 ∷ 34 ∷ 31 ∷ 32 ∷ 29 ∷ 30 ∷ 27 ∷ 28 ∷ 25 ∷ 26 ∷ 23 ∷ 24 ∷ 21 ∷ 22 ∷ 19 ∷ 20 ∷ 17 ∷ 18 ∷ 15 ∷ 16 ∷ 13 ∷ 14 ∷ []) $ frees-all ! $
         keep ! (2 ∷ 3 ∷ 4 ∷ 5 ∷ 0 ∷ 11 ∷ 6 ∷ 7 ∷ 8 ∷ 1 ∷ []) $ by ! (exits w r us zs e))))))))))))))))))))))))))))))))))))
 

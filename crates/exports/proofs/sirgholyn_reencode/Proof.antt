@@ -167,8 +167,19 @@ module _ {M : Type 1} (𝓤 : URA M) (H : Heap 𝓤) (A : Atoms 𝓤) (W : Given
         qed W (raw (toks 𝓤 A 6 κs qs)
         ∷ ‵ (owns (ShrSlice (named 0) (κs .0) u8 ∷ u32 ∷ u32 ∷ u32 ∷ MutSlice (named 1) (κs .1 .0) i32 ∷ MutSlice (named 2) (κs .1 .1 .0) u8 ∷ MutSlice (named 3) (κs .1 .1 .1 .0) u8 ∷ MutSlice (named 4) (κs .1 .1 .1 .1 .0) T.the-row ∷ MutSlice (named 5) (κs .1 .1 .1 .1 .1 .0) u64 ∷ []) a vals) ∷ []) ∵
         enter ! C Λ code.function machs _ $
-        alloc1 ! (λ l₀. alloc1 ! (λ l₁. alloc1 ! (λ l₂. alloc1 ! (λ l₃. alloc1 ! (λ l₄. alloc1 ! (λ l₅. alloc1 ! (λ l₆. alloc1 ! (λ l₇. alloc1 ! (λ l₈. alloc1 ! (λ l₉. alloc1 ! (λ l₁₀. alloc1 ! (λ l₁₁. alloc1 ! (λ l₁₂. alloc1 ! (λ l₁₃. alloc1 ! (λ l₁₄. alloc1 ! (λ l₁₅. alloc1 ! (λ l₁₆. alloc1 ! (λ l₁₇. alloc1 ! (λ l₁₈. alloc1 ! (λ l₁₉. alloc1 ! (λ l₂₀. alloc1 ! (λ l₂₁. alloc0 ! $ params1 ! $
-        pass1 ! (init ! 40 refl (tt, (tt, (record { fits = room .0 }, tt)))) $ pass1 ! (init ! 38 refl (tt, record { fits = form-fits })) $ pass1 ! (init ! 36 refl (tt, record { fits = arrangement-fits })) $ pass1 ! (init ! 34 refl (tt, record { fits = step-fits })) $ pass1 ! (init ! 32 refl (tt, (tt, (record { fits = room₁ .0 }, tt)))) $ pass1 ! (init ! 30 refl (tt, (tt, (record { fits = room₂ .0 }, tt)))) $ pass1 ! (init ! 28 refl (tt, (tt, (record { fits = room₃ .0 }, tt)))) $ pass1 ! (init ! 26 refl (tt, (tt, (record { fits = room₄ .0 }, tt)))) $ pass1 ! (init ! 24 refl (tt, (tt, (record { fits = room₅ .0 }, tt)))) $ pass0 ! $
+        alloc1 ! (λ l₀. alloc1 ! (λ l₁. alloc1 ! (λ l₂. alloc1 ! (λ l₃. alloc1 ! (λ l₄. alloc1 ! (λ l₅.
+        alloc1 ! (λ l₆. alloc1 ! (λ l₇. alloc1 ! (λ l₈. alloc1 ! (λ l₉. alloc1 ! (λ l₁₀. alloc1 ! (λ l₁₁.
+        alloc1 ! (λ l₁₂. alloc1 ! (λ l₁₃. alloc1 ! (λ l₁₄. alloc1 ! (λ l₁₅. alloc1 ! (λ l₁₆. alloc1 ! (λ l₁₇.
+        alloc1 ! (λ l₁₈. alloc1 ! (λ l₁₉. alloc1 ! (λ l₂₀. alloc1 ! (λ l₂₁. alloc0 ! $ params1 ! $
+        pass1 ! (init ! 40 refl (tt, (tt, (record { fits = room .0 }, tt)))) $
+        pass1 ! (init ! 38 refl (tt, record { fits = form-fits })) $
+        pass1 ! (init ! 36 refl (tt, record { fits = arrangement-fits })) $
+        pass1 ! (init ! 34 refl (tt, record { fits = step-fits })) $
+        pass1 ! (init ! 32 refl (tt, (tt, (record { fits = room₁ .0 }, tt)))) $
+        pass1 ! (init ! 30 refl (tt, (tt, (record { fits = room₂ .0 }, tt)))) $
+        pass1 ! (init ! 28 refl (tt, (tt, (record { fits = room₃ .0 }, tt)))) $
+        pass1 ! (init ! 26 refl (tt, (tt, (record { fits = room₄ .0 }, tt)))) $
+        pass1 ! (init ! 24 refl (tt, (tt, (record { fits = room₅ .0 }, tt)))) $ pass0 ! $
         -- [_21; …; _0; …; the tokens; what the parameters own]
         hands ! [] (Named 𝓤 H A mem run .pre (to-named 𝓤 H A W mem run form arrangement step)) (asks-named 𝓤 H A W mem run form arrangement step form-fits arrangement-fits step-fits) $
         calls-at ! fm (Named 𝓤 H A mem run) known-named (to-named 𝓤 H A W mem run form arrangement step) (and-then ! (load ! (from ! (stop !)) (look ! 39 refl)) (and-then ! (load ! (from ! (stop !)) (look ! 37 refl)) (and-then ! (load ! (from ! (stop !)) (look ! 35 refl)) (no-more !)))) (λ w.
@@ -182,11 +193,17 @@ module _ {M : Type 1} (𝓤 : URA M) (H : Heap 𝓤) (A : Atoms 𝓤) (W : Given
         assigns ! (agg ! (and-then ! (load ! (from ! (stop !)) (look ! 10 refl)) (and-then ! (load ! (from ! (fld ! refl (stop !))) (look-in ! 28 (sub ! 1 refl (whole !)))) (no-more !)))) (from ! (stop !)) (init ! 8 refl (tt, (tt, (record { fits = room₃ .0 }, tt)))) $
         assigns ! (addr ! (from ! (fld ! refl (hop ! (look-in ! 26 (sub ! 0 refl (whole !))) (stop !))))) (from ! (stop !)) (init ! 6 refl (tt, tt)) $
         assigns ! (agg ! (and-then ! (load ! (from ! (stop !)) (look ! 6 refl)) (and-then ! (load ! (from ! (fld ! refl (stop !))) (look-in ! 26 (sub ! 1 refl (whole !)))) (no-more !)))) (from ! (stop !)) (init ! 4 refl (tt, (tt, (record { fits = room₄ .0 }, tt)))) $
-        move ! (45 ∷ []) $ fsplit ! $ use1 W (‵ Text ⊛ ‵ Text) (shr-slice-copy 𝓤 H A W (named 0) (κs .0) u8 .twice text (slice-vals text)) $ split ! $ move ! (2 ∷ []) $ fsplit ! $ move ! (1 ∷ []) $ fsplit ! $ move ! (1 ∷ []) $ fsplit ! $ move ! (1 ∷ []) $ fsplit ! $ move ! (1 ∷ []) $ fsplit ! $ move ! (1 ∷ []) $ fsplit ! $ move ! (1 ∷ []) $ fsplit ! $ move ! (1 ∷ []) $ fsplit ! $
+        move ! (45 ∷ []) $ fsplit ! $
+        use1 W (‵ Text ⊛ ‵ Text) (shr-slice-copy 𝓤 H A W (named 0) (κs .0) u8 .twice text (slice-vals text)) $ split ! $ move ! (2 ∷ []) $
+        fsplit ! $ move ! (1 ∷ []) $ fsplit ! $ move ! (1 ∷ []) $ fsplit ! $ move ! (1 ∷ []) $ fsplit ! $ move ! (1 ∷ []) $ fsplit ! $
+        move ! (1 ∷ []) $ fsplit ! $ move ! (1 ∷ []) $ fsplit ! $ move ! (1 ∷ []) $ fsplit ! $
         move ! (55 ∷ []) $ tokens-apart ! 6 κs qs $
         -- [[text]; [work]; [log]; [formula]; [table]; [tally]; tally; true; table; formula; log; work; step; arrangement; form; text; text; _21; …; _0; …]
         move ! (0 ∷ 1 ∷ 2 ∷ 3 ∷ 4 ∷ 15 ∷ 11 ∷ 10 ∷ 9 ∷ 8 ∷ []) $ hands ! (Handed s) (Reencode 𝓤 H A mem run .pre (called s)) (asks-reencode 𝓤 H A W mem run lfts shares text s work log formula table (is-named .1)) $
-        calls-at ! fm (Reencode 𝓤 H A mem run) known-reencode (called s) (and-then ! (load ! (from ! (stop !)) (look ! 48 refl)) (and-then ! (load ! (from ! (stop !)) (look ! 30 refl)) (and-then ! (load ! (from ! (stop !)) (look ! 24 refl)) (and-then ! (load ! (from ! (stop !)) (look ! 20 refl)) (and-then ! (load ! (from ! (stop !)) (look ! 16 refl)) (and-then ! (load ! (from ! (stop !)) (look ! 12 refl)) (no-more !))))))) (λ w₁.
+        calls-at ! fm (Reencode 𝓤 H A mem run) known-reencode (called s)
+        (and-then ! (load ! (from ! (stop !)) (look ! 48 refl)) (and-then ! (load ! (from ! (stop !)) (look ! 30 refl))
+        (and-then ! (load ! (from ! (stop !)) (look ! 24 refl)) (and-then ! (load ! (from ! (stop !)) (look ! 20 refl))
+        (and-then ! (load ! (from ! (stop !)) (look ! 16 refl)) (and-then ! (load ! (from ! (stop !)) (look ! 12 refl)) (no-more !))))))) (λ w₁.
         use1 W (later (some (λ (us : List ℤ). given (Told s w₁ us) (raw (⋆ 𝓤 H A (Given-back s us)))))) (gives-reencode 𝓤 H A W mem run lfts shares text s work log formula table w₁) $ await ! tt $ pick ! (λ us. learn ! (λ e. spread ! (Given-back s us) $
         -- [[text]; [work]; [log]; [formula]; [table]; the last lists of work, log, formula and table; [tally]; tally; true; step; arrangement; form; text; _21; …; _0; …]
         land ! (from ! (stop !)) (init ! 36 refl (subst (λ (v : Val). Holds (hasTy E′.mir v) × WT v) (sym (e .0)) (EL.lawful E.the-type E′.the-laws 𝓤 H A W tt .typed (outcome-of (outcome-with s)) _ (e .1) .0))) $ rewrite ! 36 (λ (v : Val). ‵ (fat fullShare E′.mir l₁₁ 0 v)) (e .0) refl $
@@ -197,7 +214,10 @@ module _ {M : Type 1} (𝓤 : URA M) (H : Heap 𝓤) (A : Atoms 𝓤) (W : Given
         use1 W (later (given (Told-last s w₂) (raw (⋆ 𝓤 H A (Given-last s))))) (gives-answered 𝓤 H A W mem run (κs .1 .1 .1 .1 .1 .0) (qs .1 .1 .1 .1 .1 .0) tally (outcome-with s) w₂) $ await ! tt $ learn ! (λ e₂. spread ! (Given-last s) $
         -- [[tally]; the tally's last list; [text]; [work]; [log]; [formula]; [table]; the last lists of work, log, formula and table; true; step; arrangement; form; text; _21; …; _0; …]
         land ! (from ! (stop !)) (init ! 58 refl (subst (λ (v : Val). Holds (hasTy (tyInt w32) v) × WT v) (sym (e₂ .0)) (tt, record { fits = e₂ .1 }))) $ rewrite ! 58 (λ (v : Val). ‵ (fat fullShare (tyInt w32) l₀ 0 v)) (e₂ .0) refl $
-        returns ! (look ! 58 refl) $ forget ! 16 refl $ forget ! 18 refl $ forget ! 20 refl $ forget ! 22 refl $ forget ! 24 refl $ forget ! 26 refl $ forget ! 28 refl $ forget ! 30 refl $ forget ! 32 refl $ forget ! 34 refl $ forget ! 36 refl $ forget ! 38 refl $ forget ! 40 refl $ forget ! 42 refl $ forget ! 44 refl $ forget ! 46 refl $ forget ! 48 refl $ forget ! 50 refl $ forget ! 52 refl $ forget ! 54 refl $ forget ! 56 refl $ forget ! 58 refl $
+        returns ! (look ! 58 refl) $ forget ! 16 refl $ forget ! 18 refl $ forget ! 20 refl $ forget ! 22 refl $ forget ! 24 refl $
+        forget ! 26 refl $ forget ! 28 refl $ forget ! 30 refl $ forget ! 32 refl $ forget ! 34 refl $ forget ! 36 refl $
+        forget ! 38 refl $ forget ! 40 refl $ forget ! 42 refl $ forget ! 44 refl $ forget ! 46 refl $ forget ! 48 refl $
+        forget ! 50 refl $ forget ! 52 refl $ forget ! 54 refl $ forget ! 56 refl $ forget ! 58 refl $
         move ! (58 ∷ 59 ∷ 56 ∷ 57 ∷ 54 ∷ 55 ∷ 52 ∷ 53 ∷ 50 ∷ 51 ∷ 48 ∷ 49 ∷ 46 ∷ 47 ∷ 44 ∷ 45 ∷ 42 ∷ 43 ∷ 40 ∷ 41 ∷ 38 ∷ 39 ∷ 36 ∷ 37 ∷ 34 ∷ 35 ∷ 32 ∷ 33 ∷ 30 ∷ 31 ∷ 28 ∷ 29 ∷ 26 ∷ 27 ∷ 24 ∷ 25 ∷ 22 ∷ 23 ∷ 20 ∷ 21 ∷ 18 ∷ 19 ∷ 16 ∷ 17 ∷ []) $ frees-all ! $
         keep ! (2 ∷ 3 ∷ 4 ∷ 5 ∷ 6 ∷ 0 ∷ 15 ∷ 7 ∷ 8 ∷ 9 ∷ 10 ∷ 1 ∷ []) $ by ! (exits w₁ w₂ s us (is-named .2) e e₂)))))))))))))))))))))))))))))))
 
@@ -211,7 +231,31 @@ module _ {M : Type 1} (𝓤 : URA M) (H : Heap 𝓤) (A : Atoms 𝓤) (W : Given
       (are .0 .0 .1) (are .1 .0 .1) (are .1 .1 .0 .1) (are .1 .1 .1 .0 .1) (are .1 .1 .1 .1 .0 .0 .1) (are .1 .1 .1 .1 .1 .0 .0 .1) (are .1 .1 .1 .1 .1 .1 .0 .0 .1) (are .1 .1 .1 .1 .1 .1 .1 .0 .0 .1) (are .1 .1 .1 .1 .1 .1 .1 .1 .0 .0 .1) C Λ fm known-named known-reencode known-answered))
 
   goes : AllGo 𝓤 H A W 6 (exported.signature .params) (exported.ended .kept) stayed
-  goes = (goes-none-slice 𝓤 H A W 6 (0 ∷ []) tt (plain (λ _. u8)) yes, (goes-none 𝓤 H A W 6 (λ _. u32) yes (λ κs x f. refl), (goes-none 𝓤 H A W 6 (λ _. u32) yes (λ κs x f. refl), (goes-none 𝓤 H A W 6 (λ _. u32) yes (λ κs x f. refl), (goes-gave-slice 𝓤 H A W 6 1 tt (plain (λ _. i32)), (goes-gave-slice 𝓤 H A W 6 2 tt (plain (λ _. u8)), (goes-gave-slice 𝓤 H A W 6 3 tt (plain (λ _. u8)), (goes-gave-slice 𝓤 H A W 6 4 tt (plain (λ _. T.the-row)), (goes-gave-slice 𝓤 H A W 6 5 tt (plain (λ _. u64)), tt)))))))))
+  goes = (
+    goes-none-slice 𝓤 H A W 6 (0 ∷ []) tt (plain (λ _. u8)) yes,
+    (
+      goes-none 𝓤 H A W 6 (λ _. u32) yes (λ κs x f. refl),
+      (
+        goes-none 𝓤 H A W 6 (λ _. u32) yes (λ κs x f. refl),
+        (
+          goes-none 𝓤 H A W 6 (λ _. u32) yes (λ κs x f. refl),
+          (
+            goes-gave-slice 𝓤 H A W 6 1 tt (plain (λ _. i32)),
+            (
+              goes-gave-slice 𝓤 H A W 6 2 tt (plain (λ _. u8)),
+              (
+                goes-gave-slice 𝓤 H A W 6 3 tt (plain (λ _. u8)),
+                (
+                  goes-gave-slice 𝓤 H A W 6 4 tt (plain (λ _. T.the-row)),
+                  (goes-gave-slice 𝓤 H A W 6 5 tt (plain (λ _. u64)), tt),
+                ),
+              ),
+            ),
+          ),
+        ),
+      ),
+    ),
+  )
 
 exported-meets : {M : Type 1} (𝓤 : URA M) (H : Heap 𝓤) (A : Atoms 𝓤) → Given 𝓤 H A → (mem : Memory → SProp 𝓤) (run : Routine → Fun 𝓤) (𝓣 : Tables 𝓤 H)
     → Triple 𝓤 (𝓣 .C #exports·settings-named) (Named 𝓤 H A mem run) → Triple 𝓤 (𝓣 .C #call-reencode·reencode) (Reencode 𝓤 H A mem run) → Triple 𝓤 (𝓣 .C #exports·answered) (Answered 𝓤 H A mem run)

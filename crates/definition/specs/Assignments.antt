@@ -1,4 +1,4 @@
--- "Standing and carried back": assignments, what they satisfy, and carrying one back over log lines.
+-- "Standing and carried back" and M-121: assignments, what they satisfy, and carrying one back or forward over log lines.
 use mathlib.Core.Path.{_≡_}
 use mathlib.Core.Bool.{Bool, true, false, not, cond}
 use mathlib.Core.List.{List, [], _∷_}
@@ -61,7 +61,17 @@ unfoldable pub carried-back : Assignment → List Line → Assignment
 carried-back a [] = a
 carried-back a (s ∷ ss) = carried (carried-back a ss) s
 
+-- M-121, carried forward over a line: only an addition may change something
+unfoldable pub forwarded : Assignment → Line → Assignment
+forwarded a (addition c) = repaired c a
+forwarded a (deletion c) = a
+
+-- through the lines, the first one first
+unfoldable pub carried-forward : Assignment → List Line → Assignment
+carried-forward a [] = a
+carried-forward a (s ∷ ss) = carried-forward (forwarded a s) ss
+
 -- all of this file, for a proof that computes: `unfolding computing` opens every name of the next line
 unfoldable pub computing : Unit {0}
-unfolding true-in has-true satisfies trues sign make-true repaired carried carried-back
+unfolding true-in has-true satisfies trues sign make-true repaired carried carried-back forwarded carried-forward
 computing = tt

@@ -1,4 +1,4 @@
--- The outcome of each call, and the buffers after it ("Log and new formula", "Walk-back", "Who can be turned back").
+-- The outcome of each call, and the buffers after it ("Log and new formula", "Walk-back", "Who can be turned back", M-121).
 use mathlib.Core.Bool.{Bool, not, _&&_, cond}
 use mathlib.Core.List.{List, _++_}
 use Prim.Native.Nat.{ℕ, _+_, _*_, max}
@@ -11,7 +11,7 @@ use Rattle.definition.specs.Literals.{Clause, Formula, holds, literals-o
 use Rattle.definition.specs.Text.{Bytes, bytes, literal-text}
 use Rattle.definition.specs.Reading.{input-limits, read-back-limits, Input, read-formula}
 use Rattle.definition.specs.Standing.{Line, replay, highest-in}
-use Rattle.definition.specs.Assignments.{Assignment, satisfies, carried-back}
+use Rattle.definition.specs.Assignments.{Assignment, satisfies, carried-back, carried-forward}
 use Rattle.definition.specs.Events.{Choice-record}
 use Rattle.definition.specs.Reencoding.{Settings, chosen, log, table, result, highest-used}
 use Rattle.definition.specs.Log.{log-text, formula-text}
@@ -92,7 +92,7 @@ read-back workspace t =
     read-formula read-back-limits t >>= λ i.
     refuse-if (ltb workspace (workspace-need i)) 11 (value i)
 
--- ---- walk-back
+-- ---- the calls that read a log
 
 -- a variable not named is false
 unfoldable pub assigned : Clause → Assignment
@@ -102,6 +102,12 @@ assigned named v = holds (pos v) named
 unfoldable pub answer-text : ℕ → Assignment → Bytes
 answer-text v a =
     bytes "v" ++ for-from 1 v (λ i. bytes " " ++ literal-text (cond (a i) (pos i) (negℤ (pos i)))) ++ bytes " 0\n"
+
+-- 14: the buffer is shorter than the line
+unfoldable pub fitting-line : ℕ → ℕ → Assignment → Checked Bytes
+fitting-line room v a =
+    let text = answer-text v a in
+    refuse-if (ltb room (length text)) 14 (value text)
 
 -- N, the numbers after the formula's header, zeros counted; of a clause left out not even its 0
 unfoldable pub numbers-of : Formula → ℕ
@@ -115,24 +121,52 @@ log-workspace-need i ss x = 4 * (numbers-of (i .formula) + numbers-in ss) + 4 * 
 unfoldable pub highest-allowed : Input → List Line → ℕ
 highest-allowed i ss = max (i .highest) (highest-in ss)
 
+-- the three texts, read: the formula, the kept lines, and the literals that an answer or a plan names
+pub record Handed : Type 0 where
+  pub input : Input
+  pub lines : List Line
+  pub named : Clause
+
+-- 1 to 4, 7 to 9, then 31 or 34, 41 to 43, 11; 42 is a variable above `most`
+unfoldable pub read-texts : (Input → List Line → ℕ) → ℕ → ℕ → Bytes → Bytes → Bytes → Checked Handed
+read-texts most workspace kept formula log answer =
+    read-input formula >>= λ i.
+    read-log kept log >>= λ ss.
+    read-answer (most i ss) answer >>= λ named.
+    refuse-if (ltb workspace (log-workspace-need i ss (highest-allowed i ss))) 11
+    (value (record { input = i; lines = ss; named = named }))
+
+-- ---- walk-back
+
 -- the answer is tested against the clauses standing, then carried back: 44, 33, 14
 unfoldable pub carry-answer : ℕ → Input → List Line → Formula → Assignment → Checked Bytes
 carry-answer room i ss standing a =
     refuse-if (not (satisfies a standing)) 44
     (let back = carried-back a ss in
-    refuse-if (not (satisfies back (i .formula))) 33
-    (let text = answer-text (i .variables) back in
-    refuse-if (ltb room (length text)) 14 (value text)))
+    refuse-if (not (satisfies back (i .formula))) 33 (fitting-line room (i .variables) back))
 
--- 1 to 4, 7 to 9, then 31 or 34, 41 to 43, 11, 32, 44, 33, 14
+-- 1 to 4, 7 to 9, then 31 or 34, 41 to 43 (42 above X), 11, 32, 44, 33, 14
 unfoldable pub walk-back : ℕ → ℕ → ℕ → Bytes → Bytes → Bytes → Checked Bytes
 walk-back workspace room kept formula log answer =
-    read-input formula >>= λ i.
-    read-log kept log >>= λ ss.
-    read-answer (highest-allowed i ss) answer >>= λ named.
-    refuse-if (ltb workspace (log-workspace-need i ss (highest-allowed i ss))) 11
-    (replay (i .formula) ss >>= λ standing.
-    carry-answer room i ss standing (assigned named))
+    read-texts highest-allowed workspace kept formula log answer >>= λ t.
+    replay (t .input .formula) (t .lines) >>= λ standing.
+    carry-answer room (t .input) (t .lines) standing (assigned (t .named))
+
+-- ---- M-121: last season's plan carried forward
+
+-- the plan is carried forward, then tested against the clauses standing; its line is for 1..X: 46, 14
+unfoldable pub carry-plan : ℕ → Input → List Line → Formula → Assignment → Checked Bytes
+carry-plan room i ss standing a =
+    let forth = carried-forward a ss in
+    refuse-if (not (satisfies forth standing)) 46 (fitting-line room (highest-allowed i ss) forth)
+
+-- 1 to 4, 7 to 9, then 31 or 34, 41 to 43 (42 above V), 11, 45, 32, 46, 14; new variables, which no plan names, start false
+unfoldable pub carry-forward : ℕ → ℕ → ℕ → Bytes → Bytes → Bytes → Checked Bytes
+carry-forward workspace room kept formula log plan =
+    read-texts (λ i ss. i .variables) workspace kept formula log plan >>= λ t.
+    refuse-if (not (satisfies (assigned (t .named)) (t .input .formula))) 45
+    (replay (t .input .formula) (t .lines) >>= λ standing.
+    carry-plan room (t .input) (t .lines) standing (assigned (t .named)))
 
 -- ---- a buffer after a call: all zero at a fault, else what is written and then what lay past it
 unfoldable pub buffer-after : {A E : Type 0} → E → Checked A → (A → List E) → List E → List E
@@ -141,5 +175,5 @@ buffer-after nought (value a) written before = written a ++ drop (length (writte
 
 -- all of this file, for a proof that computes: `unfolding computing` opens every name of the next line
 unfoldable pub computing : Unit {0}
-unfolding read-input reencoded workspace-need step-allowed fitted reencode read-back assigned answer-text numbers-of log-workspace-need highest-allowed carry-answer walk-back buffer-after
+unfolding read-input reencoded workspace-need step-allowed fitted reencode read-back assigned answer-text fitting-line numbers-of log-workspace-need highest-allowed read-texts carry-answer walk-back carry-plan carry-forward buffer-after
 computing = tt

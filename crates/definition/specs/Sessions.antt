@@ -1,6 +1,6 @@
 -- "Sessions": the starred ones, and some more that tell wrong definitions apart, rows of one list checked by one theorem.
 use mathlib.Core.Bool.{Bool, true, false, _&&_}
-use mathlib.Core.List.{List, [], _∷_, map}
+use mathlib.Core.List.{List, [], _∷_, _++_, map}
 use Prim.Native.Nat.{ℕ}
 use Prim.Native.String.{String}
 use lib.ListN.{length}
@@ -13,7 +13,7 @@ use Rattle.definition.specs.Checked.{Checked, fault, value}
 use Rattle.definition.specs.Literals
 use Rattle.definition.specs.Literals.{Clause}
 use Rattle.definition.specs.Text
-use Rattle.definition.specs.Text.{bytes, same-bytes}
+use Rattle.definition.specs.Text.{Bytes, bytes, same-bytes}
 use Rattle.definition.specs.Reading
 use Rattle.definition.specs.Reading.{Input, input-limits, read-formula}
 use Rattle.definition.specs.Standing
@@ -32,7 +32,7 @@ use Rattle.definition.specs.Log.{clause-text, formula-text}
 use Rattle.definition.specs.LogReading
 use Rattle.definition.specs.Answer
 use Rattle.definition.specs.Calls
-use Rattle.definition.specs.Calls.{Reencoded, fitted, reencode, read-back, walk-back}
+use Rattle.definition.specs.Calls.{Reencoded, fitted, reencode, read-back, walk-back, carry-forward}
 
 unfoldable pub counter : Settings
 counter = record { form = Reencoding.counter-form; arrangement = as-listed; step = 1 }
@@ -76,12 +76,23 @@ pub data Session : Type 0 where
   unfit : ℕ → ℕ → ℕ → ℕ → Session
   -- the number that the walk-back of a formula, a log, a number of kept lines and an answer is refused with
   not-walked : String → String → ℕ → String → ℕ → Session
+  -- over the reencoding's log, with that many lines kept, a plan is carried forward to this line
+  forwards : Settings → String → String → ℕ → String → Session
+  -- that line walked back over the same lines
+  there-and-back : Settings → String → String → ℕ → String → Session
+  -- over the kept lines of a log, a plan for a formula is carried forward to this line
+  carries : String → String → ℕ → String → String → Session
+  -- the number that it is refused with, given so many entries of workspace and bytes of the buffer
+  not-carried : ℕ → ℕ → String → String → ℕ → String → ℕ → Session
 
 unfoldable pub run : Settings → String → Checked Reencoded
 run s t = reencode s 100_000 100_000 100_000 1_000 (bytes t)
 
 unfoldable pub read-within : ℕ → String → Checked Input
 read-within n t = read-formula (record { variables = 9; clauses = 9; literals = n }) (bytes t)
+
+unfoldable pub forth : String → Bytes → ℕ → String → Checked Bytes
+forth t log kept plan = carry-forward 100_000 1_000 kept (bytes t) log (bytes plan)
 
 -- a value that passes the test
 unfoldable pub good : {A : Type 0} → Checked A → (A → Bool) → Bool
@@ -142,6 +153,15 @@ passes (short s t workspace log-room formula-room table-room n) =
 passes (tabled s t rows) = good (run s t) (λ r. same-rows (r .table) rows)
 passes (unfit h n table-room m) = is-fault (fitted table-room 0 0 (result-with h n)) m
 passes (not-walked t log kept answer n) = is-fault (walk-back 100_000 1_000 kept (bytes t) (bytes log) (bytes answer)) n
+passes (forwards s t plan kept line) =
+    good (run s t) (λ r. good (forth t (r .log) kept plan) (λ u. same-bytes u (bytes line)))
+passes (there-and-back s t plan kept line) =
+    good (run s t) (λ r.
+    good (forth t (r .log) kept plan) (λ u.
+    good (walk-back 100_000 1_000 kept (bytes t) (r .log) (bytes "s SATISFIABLE\n" ++ u)) (λ w. same-bytes w (bytes line))))
+passes (carries t log kept plan line) = good (forth t (bytes log) kept plan) (λ u. same-bytes u (bytes line))
+passes (not-carried workspace room t log kept plan n) =
+    is-fault (carry-forward workspace room kept (bytes t) (bytes log) (bytes plan)) n
 
 e-text : String
 e-text = "p cnf 3 2\n1 2 0\n-1 3 0\n"
@@ -161,8 +181,11 @@ resolved-text = "p cnf 8 3\n1 2 3 0\n-3 4 5 0\n-5 6 7 8 0\n"
 two-text : String
 two-text = "p cnf 11 3\n1 2 3 4 5 0\n6 7 8 0\n-6 9 10 11 0\n"
 
+pair-text : String
+pair-text = "p cnf 2 1\n1 2 0\n"
+
 pub sessions : List Session
-unfolding counter order stepped resolved-text two-text e-text f-text free-text g-formula
+unfolding counter order stepped resolved-text two-text pair-text e-text f-text free-text g-formula
 sessions =
     -- A to E
     texts counter "p cnf 0 0\n" "" "p cnf 0 0\n"
@@ -266,8 +289,37 @@ sessions =
     ∷ not-walked "p cnf 2 1\n1 2 0\n" "3 0\n" 1 "s SATISFIABLE\nv 4 0\n" 42
     ∷ not-walked "p cnf 2 1\n1 2 0\n" "" 0 "s SATISFIABLE\nv 1 -1 0\n" 43
     ∷ not-walked "p cnf 2 1\n1 2 0\n" "" 0 "s SATISFIABLE\nv -1 -2 0\n" 44
+    -- M-121: a line for 1..X, at several cuts; new variables start false, and 10 is made true by `10 -4`
+    ∷ forwards counter e-text "s SATISFIABLE\nv 1 3 0\n" 4 "v 1 -2 3 0\n"
+    ∷ forwards counter f-text "s SATISFIABLE\nv 4 0\n" 0 "v -1 -2 -3 4 -5 -6 0\n"
+    ∷ forwards counter f-text "s SATISFIABLE\nv 4 0\n" 1 "v -1 -2 -3 4 -5 -6 -7 0\n"
+    ∷ forwards counter f-text "s SATISFIABLE\nv 4 0\n" 10 "v -1 -2 -3 4 -5 -6 -7 -8 -9 -10 0\n"
+    ∷ forwards counter f-text "s SATISFIABLE\nv 4 0\n" 18 "v -1 -2 -3 4 -5 -6 -7 -8 -9 10 0\n"
+    ∷ forwards order f-text "s SATISFIABLE\nv 4 0\n" 41 "v -1 -2 -3 4 -5 -6 -7 -8 -9 10 0\n"
+    -- of six true literals the first is left; the plan that comes back is another one
+    ∷ forwards counter free-text "s SATISFIABLE\nv 1 2 3 4 5 6 0\n" 21 "v 1 -2 -3 -4 -5 -6 7 8 9 10 11 0\n"
+    ∷ there-and-back counter free-text "s SATISFIABLE\nv 1 2 3 4 5 6 0\n" 21 "v 1 -2 -3 -4 -5 -6 0\n"
+    ∷ there-and-back order f-text "s SATISFIABLE\nv 4 0\n" 41 "v -1 -2 -3 4 -5 -6 0\n"
+    -- a deletion is not repaired, a line without literals changes nothing
+    ∷ carries pair-text "-1 2 0\nd 1 2 0\n" 2 "s SATISFIABLE\nv 1 0\n" "v -1 -2 0\n"
+    ∷ carries pair-text "0\nd 0\n" 2 "s SATISFIABLE\nv 1 0\n" "v 1 -2 0\n"
+    -- its numbers in their order; pair-text with the line `3 0` asks for 96 entries and 11 bytes
+    ∷ not-carried 0 0 "p cnf 1 1\n2 0\n" "" 0 "" 4
+    ∷ not-carried 0 0 pair-text "3 3 0\n" 1 "" 31
+    ∷ not-carried 0 0 pair-text "3 0\n" 2 "" 34
+    ∷ not-carried 0 0 pair-text "3 0\n" 1 "" 41
+    ∷ not-carried 0 0 pair-text "3 0\n" 1 "s SATISFIABLE\nv 3 0\n" 42
+    ∷ not-carried 0 0 pair-text "3 0\n" 1 "s SATISFIABLE\nv 2 2 0\n" 43
+    ∷ not-carried 95 0 pair-text "3 0\n" 1 "s SATISFIABLE\nv 0\n" 11
+    ∷ not-carried 96 0 pair-text "3 0\n" 1 "s SATISFIABLE\nv 0\n" 45
+    ∷ not-carried 999 0 pair-text "d 1 0\n" 1 "s SATISFIABLE\nv 0\n" 45
+    ∷ not-carried 999 0 pair-text "-1 0\nd 1 0\n" 2 "s SATISFIABLE\nv 1 0\n" 32
+    ∷ not-carried 999 0 pair-text "-1 0\n" 1 "s SATISFIABLE\nv 1 0\n" 46
+    ∷ not-carried 999 99 pair-text "0\n" 1 "s SATISFIABLE\nv 1 0\n" 46
+    ∷ not-carried 96 10 pair-text "3 0\n" 1 "s SATISFIABLE\nv 1 0\n" 14
+    ∷ carries pair-text "3 0\n" 1 "s SATISFIABLE\nv 1 0\n" "v 1 -2 3 0\n"
     ∷ []
 
 pub sessions-hold : T (all passes sessions)
-unfolding sessions passes same-rows result-with tallied one-to run read-within good is-fault Lists.computing Checked.computing Literals.computing Text.computing Reading.computing Standing.computing Assignments.computing Clearing.computing Counter.computing Order.computing Alignment.computing Reencoding.computing Log.computing LogReading.computing Answer.computing Calls.computing
+unfolding sessions passes same-rows result-with tallied one-to run read-within forth good is-fault Lists.computing Checked.computing Literals.computing Text.computing Reading.computing Standing.computing Assignments.computing Clearing.computing Counter.computing Order.computing Alignment.computing Reencoding.computing Log.computing LogReading.computing Answer.computing Calls.computing
 sessions-hold = tt

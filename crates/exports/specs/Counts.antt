@@ -32,8 +32,8 @@ done-counts t =
     t .choices ∷ t .highest ∷ t .clauses ∷ t .lines ∷ t .«log_bytes» ∷ t .«formula_bytes» ∷ []
 
 -- the bytes of the line
-abbrev pub walk-back-counts : Bytes → List ℕ
-walk-back-counts t = length t ∷ []
+abbrev pub line-counts : Bytes → List ℕ
+line-counts t = length t ∷ []
 
 -- V, the clauses and the literals
 abbrev pub read-back-counts : Input → List ℕ

@@ -5,18 +5,22 @@ ghost use mathlib.Core.List.{[], _∷_};
 ghost use lib.IntN.{pos};
 ghost use lib.ListN.{length};
 ghost use Rattle.definition.specs.Checked.{Checked};
+ghost use Rattle.definition.specs.Text.{Bytes};
 ghost use Rattle.definition.specs.Calls.{Reencoded, buffer-after};
 ghost use Rattle.dimacs.specs.Entries.{entries-of};
 ghost use Rattle.run.specs.Settings.{named-form, named-arrangement, settings-of};
 ghost use Rattle.records.specs.Rows.{no-record};
 ghost use Rattle.call_reencode.specs.Outcome.{outcome-of, shown-table};
+ghost use Rattle.carry.specs.Carried.{carried-of};
 ghost use Rattle.call_walk_back.specs.Outcome.{outcome as walk-back-outcome};
+ghost use Rattle.call_carry_forward.specs.Outcome.{outcome as carry-forward-outcome};
 ghost use Rattle.call_read_back.specs.Outcome.{outcome as read-back-outcome};
 ghost use Rattle.exports.specs.Numbers.{form-number, arrangement-number, settings-number, number-of, reencoding};
 ghost use Rattle.counts.specs.Counts.{overwritten};
-ghost use Rattle.exports.specs.Counts.{tally-after, reencoding-counts, done-counts, walk-back-counts, read-back-counts};
+ghost use Rattle.exports.specs.Counts.{tally-after, reencoding-counts, done-counts, line-counts, read-back-counts};
 use call_reencode::Reencoding;
 use call_reencode::Tally;
+use carry::Carried;
 use records::ChoiceRecord;
 use run::Arrangement;
 use run::Form;
@@ -113,7 +117,23 @@ pub extern "C" fn sirgholyn_reencode(
     answered(tally, r)
 }
 
-// ---- walk-back
+// ---- walk-back and carrying forward
+
+// The number of an outcome; the bytes of its line go into the tally.
+fn line_answered(tally: &mut [u64], r: Carried) -> u32
+    ensures { λ n. ⌜ ((o : Checked Bytes) → r ≡ carried-of o → (n ≡ number-of o) × (now (tally .exit) ≡ tally-after o line-counts (now (tally .entry)))) ⌝ }
+{
+    match r {
+        Carried::Line(n) => {
+            counts::put_count(tally, 0, n as u64);
+            0
+        }
+        Carried::Refused(n) => {
+            counts::zero_counts(tally);
+            n as u32
+        }
+    }
+}
 
 // Walks a solver's answer back over the kept lines of a log to the formula. The tally gets the bytes of the line written.
 #[no_mangle]
@@ -128,18 +148,29 @@ pub extern "C" fn sirgholyn_walk_back(
 ) -> u32
     ensures number { λ r. ⌜ r ≡ number-of (walk-back-outcome (now (work .entry)) (now (out .entry)) kept (now (formula .entry)) (now (log .entry)) (now (answer .entry))) ⌝ }
     ensures buffer { λ _. ⌜ now (out .exit) ≡ buffer-after 0 (walk-back-outcome (now (work .entry)) (now (out .entry)) kept (now (formula .entry)) (now (log .entry)) (now (answer .entry))) (λ t. t) (now (out .entry)) ⌝ }
-    ensures counts { λ _. ⌜ now (tally .exit) ≡ tally-after (walk-back-outcome (now (work .entry)) (now (out .entry)) kept (now (formula .entry)) (now (log .entry)) (now (answer .entry))) walk-back-counts (now (tally .entry)) ⌝ }
+    ensures counts { λ _. ⌜ now (tally .exit) ≡ tally-after (walk-back-outcome (now (work .entry)) (now (out .entry)) kept (now (formula .entry)) (now (log .entry)) (now (answer .entry))) line-counts (now (tally .entry)) ⌝ }
 {
-    match call_walk_back::walk_back(formula, log, kept, answer, work, out) {
-        call_walk_back::WalkedBack::Line(n) => {
-            counts::put_count(tally, 0, n as u64);
-            0
-        }
-        call_walk_back::WalkedBack::Refused(n) => {
-            counts::zero_counts(tally);
-            n as u32
-        }
-    }
+    let r = call_walk_back::walk_back(formula, log, kept, answer, work, out);
+    line_answered(tally, r)
+}
+
+// Carries a plan for the formula forward over the kept lines of its log. The tally gets the bytes of the line written.
+#[no_mangle]
+pub extern "C" fn sirgholyn_carry_forward(
+    formula: &[u8],
+    log: &[u8],
+    kept: usize,
+    plan: &[u8],
+    work: &mut [i32],
+    out: &mut [u8],
+    tally: &mut [u64],
+) -> u32
+    ensures number { λ r. ⌜ r ≡ number-of (carry-forward-outcome (now (work .entry)) (now (out .entry)) kept (now (formula .entry)) (now (log .entry)) (now (plan .entry))) ⌝ }
+    ensures buffer { λ _. ⌜ now (out .exit) ≡ buffer-after 0 (carry-forward-outcome (now (work .entry)) (now (out .entry)) kept (now (formula .entry)) (now (log .entry)) (now (plan .entry))) (λ t. t) (now (out .entry)) ⌝ }
+    ensures counts { λ _. ⌜ now (tally .exit) ≡ tally-after (carry-forward-outcome (now (work .entry)) (now (out .entry)) kept (now (formula .entry)) (now (log .entry)) (now (plan .entry))) line-counts (now (tally .entry)) ⌝ }
+{
+    let r = call_carry_forward::carry_forward(formula, log, kept, plan, work, out);
+    line_answered(tally, r)
 }
 
 // ---- the new formula read back

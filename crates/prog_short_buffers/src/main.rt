@@ -1,6 +1,6 @@
 // Buffers and workspaces of just the length that is asked for, and one short: the refusal, and its buffers all zero.
 use call_reencode::Reencoding;
-use call_walk_back::WalkedBack;
+use carry::Carried;
 use libc::STDOUT_FILENO;
 use run::Arrangement;
 use run::Form;
@@ -67,19 +67,33 @@ fn print_reencoding(text: &[u8], work: &mut [i32], log: &mut [u8], formula: &mut
     io::write_all(STDOUT_FILENO, b"\n");
 }
 
-// Walks session H's answer back over a log and a filled buffer.
-fn print_walk_back(formula: &[u8], log: &[u8], work: &mut [i32], out: &mut [u8]) {
-    let answer = b"s SATISFIABLE\nv 1 2 3 4 5 -6 -7 -8 -9 10 0\n";
-    fill(out);
-    match call_walk_back::walk_back(formula, log, 41, answer, work, out) {
-        WalkedBack::Line(_) => print_outcome(b"walk_back", 0),
-        WalkedBack::Refused(n) => print_outcome(b"walk_back", n),
+// Prints the outcome of a call that writes a line, and whether its buffer is all zero.
+fn print_carried(name: &[u8], r: Carried, out: &[u8]) {
+    match r {
+        Carried::Line(_) => print_outcome(name, 0),
+        Carried::Refused(n) => print_outcome(name, n),
     }
     print_zero(is_zero(out));
     io::write_all(STDOUT_FILENO, b"\n");
 }
 
-// Session F: 8,972 entries, 371 bytes and 77 bytes; session H: 740 entries and 21 bytes.
+// Walks session H's answer back over a log and a filled buffer.
+fn print_walk_back(formula: &[u8], log: &[u8], work: &mut [i32], out: &mut [u8]) {
+    let answer = b"s SATISFIABLE\nv 1 2 3 4 5 -6 -7 -8 -9 10 0\n";
+    fill(out);
+    let r = call_walk_back::walk_back(formula, log, 41, answer, work, out);
+    print_carried(b"walk_back", r, out);
+}
+
+// Carries the plan of session H forward over a log and a filled buffer.
+fn print_carry_forward(formula: &[u8], log: &[u8], work: &mut [i32], out: &mut [u8]) {
+    let plan = b"s SATISFIABLE\nv -1 -2 -3 4 -5 -6 0\n";
+    fill(out);
+    let r = call_carry_forward::carry_forward(formula, log, 41, plan, work, out);
+    print_carried(b"carry_forward", r, out);
+}
+
+// Session F: 8,972 entries, 371 bytes and 77 bytes; session H: 740 entries, and 21 bytes back or 33 forward.
 fn main() {
     let text = b"p cnf 6 7\n1 2 3 4 5 0\n-1 -2 0\n-1 6 0\n-2 6 0\n-3 6 0\n-4 -6 0\n-5 -6 0\n";
     let mut work = [0i32; 8972];
@@ -99,4 +113,9 @@ fn main() {
     print_walk_back(text, &log, &mut short_table, &mut line);
     print_walk_back(text, &log, &mut table, &mut short_line);
     print_walk_back(text, &log, &mut table, &mut line);
+    let mut long_line = [0u8; 33];
+    let mut short_long_line = [0u8; 32];
+    print_carry_forward(text, &log, &mut short_table, &mut long_line);
+    print_carry_forward(text, &log, &mut table, &mut short_long_line);
+    print_carry_forward(text, &log, &mut table, &mut long_line);
 }

@@ -1,12 +1,12 @@
 // Walks a solver's answer, on standard input, back to the formula and prints the plan's line. The arguments are the formula's file, the
 // log's file and the number of lines to keep.
-use call_walk_back::WalkedBack;
+use carry::Carried;
 
 // Walks an answer back and prints the line, or the number of the refusal.
 fn print_plan(formula: &[u8], log: &[u8], answer: &[u8], work: &mut [i32], out: &mut [u8]) {
     match call_walk_back::walk_back(formula, log, prog_common::number_arg(3), answer, work, out) {
-        WalkedBack::Refused(k) => prog_common::print_refusal(k),
-        WalkedBack::Line(n) => prog_common::print_start(out, n),
+        Carried::Refused(k) => prog_common::print_refusal(k),
+        Carried::Line(n) => prog_common::print_start(out, n),
     }
 }
 

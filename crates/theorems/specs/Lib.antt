@@ -5,6 +5,7 @@ pub mod ShortLog
 pub mod Step
 pub mod Texts
 pub mod WayBack
+pub mod WayForward
 pub mod Refusals
 pub mod Aligning
 pub mod Marks

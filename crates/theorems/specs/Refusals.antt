@@ -9,7 +9,7 @@ use Rattle.definition.specs.Text.{Bytes}
 use Rattle.definition.specs.LogReading.{read-log}
 use Rattle.definition.specs.Answer.{read-answer}
 use Rattle.definition.specs.Reencoding.{Settings}
-use Rattle.definition.specs.Calls.{reencode, read-back, walk-back, buffer-after}
+use Rattle.definition.specs.Calls.{reencode, read-back, walk-back, carry-forward, buffer-after}
 
 -- ---- the listed numbers
 
@@ -39,6 +39,10 @@ read-back-numbers = formula-numbers ++ (11 ∷ [])
 unfoldable pub walk-back-numbers : List ℕ
 walk-back-numbers = formula-numbers ++ log-numbers ++ answer-numbers ++ (11 ∷ 32 ∷ 44 ∷ 33 ∷ 14 ∷ [])
 
+-- carrying forward: 1 to 4, 7 to 9, 31 or 34, 41 to 43, 11; M-121: "45 the plan fails the formula, directly after 11; 46 a standing clause fails in the end, .. before 14"
+unfoldable pub carry-forward-numbers : List ℕ
+carry-forward-numbers = formula-numbers ++ log-numbers ++ answer-numbers ++ (11 ∷ 45 ∷ 32 ∷ 46 ∷ 14 ∷ [])
+
 -- ---- the demand
 
 -- an outcome is a value, or a fault with one of the numbers
@@ -56,5 +60,6 @@ pub record Demand-1 : Type 1 where
   pub reencoding : (s : Settings) (workspace log-room formula-room table-room : ℕ) (t : Bytes) → Listed reencode-numbers (reencode s workspace log-room formula-room table-room t)
   pub reading-back : (workspace : ℕ) (t : Bytes) → Listed read-back-numbers (read-back workspace t)
   pub walking-back : (workspace room kept : ℕ) (t log answer : Bytes) → Listed walk-back-numbers (walk-back workspace room kept t log answer)
+  pub carrying-forward : (workspace room kept : ℕ) (t log plan : Bytes) → Listed carry-forward-numbers (carry-forward workspace room kept t log plan)
   -- after a refusal "output buffers become all zero"
   pub zeroed : {A E : Type 0} (nought : E) (n : ℕ) (written : A → List E) (before : List E) → buffer-after nought (fault n) written before ≡ replicate (length before) nought

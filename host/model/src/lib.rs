@@ -1,13 +1,14 @@
-//! A plain model of document 01 (choice clauses, counters and the way back) and of M-100, M-112, M-118, M-130
-//! and M-152 in document 02.
+//! A plain model of document 01 (choice clauses, counters and the way back) and of M-100, M-112, M-118, M-121,
+//! M-130 and M-152 in document 02.
 //!
-//! Three calls: [`reencode`], [`read_back`] and [`walk_back`]. Each gives its
-//! result or the number of its refusal.
+//! Four calls: [`reencode`], [`read_back`], [`walk_back`] and [`carry_forward`].
+//! Each gives its result or the number of its refusal.
 
 #![forbid(unsafe_code)]
 
 pub mod alignment;
 pub mod answer;
+pub mod carry_forward;
 pub mod clearing;
 pub mod counter;
 pub mod encoding;
@@ -21,6 +22,7 @@ pub mod texts;
 pub mod valleys;
 pub mod walk_back;
 
+pub use carry_forward::carry_forward;
 pub use walk_back::walk_back;
 
 use encoding::Encoding;

@@ -32,19 +32,20 @@ pub fn replay(input: &[Vec<i32>], lines: &[Line]) -> Result<Vec<Vec<i32>>, u8> {
     Ok(standing.clauses())
 }
 
-/// Goes through the lines, last first.
+/// Where all the literals are false, the first one is made true. Without literals nothing changes.
+pub fn make_first_true(literals: &[i32], values: &mut Assignment) {
+    if literals.iter().any(|&literal| is_true(literal, values)) {
+        return;
+    }
+    if let Some(&first) = literals.first() {
+        values[first.unsigned_abs() as usize] = first > 0;
+    }
+}
+
+/// Goes through the lines, last first. An addition changes nothing.
 pub fn carry_back(lines: &[Line], values: &mut Assignment) {
     for line in lines.iter().rev().filter(|line| line.deletion) {
-        if line
-            .literals
-            .iter()
-            .any(|&literal| is_true(literal, values))
-        {
-            continue;
-        }
-        if let Some(&first) = line.literals.first() {
-            values[first.unsigned_abs() as usize] = first > 0;
-        }
+        make_first_true(&line.literals, values);
     }
 }
 
@@ -56,11 +57,20 @@ pub fn highest_allowed(formula: &Formula, kept: &[Line]) -> i32 {
         .fold(formula.variables, i32::max)
 }
 
-/// The 32-bit entries that walking back asks for. N counts the clauses that are kept.
+/// The 32-bit entries that walking back, and any other call that reads a log, asks for. N counts the clauses that are kept.
 pub fn workspace_needed(formula: &Formula, kept: &[Line]) -> u64 {
     let formula_numbers = formula.literal_count() + formula.clauses.len() as u64;
     let line_numbers: u64 = kept.iter().map(|line| line.literals.len() as u64 + 1).sum();
     4 * (formula_numbers + line_numbers) + 4 * highest_allowed(formula, kept) as u64 + 64
+}
+
+/// The line of the variables from 1 to the highest, or number 14.
+pub fn answer_line(highest: i32, values: &Assignment, room: usize) -> Result<Vec<u8>, u8> {
+    let line = answer_text(highest, |variable| is_true(variable, values));
+    if line.len() > room {
+        return Err(14);
+    }
+    Ok(line)
 }
 
 pub fn walk_back(
@@ -86,9 +96,5 @@ pub fn walk_back(
     if !satisfies(&values, &formula.clauses) {
         return Err(33);
     }
-    let line = answer_text(formula.variables, |variable| is_true(variable, &values));
-    if line.len() > room {
-        return Err(14);
-    }
-    Ok(line)
+    answer_line(formula.variables, &values, room)
 }

@@ -1,11 +1,13 @@
 //! The sessions listed in document 01, two of them as M-100 has them, the example vectors of its readings,
-//! the choices with a pure literal of M-112, and the short logs of M-130.
+//! the choices with a pure literal of M-112, plans carried forward of M-121, and the short logs of M-130.
 
 use model::generator::{all_but_one, clashing_at_1, forbidding};
 use model::reading::{read_formula, INPUT_LIMITS};
 use model::sessions::{COPIES, F, JOINED_E, SIX};
 use model::texts::{count_true, formula_text};
-use model::{read_back, reencode, walk_back, Arrangement, Form, Reencoded, Room, Settings};
+use model::{
+    carry_forward, read_back, reencode, walk_back, Arrangement, Form, Reencoded, Room, Settings,
+};
 use std::slice::from_ref;
 
 const PLENTY: usize = 1 << 30;
@@ -44,6 +46,12 @@ fn walk(formula: &str, log: &[u8], keep: usize, answer: &str) -> Result<String, 
         PLENTY,
     )
     .map(|line| String::from_utf8(line).unwrap())
+}
+
+fn carry(formula: &str, log: &str, keep: usize, plan: &str) -> Result<String, u8> {
+    let (formula, log, plan) = (formula.as_bytes(), log.as_bytes(), plan.as_bytes());
+    let line = carry_forward(formula, log, keep, plan, 1 << 40, PLENTY);
+    line.map(|line| String::from_utf8(line).unwrap())
 }
 
 #[test]
@@ -103,6 +111,36 @@ fn sessions_g_and_h_order_form() {
     let answer = "s SATISFIABLE\nv 1 2 3 4 5 -6 -7 -8 -9 10 0\n";
     let line = walk(F, &g.log, 41, answer).unwrap();
     assert_eq!(line, "v -1 -2 -3 4 -5 -6 0\n");
+}
+
+/// Of the eight plans these four satisfy E. The resolvent 2 3 is true in each, and nothing changes.
+#[test]
+fn session_e_carried_forward() {
+    let e = "p cnf 3 2\n1 2 0\n-1 3 0\n";
+    let log = encode(e, Form::Counter).log;
+    let log = String::from_utf8_lossy(&log);
+    for line in [
+        "v -1 2 -3 0\n",
+        "v -1 2 3 0\n",
+        "v 1 -2 3 0\n",
+        "v 1 2 3 0\n",
+    ] {
+        let plan = format!("s SATISFIABLE\n{line}");
+        for keep in 0..=4 {
+            assert_eq!(carry(e, &log, keep, &plan), Ok(line.into()), "{keep}");
+            assert_eq!(
+                walk(e, log.as_bytes(), keep, &plan),
+                Ok(line.into()),
+                "{keep}"
+            );
+        }
+    }
+    for literals in ["0", "3 0", "1 0", "1 2 0"] {
+        let plan = format!("s SATISFIABLE\nv {literals}\n");
+        for keep in 0..=4 {
+            assert_eq!(carry(e, &log, keep, &plan), Err(45), "{literals} {keep}");
+        }
+    }
 }
 
 /// Each body after the header is refused with its number.

@@ -14,7 +14,7 @@ use Rattle.theory_base.specs.Slices.{between}
 use Rattle.theory_base.proofs.Tests.{by-test}
 use Rattle.theory_base.proofs.Slices.{sets-then, taken-sets}
 use Rattle.theory_base.proofs.Parts.{drop-take}
-use Rattle.call_walk_back.specs.Texts.{need}
+use Rattle.log_texts.specs.Handed.{need}
 
 -- ---- the test of its size, by a quotient
 

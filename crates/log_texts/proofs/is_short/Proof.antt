@@ -1,8 +1,8 @@
 use mathlib.Core.Path.{refl}
-use Rattle.call_walk_back.proofs.Workspace.{short-at-once, short-by-quotient}
+use Rattle.log_texts.proofs.Workspace.{short-at-once, short-by-quotient}
 use borrow.Author.Needs.{needs}
-use Rattle.call_walk_back.proofs.is_short.Statement.{statement}
-use Rattle.call_walk_back.proofs.is_short.Tie as tie
+use Rattle.log_texts.proofs.is_short.Statement.{statement}
+use Rattle.log_texts.proofs.is_short.Tie as tie
 
 mul-least : tie.Need-mul-least
 mul-least c = search needs

@@ -1,9 +1,9 @@
 use native.Mathlib.Omega.{arith}
 use denote.Ref.{now}
-use Rattle.call_walk_back.proofs.TextsRead.{says-formula, says-log, x-small, says-answer, says-read}
+use Rattle.log_texts.proofs.TextsRead.{says-formula, says-log, y-small, says-answer, says-read}
 use borrow.Author.Needs.{needs}
-use Rattle.call_walk_back.proofs.read_texts.Statement.{statement}
-use Rattle.call_walk_back.proofs.read_texts.Tie as tie
+use Rattle.log_texts.proofs.read_words.Statement.{statement}
+use Rattle.log_texts.proofs.read_words.Tie as tie
 
 input-limits-requires : tie.Need-input-limits-requires
 input-limits-requires c κs = search needs
@@ -29,19 +29,23 @@ enum-known-g c = search needs
 higher-variable-requires : tie.Need-higher-variable-requires
 higher-variable-requires c κs = search needs
 
+by-way-requires : tie.Need-by-way-requires
+by-way-requires c κs = search needs
+
 read-answer-requires : tie.Need-read-answer-requires
 read-answer-requires c κs =
-    let back = c .before .before .before in let g = back .g in
+    let back = c .before .before .before .before in let g = back .g in
     let back = back .before .before .before in let read-log-behind = back .read-log-behind in
     let back = back .before .before .before in let v = back .v in
     let back = back .before .before .before in let read = back .read in
     let back = back .before .before in let input-limits = back .input-limits in
     let start = back .before .before .before .before .before in
-    let x = x-small (start .args .kept) (now (start .args .formula)) (now (start .args .log))
+    let y = y-small (start .args .forward) (start .args .kept) (now (start .args .formula)) (now (start .args .log))
     (now (start .args .answer)) (now (start .args .work)) (input-limits .result) (input-limits .ensures .0)
     (read .result) (read .ensures .0) _ (read .ensures .1) _ _ _ _ (v .given .1) (read-log-behind .result) _
-    (read-log-behind .ensures) _ _ _ (g .given .1) _ (c .before .higher-variable .ensures) in
-    (x, omega (arith, x, start .pre))
+    (read-log-behind .ensures) _ _ _ (g .given .1) _ (c .before .before .higher-variable .ensures) _
+    (c .before .by-way .ensures) in
+    (y, omega (arith, y, (start .pre)))
 
 enum-known-k-3 : tie.Need-enum-known-k-3
 enum-known-k-3 c = search needs
@@ -57,9 +61,9 @@ returns c =
     let back = c .before .before .before .before in let read = back .read in
     let back = back .before .before in let input-limits = back .input-limits in
     let start = back .before .before .before .before .before in
-    says-formula (start .args .kept) (now (start .args .formula)) (now (start .args .log)) (now (start .args .answer))
-    (now (start .args .work)) (input-limits .result) (input-limits .ensures .0) (read .result) (read .ensures .0) _
-    (c .before .k .given .1)
+    says-formula (start .args .forward) (start .args .kept) (now (start .args .formula)) (now (start .args .log))
+    (now (start .args .answer)) (now (start .args .work)) (input-limits .result) (input-limits .ensures .0)
+    (read .result) (read .ensures .0) _ (c .before .k .given .1)
 
 same-length-2 : tie.Need-same-length-2
 same-length-2 c = search needs
@@ -71,10 +75,10 @@ returns-2 c =
     let back = back .before .before .before in let read = back .read in
     let back = back .before .before in let input-limits = back .input-limits in
     let start = back .before .before .before .before .before in
-    says-log (start .args .kept) (now (start .args .formula)) (now (start .args .log)) (now (start .args .answer))
-    (now (start .args .work)) (input-limits .result) (input-limits .ensures .0) (read .result) (read .ensures .0) _
-    (read .ensures .1) _ _ _ _ (v .given .1) (read-log-behind .result) _ (read-log-behind .ensures) _
-    (c .before .k2 .given .1)
+    says-log (start .args .forward) (start .args .kept) (now (start .args .formula)) (now (start .args .log))
+    (now (start .args .answer)) (now (start .args .work)) (input-limits .result) (input-limits .ensures .0)
+    (read .result) (read .ensures .0) _ (read .ensures .1) _ _ _ _ (v .given .1) (read-log-behind .result) _
+    (read-log-behind .ensures) _ (c .before .k2 .given .1)
 
 same-length-3 : tie.Need-same-length-3
 same-length-3 c = search needs
@@ -85,17 +89,19 @@ same-length-4 c = search needs
 returns-3 : tie.Need-returns-3
 returns-3 c =
     let back = c .before .before .before .before .before in let read-answer = back .read-answer in
-    let back = back .before .before in let higher-variable = back .higher-variable in
+    let back = back .before .before in let by-way = back .by-way in
+    let back = back .before in let higher-variable = back .higher-variable in
     let back = back .before .before in let g = back .g in
     let back = back .before .before .before in let read-log-behind = back .read-log-behind in
     let back = back .before .before .before in let v = back .v in
     let back = back .before .before .before in let read = back .read in
     let back = back .before .before in let input-limits = back .input-limits in
     let start = back .before .before .before .before .before in
-    says-answer (start .args .kept) (now (start .args .formula)) (now (start .args .log)) (now (start .args .answer))
-    (now (start .args .work)) (input-limits .result) (input-limits .ensures .0) (read .result) (read .ensures .0) _
-    (read .ensures .1) _ _ _ _ (v .given .1) (read-log-behind .result) _ (read-log-behind .ensures) _ _ _ (g .given .1)
-    _ (higher-variable .ensures) _ (read-answer .result) (read-answer .ensures) _ (c .before .k3 .given .1)
+    says-answer (start .args .forward) (start .args .kept) (now (start .args .formula)) (now (start .args .log))
+    (now (start .args .answer)) (now (start .args .work)) (input-limits .result) (input-limits .ensures .0)
+    (read .result) (read .ensures .0) _ (read .ensures .1) _ _ _ _ (v .given .1) (read-log-behind .result) _
+    (read-log-behind .ensures) _ _ _ (g .given .1) _ (higher-variable .ensures) _ (by-way .ensures) _
+    (read-answer .result) (read-answer .ensures) _ (c .before .k3 .given .1)
 
 same-length-5 : tie.Need-same-length-5
 same-length-5 c = search needs
@@ -106,20 +112,22 @@ same-length-6 c = search needs
 returns-4 : tie.Need-returns-4
 returns-4 c =
     let back = c .before .before .before .before in let read-answer = back .read-answer in
-    let back = back .before .before in let higher-variable = back .higher-variable in
+    let back = back .before .before in let by-way = back .by-way in
+    let back = back .before in let higher-variable = back .higher-variable in
     let back = back .before .before in let g = back .g in
     let back = back .before .before .before in let read-log-behind = back .read-log-behind in
     let back = back .before .before .before in let v = back .v in
     let back = back .before .before .before in let read = back .read in
     let back = back .before .before in let input-limits = back .input-limits in
     let start = back .before .before .before .before .before in
-    says-read (start .args .kept) (now (start .args .formula)) (now (start .args .log)) (now (start .args .answer))
-    (now (start .args .work)) (input-limits .result) (input-limits .ensures .0) (read .result) (read .ensures .0) _
-    (read .ensures .1) _ _ _ _ (v .given .1) (read-log-behind .result) _ (read-log-behind .ensures) _ _ _ (g .given .1)
-    _ (higher-variable .ensures) _ (read-answer .result) (read-answer .ensures) (c .enum-told .given .1)
+    says-read (start .args .forward) (start .args .kept) (now (start .args .formula)) (now (start .args .log))
+    (now (start .args .answer)) (now (start .args .work)) (input-limits .result) (input-limits .ensures .0)
+    (read .result) (read .ensures .0) _ (read .ensures .1) _ _ _ _ (v .given .1) (read-log-behind .result) _
+    (read-log-behind .ensures) _ _ _ (g .given .1) _ (higher-variable .ensures) _ (by-way .ensures) _
+    (read-answer .result) (read-answer .ensures) (c .enum-told .given .1)
 
-pub read-texts-spec : {M : Type 1} → statement M
-read-texts-spec =
+pub read-words-spec : {M : Type 1} → statement M
+read-words-spec =
     tie.close
     (tie.spec
     input-limits-requires
@@ -130,6 +138,7 @@ read-texts-spec =
     enum-known-k-2
     enum-known-g
     higher-variable-requires
+    by-way-requires
     read-answer-requires
     enum-known-k-3
     enum-told

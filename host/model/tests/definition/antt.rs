@@ -1,7 +1,7 @@
 //! The rows as theorems for the checker: each says that a call of the definition gives what the model
 //! gives. All that is written in the checker's language stands in this file.
 
-use crate::rows::{Call, Outcome, Row};
+use crate::rows::{Call, Carry, Outcome, Row};
 use model::{Arrangement, ChoiceRecord, Form, Room, Settings};
 
 /// What the rows' theorems share: settings, and tests of what a call gives. `computing` opens all that a
@@ -79,7 +79,7 @@ reencoded tally log out table r =
 unfoldable pub read : String → Input → Bool
 read out i = same-bytes (bytes out) (formula-text (i .variables) (i .formula))
 
--- the line of a walk-back
+-- the line that an answer or a plan is carried to
 unfoldable pub line : String → Bytes → Bool
 line out t = same-bytes (bytes out) t
 
@@ -99,7 +99,7 @@ const USES: &str = "use mathlib.Core.List.{[], _∷_}
 use lib.Dec.{T}
 use Rattle.definition.specs.Text.{bytes}
 use Rattle.definition.specs.Reading.{input-limits, read-formula}
-use Rattle.definition.specs.Calls.{reencode, read-back, walk-back}
+use Rattle.definition.specs.Calls.{reencode, read-back, walk-back, carry-forward}
 use Rattle.definition.specs.Sessions.{good, is-fault}
 use Rattle.rows.specs.Given
 use Rattle.rows.specs.Given.{counter-by, counter-aligned-by, order-by, order-aligned-by}
@@ -149,14 +149,15 @@ fn call_text(call: &Call) -> String {
             format!("reencode {settings} {workspace} {log} {formula} {table} (bytes {text})")
         }
         Call::ReadBack { work, text } => format!("read-back {work} (bytes {})", quoted(text)),
-        Call::WalkBack(call) => {
-            let (work, room, kept) = (call.work, call.room, call.kept);
-            let [text, log, answer] =
-                [&call.text, &call.log, &call.answer].map(|text| quoted(text));
-            format!("walk-back {work} {room} {kept} (bytes {text}) (bytes {log}) (bytes {answer})")
-        }
+        Call::Carry(call) => carry_text(call),
         Call::Choose { text } => format!("read-formula input-limits (bytes {})", quoted(text)),
     }
+}
+
+fn carry_text(call: &Carry) -> String {
+    let (name, work, room, kept) = (call.way.name(), call.work, call.room, call.kept);
+    let [text, log, answer] = [&call.text, &call.log, &call.answer].map(|text| quoted(text));
+    format!("{name} {work} {room} {kept} (bytes {text}) (bytes {log}) (bytes {answer})")
 }
 
 fn settings(settings: Settings) -> String {

@@ -1,15 +1,15 @@
 //! Random calls.
 
-use crate::rows::{Call, Reencode, Text, WalkBack, PLENTY, PLENTY_OF_ROOM};
+use crate::rows::{Call, Carry, Reencode, Text, Way, PLENTY, PLENTY_OF_ROOM};
 use model::encoding::Encoding;
 use model::generator::{
     answer_after, clauses_apart, cut_apart, damage, damage_log, freed, noise, one_of_three_joined,
     paired, planned, Joined, Random,
 };
 use model::reading::Formula;
-use model::texts::log_text;
+use model::texts::{log_text, Line};
 use model::walk_back::workspace_needed;
-use model::{reencode, walk_back, Arrangement, Form, Room, Settings};
+use model::{reencode, Arrangement, Form, Room, Settings};
 
 pub const FORMS: [Form; 2] = [Form::Counter, Form::Order];
 pub const ARRANGEMENTS: [Arrangement; 2] = [Arrangement::AsListed, Arrangement::Alignment];
@@ -178,7 +178,7 @@ pub fn reencoding(
     })
 }
 
-/// The run of a formula whose log is walked back or whose new formula is read back, with any step.
+/// The run of a formula whose log is gone over or whose new formula is read back, with any step.
 fn run(formula: &Formula, random: &mut Random, form: Form) -> Encoding {
     let settings = Settings {
         step: *random.one_of(&[1, 1, 2, 3, 7, 100]),
@@ -197,36 +197,72 @@ pub fn reading_back(formula: Formula, random: &mut Random, form: Form, damaged: 
     }
 }
 
-/// With the lines of a log damaged too, and other numbers of lines kept than all of them.
-pub fn walking_back(
+/// Over the formula's own log, in so many of a hundred cases with its lines damaged.
+pub fn carrying(
+    way: Way,
     formula: impl Into<Joined>,
     random: &mut Random,
     form: Form,
     damaged: usize,
 ) -> Call {
-    let Joined { text, formula } = formula.into();
-    let mut lines = run(&formula, random, form).log;
+    let formula = formula.into();
+    let mut lines = run(&formula.formula, random, form).log;
     if random.chance(damaged) {
         lines = damage_log(random, &lines);
     }
+    carrying_over(&lines, way, formula, random, damaged)
+}
+
+/// Over the log of another formula.
+pub fn carrying_astray(way: Way, random: &mut Random, form: Form) -> Call {
+    let other = small(random).formula;
+    let lines = run(&other, random, form).log;
+    let formula = small(random);
+    carrying_over(&lines, way, formula, random, 0)
+}
+
+/// All of the lines are kept, or another number of them.
+fn carrying_over(
+    lines: &[Line],
+    way: Way,
+    formula: Joined,
+    random: &mut Random,
+    damaged: usize,
+) -> Call {
+    let Joined { text, formula } = formula;
     let kept = if random.chance(50) {
         lines.len()
     } else {
         random.below(lines.len() + 1) + usize::from(random.chance(damaged))
     };
     let kept_lines = &lines[..kept.min(lines.len())];
-    let answer = answer_after(random, &formula, kept_lines);
-    let text = perhaps_damaged(random, text, damaged / 2);
-    let log = perhaps_damaged(random, log_text(&lines), damaged / 2);
-    let answer = perhaps_damaged(random, answer, damaged / 2);
-    let line = walk_back(&text, &log, kept, &answer, PLENTY as u64, PLENTY);
-    let needed = workspace_needed(&formula, kept_lines) as usize;
-    Call::WalkBack(WalkBack {
-        work: room(random, needed, damaged),
-        room: room(random, line.map_or(60, |line| line.len()), damaged),
+    let answer = answer(way, random, &formula, kept_lines, damaged);
+    let mut call = Carry {
+        way,
+        work: PLENTY,
+        room: PLENTY,
         kept,
-        text,
-        log,
-        answer,
-    })
+        text: perhaps_damaged(random, text, damaged / 2),
+        log: perhaps_damaged(random, log_text(lines), damaged / 2),
+        answer: perhaps_damaged(random, answer, damaged / 2),
+    };
+    let needed = workspace_needed(&formula, kept_lines) as usize;
+    let line = call.given().map_or(60, |line| line.len());
+    call.work = room(random, needed, damaged);
+    call.room = room(random, line, damaged);
+    Call::Carry(call)
+}
+
+/// An answer to what stands after the lines, or a plan for the formula; in so many of a hundred cases the former in
+/// the place of the latter.
+fn answer(
+    way: Way,
+    random: &mut Random,
+    formula: &Formula,
+    lines: &[Line],
+    damaged: usize,
+) -> Text {
+    let is_plan = way == Way::Forward && !random.chance(damaged);
+    let lines = if is_plan { &[] } else { lines };
+    answer_after(random, formula, lines)
 }

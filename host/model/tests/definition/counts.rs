@@ -1,6 +1,6 @@
 //! How often each case occurs in the rows.
 
-use crate::rows::{Call, Row};
+use crate::rows::{Call, Carry, Row, Way};
 use model::encoding::{Encoding, PAIRS};
 use model::generator::clauses_with_repeat;
 use model::reading::{read_formula, READ_BACK_LIMITS};
@@ -15,7 +15,7 @@ pub fn counts(rows: &[Row]) -> Counts {
         let (call, texts) = match &row.call {
             Call::Reencode(call) => ("reencode", vec![&call.text]),
             Call::ReadBack { text, .. } => ("read-back", vec![text]),
-            Call::WalkBack(call) => ("walk-back", vec![&call.text, &call.log, &call.answer]),
+            Call::Carry(call) => (call.way.name(), vec![&call.text, &call.log, &call.answer]),
             Call::Choose { text } => ("choose", vec![text]),
         };
         count(&mut counts, format!("{call} {:02}", row.number()), 1);
@@ -25,7 +25,8 @@ pub fn counts(rows: &[Row]) -> Counts {
             count_reading(&mut counts, call, texts[0]);
         }
         count_reencoding(&mut counts, row);
-        count_walk_back(&mut counts, row);
+        count_carry(&mut counts, row);
+        count_forward(&mut counts, row);
         count_choose(&mut counts, row);
     }
     counts
@@ -121,31 +122,57 @@ fn count_run(counts: &mut Counts, run: &Encoding) {
     }
 }
 
-fn count_walk_back(counts: &mut Counts, row: &Row) {
-    if !matches!(row.call, Call::WalkBack(_)) || row.number() > 0 {
+/// Either way over a log.
+fn count_carry(counts: &mut Counts, row: &Row) {
+    let Some(Carry { way, .. }) = row.carry().filter(|_| row.number() == 0) else {
         return;
-    }
+    };
+    let name = way.name();
     let log = if row.is_cut() { "cut log" } else { "whole log" };
-    count(counts, format!("walk-back, {log}"), 1);
-    let changed = usize::from(row.is_changed());
-    count(counts, format!("walk-back, {log}, answer changed"), changed);
-    let skips = usize::from(row.skips_in_log());
-    count(counts, format!("walk-back, {log}, skipped numbers"), skips);
     let tally = row.tally();
-    let has_free = usize::from(tally.free_choices > 0);
-    count(
-        counts,
-        format!("walk-back, {log}, free choice, answer changed"),
-        changed * has_free,
-    );
+    let has_free = tally.free_choices > 0;
+    for (what, is_so) in [
+        ("", true),
+        (", values changed", row.is_changed()),
+        (", skipped numbers", row.skips_in_log()),
+        (
+            ", free choice, values changed",
+            has_free && row.is_changed(),
+        ),
+    ] {
+        count(counts, format!("{name}, {log}{what}"), usize::from(is_so));
+    }
     for (log, is_so) in [
         ("whole log", !row.is_cut()),
         ("cut in choices", row.is_cut_in_choices()),
     ] {
         for (what, kind) in PAIRS {
             let times = usize::from(is_so) * kind(&tally);
-            count(counts, format!("walk-back, {log}, {what}"), times);
+            count(counts, format!("{name}, {log}, {what}"), times);
         }
+    }
+}
+
+/// What occurs on the way forward alone.
+fn count_forward(counts: &mut Counts, row: &Row) {
+    if row.carry().is_none_or(|call| call.way == Way::Back) {
+        return;
+    }
+    let is_cut = row.is_cut();
+    let has_twenty = row
+        .plain_run()
+        .is_some_and(|run| run.choices.iter().any(|(_, c)| c.len() == 20));
+    for (what, is_so) in [
+        ("42, at most X", row.names_new()),
+        ("whole log, new true", !is_cut && row.makes_new_true()),
+        ("cut log, new true", is_cut && row.makes_new_true()),
+        (
+            "cut in choices",
+            row.number() == 0 && row.is_cut_in_choices(),
+        ),
+        ("choice of 20", row.number() == 0 && !is_cut && has_twenty),
+    ] {
+        count(counts, format!("carry-forward, {what}"), usize::from(is_so));
     }
 }
 

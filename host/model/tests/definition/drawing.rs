@@ -1,10 +1,10 @@
 //! Rows drawn from a seed: so many of each case.
 
 use crate::calls::{
-    choice_of_20, free_clause, linked_choices, reading_back, reencoding, small, small_cut,
-    small_freed, small_paired, unique_clause, walking_back, ARRANGEMENTS, FORMS,
+    carrying, carrying_astray, choice_of_20, free_clause, linked_choices, reading_back, reencoding,
+    small, small_cut, small_freed, small_paired, unique_clause, ARRANGEMENTS, FORMS,
 };
-use crate::rows::{Call, Row, READER};
+use crate::rows::{Call, Row, Way, READER};
 use model::encoding::{Encoding, PAIRS};
 use model::generator::{clauses_with_repeat, joined, text_of, Random};
 use model::reading::{read_formula, INPUT_LIMITS, READ_BACK_LIMITS};
@@ -38,6 +38,11 @@ pub fn rows(seed: u64) -> Vec<Row> {
             drawn.steps(form, arrangement);
         }
     }
+    for form in FORMS {
+        drawn.forwards(form);
+        drawn.forwards_with_choices(form);
+    }
+    drawn.refused_forwards();
     drawn.rows
 }
 
@@ -132,7 +137,7 @@ impl Drawn {
     }
 
     fn walk_backs(&mut self, form: Form) {
-        let draw = |random: &mut Random| walking_back(small(random), random, form, 0);
+        let draw = |random: &mut Random| carrying(Way::Back, small(random), random, form, 0);
         self.add(15, draw, |row| row.number() == 0 && !row.is_cut());
         self.add(15, draw, |row| row.number() == 0 && row.is_cut());
         self.add(10, draw, |row| row.is_changed() && !row.is_cut());
@@ -152,7 +157,7 @@ impl Drawn {
             reencoding(choice_of_20(random), random, settings, 0)
         };
         self.add(1, draw, |_| true);
-        let draw = |random: &mut Random| walking_back(choice_of_20(random), random, form, 0);
+        let draw = |random: &mut Random| carrying(Way::Back, choice_of_20(random), random, form, 0);
         self.add(1, draw, |row| row.number() == 0 && !row.is_cut());
     }
 
@@ -191,7 +196,7 @@ impl Drawn {
     fn refused_walk_backs(&mut self) {
         let draw = |random: &mut Random| {
             let form = *random.one_of(&FORMS);
-            walking_back(small(random), random, form, 40)
+            carrying(Way::Back, small(random), random, form, 40)
         };
         for number in READER {
             self.add(1, draw, |row| row.number() == number);
@@ -234,7 +239,7 @@ impl Drawn {
                 has(row, |run| run.tally.joined_free_choices > 0)
             });
         }
-        let draw = |random: &mut Random| walking_back(small_freed(random), random, form, 0);
+        let draw = |random: &mut Random| carrying(Way::Back, small_freed(random), random, form, 0);
         let is_wanted = |row: &Row| row.tally().free_choices > 0 && row.is_changed();
         self.add(2, draw, |row| is_wanted(row) && !row.is_cut());
         self.add(3, draw, |row| is_wanted(row) && row.is_cut());
@@ -260,7 +265,8 @@ impl Drawn {
                 };
                 self.add(2, draw, |row| has(row, |run| kind(&run.tally) > 0));
             }
-            let draw = |random: &mut Random| walking_back(small_paired(random), random, form, 0);
+            let draw =
+                |random: &mut Random| carrying(Way::Back, small_paired(random), random, form, 0);
             let is_wanted = |row: &Row| row.number() == 0 && kind(&row.tally()) > 0;
             self.add(1, draw, |row| is_wanted(row) && !row.is_cut());
             self.add(2, draw, |row| is_wanted(row) && row.is_cut_in_choices());
@@ -293,5 +299,56 @@ impl Drawn {
             reencoding(linked_choices(random), random, settings, 0)
         };
         self.add(1, draw, |row| row.skipped() > 0);
+    }
+
+    /// Plans carried forward over the whole log and over a part of it.
+    fn forwards(&mut self, form: Form) {
+        let draw = |random: &mut Random| carrying(Way::Forward, small(random), random, form, 0);
+        for is_cut in [false, true] {
+            let is_wanted = |row: &Row| row.number() == 0 && row.is_cut() == is_cut;
+            self.add(4, draw, is_wanted);
+            self.add(4, draw, |row| is_wanted(row) && row.makes_new_true());
+            self.add(3, draw, |row| is_wanted(row) && row.skips_in_log());
+        }
+        self.add(2, draw, |row| row.number() == 0 && row.is_cut_in_choices());
+    }
+
+    /// Plans with several true literals in a choice, choices with pairs, and a choice of 20.
+    fn forwards_with_choices(&mut self, form: Form) {
+        let draw =
+            |random: &mut Random| carrying(Way::Forward, small_freed(random), random, form, 0);
+        let is_wanted = |row: &Row| row.tally().free_choices > 0 && row.is_changed();
+        self.add(4, draw, |row| is_wanted(row) && !row.is_cut());
+        self.add(4, draw, |row| is_wanted(row) && row.is_cut());
+        let draw =
+            |random: &mut Random| carrying(Way::Forward, small_paired(random), random, form, 0);
+        for (_, kind) in PAIRS {
+            let is_wanted = |row: &Row| row.makes_new_true() && kind(&row.tally()) > 0;
+            self.add(1, draw, |row| is_wanted(row) && !row.is_cut());
+            self.add(1, draw, |row| is_wanted(row) && row.is_cut_in_choices());
+        }
+        let draw =
+            |random: &mut Random| carrying(Way::Forward, choice_of_20(random), random, form, 0);
+        self.add(1, draw, |row| row.number() == 0 && !row.is_cut());
+    }
+
+    fn refused_forwards(&mut self) {
+        let draw = |random: &mut Random| {
+            let form = *random.one_of(&FORMS);
+            carrying(Way::Forward, small(random), random, form, 40)
+        };
+        for number in READER {
+            self.add(1, draw, |row| row.number() == number);
+        }
+        for number in [11, 14, 31, 32, 34, 41, 42, 43, 45, 46] {
+            self.add(6, draw, |row| row.number() == number);
+        }
+        self.add(3, draw, Row::names_new);
+        let draw = |random: &mut Random| {
+            let form = *random.one_of(&FORMS);
+            carrying_astray(Way::Forward, random, form)
+        };
+        self.add(4, draw, |row| row.number() == 46);
+        self.add(2, draw, |row| row.number() == 0 && row.is_changed());
     }
 }

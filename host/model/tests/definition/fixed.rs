@@ -1,8 +1,8 @@
 //! Rows that are not drawn: the limits, repeated and opposed literals, clauses with a pure literal, pairs in
-//! several copies, steps and tables, and all formulas of a small kind.
+//! several copies, steps and tables, plans carried forward, and all formulas of a small kind.
 
 use crate::calls::FORMS;
-use crate::rows::{Call, Reencode, Row, Text, WalkBack, NO_ROOM, PLENTY, PLENTY_OF_ROOM};
+use crate::rows::{Call, Carry, Reencode, Row, Text, Way, NO_ROOM, PLENTY, PLENTY_OF_ROOM};
 use model::encoding::Encoding;
 use model::generator::{clashing_at_1, clauses_apart, text_of};
 use model::log_reading::read_kept_lines;
@@ -50,15 +50,23 @@ fn reading_back(work: usize, text: &[u8]) -> Call {
     Call::ReadBack { work, text }
 }
 
-/// The answer names the variables that are true.
-fn walking_back(work: usize, text: &[u8], log: &str, kept: usize, answer: &str) -> Call {
-    Call::WalkBack(WalkBack {
-        work,
+/// All lines of the log are kept. The answer names the variables that are true.
+fn carry(way: Way, text: &[u8], log: &str, answer: &str) -> Carry {
+    Carry {
+        way,
+        work: PLENTY,
         room: PLENTY,
-        kept,
+        kept: log.lines().count(),
         text: text.to_vec(),
         log: log.into(),
         answer: format!("s SATISFIABLE\nv {answer}0\n").into(),
+    }
+}
+
+fn walking_back(text: &[u8], log: &str, kept: usize, answer: &str) -> Call {
+    Call::Carry(Carry {
+        kept,
+        ..carry(Way::Back, text, log, answer)
     })
 }
 
@@ -79,7 +87,7 @@ pub fn limits() -> Vec<Row> {
     }
     for variable in [70_000, 70_001] {
         let (log, answer) = (format!("{variable} 0\n"), format!("{variable} "));
-        let call = walking_back(PLENTY, b"p cnf 1 0\n", &log, 1, &answer);
+        let call = walking_back(b"p cnf 1 0\n", &log, 1, &answer);
         rows.push(Row::of(call));
     }
     rows
@@ -115,11 +123,10 @@ pub fn joined() -> Vec<Row> {
         let text = format!("p cnf {variables} {clauses}\n{body}\n").into_bytes();
         rows.push(Row::of(reencoding(PLENTY, &text)));
         rows.push(Row::of(reading_back(PLENTY, &text)));
-        rows.push(Row::of(walking_back(PLENTY, &text, "", 0, "1 ")));
+        rows.push(Row::of(walking_back(&text, "", 0, "1 ")));
     }
-    let walk = |log: &str, kept, answer| {
-        Row::of(walking_back(PLENTY, JOINED_E.as_bytes(), log, kept, answer))
-    };
+    let walk =
+        |log: &str, kept, answer| Row::of(walking_back(JOINED_E.as_bytes(), log, kept, answer));
     let log = "2 3 0\nd 1 2 0\nd -1 3 0\nd 2 3 0\n";
     for kept in 0..=4 {
         rows.extend([walk(log, kept, ""), walk(log, kept, "2 ")]);
@@ -150,7 +157,7 @@ fn log_in(form: Form, text: &[u8]) -> (String, usize) {
 /// Over the whole log in order form.
 fn walking_back_ordered(text: &[u8], answer: &str) -> Call {
     let (log, lines) = log_in(Form::Order, text);
-    walking_back(PLENTY, text, &log, lines, answer)
+    walking_back(text, &log, lines, answer)
 }
 
 /// Clauses of which each literal is pure: choices, and clauses that are deleted.
@@ -179,7 +186,7 @@ pub fn pairs() -> Vec<Row> {
     let mut calls = FORMS.map(|form| reencoding_in(form, text)).to_vec();
     for kept in 11..=lines {
         for answer in ["1 6 7 8 9 ", "2 3 7 8 9 "] {
-            calls.push(walking_back(PLENTY, text, &log, kept, answer));
+            calls.push(walking_back(text, &log, kept, answer));
         }
     }
     calls.into_iter().map(Row::of).collect()
@@ -240,17 +247,133 @@ pub fn workspaces() -> Vec<[Row; 2]> {
         "p cnf 2 5\n1 2 0\n2 0\n2 0\n2 -1 0\n2 1 0\n",
         "p cnf 9 1\n1 -9 0\n",
     ] {
-        let (text, log) = (text.as_bytes(), "1 2 0\n");
+        let text = text.as_bytes();
         let formula = read_formula(text, &INPUT_LIMITS).expect("in order");
-        let lines = read_kept_lines(log.as_bytes(), 1).expect("in order");
         let reading = formula.workspace_needed() as usize;
-        let walking = workspace_needed(&formula, &lines) as usize;
-        let walk = |work| walking_back(work, text, log, 1, "2 ");
         pairs.push([reading, reading - 1].map(|work| Row::of(reencoding(work, text))));
         pairs.push([reading, reading - 1].map(|work| Row::of(reading_back(work, text))));
-        pairs.push([walking, walking - 1].map(|work| Row::of(walk(work))));
+        pairs.push(carry_workspaces(&carry(Way::Back, text, "1 2 0\n", "2 ")));
+        // X is 12
+        let log = "1 2 0\n12 -2 0\n";
+        pairs.push(carry_workspaces(&carry(Way::Forward, text, log, "2 ")));
     }
     pairs
+}
+
+fn carry_workspaces(call: &Carry) -> [Row; 2] {
+    let formula = read_formula(&call.text, &INPUT_LIMITS).expect("in order");
+    let lines = read_kept_lines(&call.log, call.kept).expect("in order");
+    let needed = workspace_needed(&formula, &lines) as usize;
+    [needed, needed - 1].map(|work| {
+        carry_row(Carry {
+            work,
+            ..call.clone()
+        })
+    })
+}
+
+fn carry_row(call: Carry) -> Row {
+    Row::of(Call::Carry(call))
+}
+
+/// A formula of one clause.
+const PAIR: &[u8] = b"p cnf 2 1\n1 2 0\n";
+
+/// A plan for the pair, carried forward.
+pub fn forward(log: &str, plan: &str) -> Carry {
+    carry(Way::Forward, PAIR, log, plan)
+}
+
+/// Room for just the line that is given, and one byte less.
+fn rooms(call: &Carry) -> [Row; 2] {
+    let needed = call.given().expect("with enough room").len();
+    [needed, needed - 1].map(|room| {
+        carry_row(Carry {
+            room,
+            ..call.clone()
+        })
+    })
+}
+
+/// Plans carried forward: rooms, each cut of a choice's log, no formula, no line, lines without literals, refusals.
+pub fn forwards() -> Vec<Row> {
+    let mut rows = Vec::new();
+    for (log, plan) in [
+        ("", "1 "),
+        ("3 0\n", "2 "),
+        ("-1 2 0\n10 1 0\nd 1 2 0\n", "1 "),
+    ] {
+        rows.extend(rooms(&forward(log, plan)));
+    }
+    rows.extend(forward_cuts());
+    let (none, empty) = (b"p cnf 0 0\n".as_slice(), b"p cnf 0 1\n0\n".as_slice());
+    for (text, log) in [
+        (none, ""),
+        (none, "3 -1 0\n1 0\n-3 -1 0\n2 1 0\n"),
+        (empty, ""),
+        (empty, "d 0\n"),
+    ] {
+        rows.push(carry_row(carry(Way::Forward, text, log, "")));
+    }
+    // a line without literals; deletions, of which a false one is left so; lines in which several literals are false
+    for log in [
+        "0\n",
+        "0\nd 0\n",
+        "d 0\n",
+        "-1 2 0\nd 1 2 0\n",
+        "d 2 1 0\n-1 0\n",
+        "3 -1 0\n4 -3 0\n",
+    ] {
+        rows.push(carry_row(forward(log, "1 ")));
+    }
+    // what follows the kept lines is not read
+    for kept in 0..=2 {
+        let call = forward("3 0\nx", "1 ");
+        rows.push(carry_row(Carry { kept, ..call }));
+    }
+    rows.extend(due_numbers().map(|(call, ..)| carry_row(call)));
+    rows
+}
+
+/// Of a choice with pairs in several copies. 2 and 3 are true, of which the pair does not stand: -3 -7 makes 3 false.
+fn forward_cuts() -> Vec<Row> {
+    let text = COPIES.as_bytes();
+    let (log, lines) = log_in(Form::Counter, text);
+    let cut = |kept| {
+        carry_row(Carry {
+            kept,
+            ..carry(Way::Forward, text, &log, "2 3 ")
+        })
+    };
+    (0..=lines).map(cut).collect()
+}
+
+/// Plans carried forward that two numbers refuse: the one that is due, then the other.
+pub fn due_numbers() -> [(Carry, u8, u8); 9] {
+    let short = |log, plan| Carry {
+        work: 0,
+        room: 0,
+        ..forward(log, plan)
+    };
+    let no_room = |log, plan| Carry {
+        room: 0,
+        ..forward(log, plan)
+    };
+    let more_kept = Carry {
+        kept: 2,
+        ..short("3 0\n", "x ")
+    };
+    [
+        (short("3 3 0\n", "x "), 31, 41),
+        (more_kept, 34, 41),
+        (short("3 0\n", "3 x "), 42, 41),
+        (short("3 0\n", "1 -1 "), 43, 11),
+        (short("3 0\n", ""), 11, 45),
+        (no_room("d 1 0\n", ""), 45, 32),
+        (no_room("-1 0\nd 1 0\n", "1 "), 32, 46),
+        (no_room("-1 0\n", "1 "), 46, 14),
+        (no_room("-1 0\nd 1 2 0\n", ""), 45, 14),
+    ]
 }
 
 const CLAUSES: [&[i32]; 13] = [

@@ -13,7 +13,10 @@ use checker::check;
 use counts::{counts, Counts};
 use rows::{Row, READER};
 use std::collections::BTreeSet;
-use wrong::{mischosen, miscounted, misread, misrecorded, misstepped, mistaken, short_rows, wrong};
+use wrong::{
+    miscarried, mischosen, miscounted, misread, misrecorded, misstepped, mistaken, short_rows,
+    wrong,
+};
 
 /// Each row with the name of its theorem.
 fn named(name: &str, rows: Vec<Row>) -> Vec<(String, Row)> {
@@ -37,6 +40,7 @@ fn definition_and_model_agree() {
     rows.extend(fixed::pairs());
     rows.extend(fixed::steps());
     rows.extend(fixed::tables());
+    rows.extend(fixed::forwards());
     let counts = counts(&rows);
     println!("{} rows: {counts:#?}", rows.len());
     assert!(rows.len() >= 500);
@@ -79,8 +83,8 @@ fn assert_cases(counts: &Counts) {
         ("Order, free choices", 8),
         ("Order, aligned, free choices", 8),
         ("free choices joined by clashes", 10),
-        ("walk-back, whole log, free choice, answer changed", 6),
-        ("walk-back, cut log, free choice, answer changed", 6),
+        ("walk-back, whole log, free choice, values changed", 6),
+        ("walk-back, cut log, free choice, values changed", 6),
         ("choose, free choices", 3),
         ("choose, pure deletions", 2),
         ("Counter, choices with no pair", 4),
@@ -101,8 +105,8 @@ fn assert_cases(counts: &Counts) {
         ("walk-back, cut in choices, pairs in several copies", 4),
         ("several negated literals", 50),
         ("replaced by nothing", 50),
-        ("walk-back, whole log, answer changed", 20),
-        ("walk-back, cut log, answer changed", 20),
+        ("walk-back, whole log, values changed", 20),
+        ("walk-back, cut log, values changed", 20),
         ("not in ASCII", 5),
         ("reencode, clauses with a repeat", 60),
         ("reencode, clauses left out", 40),
@@ -137,6 +141,39 @@ fn assert_cases(counts: &Counts) {
         ("exact tables", 4),
         ("reencode 15", 8),
         ("reencode 17", 8),
+        ("carry-forward, whole log", 30),
+        ("carry-forward, cut log", 30),
+        ("carry-forward, whole log, values changed", 8),
+        ("carry-forward, cut log, values changed", 8),
+        ("carry-forward, whole log, new true", 16),
+        ("carry-forward, cut log, new true", 16),
+        ("carry-forward, whole log, skipped numbers", 6),
+        ("carry-forward, cut log, skipped numbers", 6),
+        ("carry-forward, whole log, free choice, values changed", 8),
+        ("carry-forward, cut log, free choice, values changed", 8),
+        ("carry-forward, whole log, choices with no pair", 2),
+        ("carry-forward, whole log, choices with some pairs", 2),
+        ("carry-forward, whole log, choices with all pairs", 2),
+        ("carry-forward, whole log, pairs in several copies", 2),
+        ("carry-forward, cut in choices", 16),
+        ("carry-forward, cut in choices, choices with no pair", 2),
+        ("carry-forward, cut in choices, choices with some pairs", 2),
+        ("carry-forward, cut in choices, choices with all pairs", 2),
+        ("carry-forward, cut in choices, pairs in several copies", 2),
+        ("carry-forward, choice of 20", 2),
+        ("carry-forward, clauses with a repeat", 20),
+        ("carry-forward, clauses left out", 12),
+        ("carry-forward 11", 6),
+        ("carry-forward 14", 6),
+        ("carry-forward 31", 6),
+        ("carry-forward 32", 6),
+        ("carry-forward 34", 6),
+        ("carry-forward 41", 6),
+        ("carry-forward 42", 6),
+        ("carry-forward, 42, at most X", 3),
+        ("carry-forward 43", 6),
+        ("carry-forward 45", 6),
+        ("carry-forward 46", 10),
     ] {
         assert!(counts.get(what) >= Some(&least), "{what}");
     }
@@ -148,6 +185,10 @@ fn assert_numbers(counts: &Counts) {
         ("reencode", &[0, 11, 12, 13, 15, 17][..]),
         ("read-back", &[0, 11]),
         ("walk-back", &[0, 11, 14, 31, 32, 33, 34, 41, 42, 43, 44]),
+        (
+            "carry-forward",
+            &[0, 11, 14, 31, 32, 34, 41, 42, 43, 45, 46],
+        ),
     ] {
         let numbers: BTreeSet<u8> = READER.iter().chain(others).copied().collect();
         let expected: Vec<String> = numbers.iter().map(|n| format!("{call} {n:02}")).collect();
@@ -166,6 +207,7 @@ fn wrong_rows_are_refused() {
     wrong.extend(misstepped());
     wrong.extend(misrecorded());
     wrong.extend(mistaken());
+    wrong.extend(miscarried());
     let wrong = named("wrong", wrong);
     let mut rows = named("right", right);
     rows.extend(wrong.iter().cloned());

@@ -5,9 +5,11 @@ use model::encoding::{Encoding, Tally};
 use model::generator::repeats_in_choices;
 use model::log_reading::read_kept_lines;
 use model::reading::{read_formula, Formula, INPUT_LIMITS};
-use model::texts::{answer_text, formula_text, log_text, Line};
+use model::texts::{formula_text, log_text, Line};
+use model::walk_back::highest_allowed;
 use model::{
-    read_back, reencode, walk_back, Arrangement, ChoiceRecord, Form, Reencoded, Room, Settings,
+    carry_forward, read_back, reencode, walk_back, Arrangement, ChoiceRecord, Form, Reencoded,
+    Room, Settings,
 };
 use std::collections::BTreeSet;
 
@@ -40,7 +42,7 @@ pub enum Call {
         work: usize,
         text: Text,
     },
-    WalkBack(WalkBack),
+    Carry(Carry),
     /// Which clauses are taken as choices.
     Choose {
         text: Text,
@@ -54,13 +56,22 @@ pub struct Reencode {
     pub text: Text,
 }
 
+/// The two ways over a log.
+#[derive(Clone, Copy, PartialEq)]
+pub enum Way {
+    Back,
+    Forward,
+}
+
 #[derive(Clone, PartialEq)]
-pub struct WalkBack {
+pub struct Carry {
+    pub way: Way,
     pub work: usize,
     pub room: usize,
     pub kept: usize,
     pub text: Text,
     pub log: Text,
+    /// A solver's answer on the way back, a plan on the way forward.
     pub answer: Text,
 }
 
@@ -76,7 +87,7 @@ pub enum Outcome {
     },
     /// What is read back, written again.
     Read(Text),
-    /// What an answer is walked back to.
+    /// What an answer is walked back to, or a plan carried forward to.
     Line(Text),
     /// The choices, written as added lines are.
     Chosen(Text),
@@ -94,16 +105,36 @@ impl Reencode {
     }
 }
 
-impl WalkBack {
-    fn given(&self) -> Result<Text, u8> {
-        walk_back(
-            &self.text,
-            &self.log,
-            self.kept,
-            &self.answer,
-            self.work as u64,
-            self.room,
-        )
+impl Way {
+    /// The name of the call.
+    pub fn name(self) -> &'static str {
+        match self {
+            Way::Back => "walk-back",
+            Way::Forward => "carry-forward",
+        }
+    }
+}
+
+impl Carry {
+    pub fn given(&self) -> Result<Text, u8> {
+        let call = match self.way {
+            Way::Back => walk_back,
+            Way::Forward => carry_forward,
+        };
+        let (work, room) = (self.work as u64, self.room);
+        call(&self.text, &self.log, self.kept, &self.answer, work, room)
+    }
+
+    /// The formula and the kept lines, if both are in order.
+    fn read(&self) -> Option<(Formula, Vec<Line>)> {
+        let formula = read_formula(&self.text, &INPUT_LIMITS).ok()?;
+        Some((formula, read_kept_lines(&self.log, self.kept).ok()?))
+    }
+
+    /// The values of 1..X in a text that is laid out as an answer is.
+    fn values_in(&self, answer: &[u8]) -> Option<Vec<bool>> {
+        let (formula, lines) = self.read()?;
+        read_answer(answer, highest_allowed(&formula, &lines)).ok()
     }
 }
 
@@ -162,16 +193,21 @@ impl Row {
         }
     }
 
-    /// The tally in counter form of the formula that is reencoded, walked back to or chosen from.
-    pub fn tally(&self) -> Tally {
+    /// The run in counter form over the formula that is reencoded, chosen from, or at the start of a log.
+    pub fn plain_run(&self) -> Option<Encoding> {
         let text = match &self.call {
             Call::Reencode(call) => &call.text,
-            Call::WalkBack(call) => &call.text,
+            Call::Carry(call) => &call.text,
             Call::Choose { text } => text,
-            Call::ReadBack { .. } => return Tally::default(),
+            Call::ReadBack { .. } => return None,
         };
-        read_formula(text, &INPUT_LIMITS)
-            .map_or_else(|_| Tally::default(), |formula| run_plainly(&formula).tally)
+        let formula = read_formula(text, &INPUT_LIMITS).ok()?;
+        Some(run_plainly(&formula))
+    }
+
+    /// The tally of this run.
+    pub fn tally(&self) -> Tally {
+        self.plain_run().map(|run| run.tally).unwrap_or_default()
     }
 
     /// Without the arrangement, the log would be another one.
@@ -191,12 +227,7 @@ impl Row {
 
     /// A number above V stands in none of the kept lines, though a higher one does.
     pub fn skips_in_log(&self) -> bool {
-        let Call::WalkBack(call) = &self.call else {
-            return false;
-        };
-        let formula = read_formula(&call.text, &INPUT_LIMITS);
-        let lines = read_kept_lines(&call.log, call.kept);
-        let (Ok(formula), Ok(lines)) = (formula, lines) else {
+        let Some((formula, lines)) = self.carry().and_then(Carry::read) else {
             return false;
         };
         let literals = lines.iter().flat_map(|line| &line.literals);
@@ -208,28 +239,52 @@ impl Row {
 
     /// Some lines of the log are not kept.
     pub fn is_cut(&self) -> bool {
-        match &self.call {
-            Call::WalkBack(call) => call.kept < call.log.split(|&byte| byte == b'\n').count() - 1,
-            _ => false,
-        }
+        self.carry()
+            .is_some_and(|call| call.kept < call.log.split(|&byte| byte == b'\n').count() - 1)
     }
 
     /// The lines of choices are kept in part.
     pub fn is_cut_in_choices(&self) -> bool {
         let before = self.tally().clearing_lines();
-        matches!(&self.call, Call::WalkBack(call) if call.kept > before) && self.is_cut()
+        self.carry().is_some_and(|call| call.kept > before) && self.is_cut()
     }
 
-    /// An answer is carried back to other values than it has.
-    pub fn is_changed(&self) -> bool {
-        let (Call::WalkBack(WalkBack { answer, text, .. }), Outcome::Line(line)) =
-            (&self.call, &self.outcome)
-        else {
-            return false;
+    /// The call that goes over a log, either way.
+    pub fn carry(&self) -> Option<&Carry> {
+        match &self.call {
+            Call::Carry(call) => Some(call),
+            _ => None,
+        }
+    }
+
+    /// V, the values that are handed in, and those of the line given.
+    fn values(&self) -> Option<(usize, Vec<bool>, Vec<bool>)> {
+        let (Call::Carry(call), Outcome::Line(line)) = (&self.call, &self.outcome) else {
+            return None;
         };
-        let variables = read_formula(text, &INPUT_LIMITS).map_or(0, |formula| formula.variables);
-        let values = read_answer(answer, 70_000).unwrap_or_default();
-        *line != answer_text(variables, |variable| values[variable as usize])
+        let (formula, _) = call.read()?;
+        let line = [b"s SATISFIABLE\n", line.as_slice()].concat();
+        let (before, after) = (call.values_in(&call.answer)?, call.values_in(&line)?);
+        Some((formula.variables as usize, before, after))
+    }
+
+    /// An answer or a plan is carried to other values of 1..V than it has.
+    pub fn is_changed(&self) -> bool {
+        self.values()
+            .is_some_and(|(highest, before, after)| before[..=highest] != after[..=highest])
+    }
+
+    /// A plan is carried forward to a line with a variable above V true.
+    pub fn makes_new_true(&self) -> bool {
+        self.values()
+            .is_some_and(|(highest, _, after)| after[highest + 1..].contains(&true))
+    }
+
+    /// A plan is refused for a variable above V, though none is above X.
+    pub fn names_new(&self) -> bool {
+        let is_answer = |call: &Carry| call.values_in(&call.answer).is_some();
+        let is_forward = |call: &&Carry| call.way == Way::Forward && self.number() == 42;
+        self.carry().filter(is_forward).is_some_and(is_answer)
     }
 }
 
@@ -240,7 +295,7 @@ fn given(call: &Call) -> Result<Outcome, u8> {
             let (variables, clauses) = read_back(text, *work as u64)?;
             Ok(Outcome::Read(formula_text(variables, &clauses)))
         }
-        Call::WalkBack(call) => call.given().map(Outcome::Line),
+        Call::Carry(call) => call.given().map(Outcome::Line),
         Call::Choose { text } => {
             let formula = read_formula(text, &INPUT_LIMITS)?;
             Ok(chosen(&run_plainly(&formula)))

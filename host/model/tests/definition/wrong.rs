@@ -1,22 +1,24 @@
 //! Rows made wrong on purpose.
 
 use crate::antt::row_text;
-use crate::fixed::{one_clause, reencoding_with, two_choices, workspaces};
-use crate::rows::{Call, Outcome, Row, NO_ROOM, PLENTY, PLENTY_OF_ROOM};
+use crate::fixed::{due_numbers, forward, one_clause, reencoding_with, two_choices, workspaces};
+use crate::rows::{Call, Outcome, Row, Way, NO_ROOM, PLENTY, PLENTY_OF_ROOM};
 use model::sessions::{CHAIN, JOINED_E};
 use model::{ChoiceRecord, Room};
 
 /// Of the rows, the shortest with each kind of result, and the shortest refusal of each call.
 pub fn short_rows(rows: &[Row]) -> Vec<Row> {
-    let kinds: [fn(&Row) -> bool; 8] = [
+    let kinds: [fn(&Row) -> bool; 10] = [
         |row| matches!(&row.outcome, Outcome::Reencoded { log, .. } if !log.is_empty()),
         |row| !row.table().1.is_empty(),
         |row| matches!(row.outcome, Outcome::Read(_)),
-        |row| matches!(row.outcome, Outcome::Line(_)),
+        |row| goes(row, Way::Back) && row.number() == 0,
+        |row| goes(row, Way::Forward) && row.number() == 0,
         |row| matches!(&row.outcome, Outcome::Chosen(text) if !text.is_empty()),
         |row| matches!(row.call, Call::Reencode(_)) && row.number() > 0,
         |row| matches!(row.call, Call::ReadBack { .. }) && row.number() > 0,
-        |row| matches!(row.call, Call::WalkBack(_)) && row.number() > 0,
+        |row| goes(row, Way::Back) && row.number() > 0,
+        |row| goes(row, Way::Forward) && row.number() > 0,
     ];
     let mut short = Vec::new();
     for is_wanted in kinds {
@@ -25,6 +27,10 @@ pub fn short_rows(rows: &[Row]) -> Vec<Row> {
         short.push(shortest.expect("the rows have each kind").clone());
     }
     short
+}
+
+fn goes(row: &Row, way: Way) -> bool {
+    row.carry().is_some_and(|call| call.way == way)
 }
 
 /// The row with one number or one byte of its outcome changed, for each number and each text, and with a record more.
@@ -200,4 +206,32 @@ pub fn mistaken() -> Vec<Row> {
         refused(1, rooms(work, 1), &five, 17),
         refused(1, one_record, &five, 17),
     ]
+}
+
+/// Plans carried forward, refused with a number that comes later than the one that is due, or given another line.
+pub fn miscarried() -> Vec<Row> {
+    let mut rows = Vec::new();
+    for (call, due, other) in due_numbers() {
+        assert_eq!(call.given(), Err(due));
+        rows.push(instead(Call::Carry(call), Outcome::Refused(other)));
+    }
+    for number in [46, 32, 45] {
+        let call = Call::Carry(forward("3 -1 0\n", "1 "));
+        rows.push(instead(call, Outcome::Refused(number)));
+    }
+    for (log, line) in [
+        // backwards through the lines; as if 3 and 4 were true before; not for 3 and 4; nothing done
+        ("3 -1 0\n4 -3 0\n", "v 1 -2 3 -4 0\n"),
+        ("4 3 0\n", "v 1 -2 3 4 0\n"),
+        ("3 -1 0\n4 -3 0\n", "v 1 -2 0\n"),
+        ("3 -1 0\n4 -3 0\n", "v 1 -2 -3 -4 0\n"),
+        // the last literal in place of the first; a false deletion repaired; the first made true though the last is
+        ("-1 2 0\nd 1 2 0\n", "v 1 2 0\n"),
+        ("-1 2 0\nd 1 2 0\n", "v 1 -2 0\n"),
+        ("2 1 0\n", "v 1 2 0\n"),
+    ] {
+        let call = Call::Carry(forward(log, "1 "));
+        rows.push(instead(call, Outcome::Line(line.into())));
+    }
+    rows
 }

@@ -1,3 +1,4 @@
 pub mod LastLine
 pub mod Carrying
 pub mod Writing
+pub mod Replaying

@@ -4,6 +4,7 @@ pub mod ShortLog
 pub mod Step
 pub mod Texts
 pub mod WayBack
+pub mod WayForward
 pub mod Premise
 pub mod Refusals
 pub mod Aligning

@@ -1,7 +1,7 @@
 -- Every outcome is a value or one of the listed numbers: laws for the parts of an outcome, then each reader and each call.
 use mathlib.Core.Path.{refl, sym, subst}
 use mathlib.Core.Bool.{Bool, true, false, cond, not, _&&_}
-use mathlib.Core.List.{List, [], _∷_, List·Memᴰ, Memᴰ·cast}
+use mathlib.Core.List.{List, [], _∷_, _++_, List·Memᴰ, Memᴰ·cast}
 use mathlib.Core.Option.{Option, some, none}
 use Prim.Native.Nat.{ℕ}
 use lib.Dec.{T, eqb, eqb→eq}
@@ -16,10 +16,10 @@ use Rattle.definition.specs.Assignments.{Assignment}
 use Rattle.definition.specs.LogReading.{read-line-clause, allowed-clause, read-line-fields, read-line, read-log}
 use Rattle.definition.specs.Answer.{Answer, begins-with, read-answer-word, read-answer-line, read-answer}
 use Rattle.definition.specs.Reencoding.{Settings}
-use Rattle.definition.specs.Calls.{fitted, reencode, assigned, highest-allowed, read-back, carry-answer, walk-back, buffer-after, read-input}
+use Rattle.definition.specs.Calls.{fitted, reencode, fitting-line, highest-allowed, read-back, read-texts, carry-answer, walk-back, carry-plan, carry-forward, buffer-after, read-input}
 use Rattle.theory_base.proofs.Members.{any-mem, all-at}
 use Rattle.theory_text.proofs.Accepted.{input-read}
-use Rattle.theorems.specs.Refusals.{formula-numbers, log-numbers, answer-numbers, reencode-numbers, read-back-numbers, walk-back-numbers, Listed, accepted, refused, Demand-1}
+use Rattle.theorems.specs.Refusals.{formula-numbers, log-numbers, answer-numbers, reencode-numbers, read-back-numbers, walk-back-numbers, carry-forward-numbers, Listed, accepted, refused, Demand-1}
 
 -- the test that a number is in a list, which computes for a list written out
 abbrev among : List ℕ → ℕ → Bool
@@ -32,10 +32,16 @@ among-mem {ns} {n} t = let r = any-mem (eqb n) ns t in Memᴰ·cast (eqb→eq n 
 -- ---- the parts of an outcome
 module _ {ns : List ℕ} {A : Type 0} where
   -- a test with a listed number before a listed outcome
-  refuse-listed : (n : ℕ) (t : Bool) {x : Checked A} → T (among ns n) → Listed ns x → Listed ns (refuse-if t n x)
+  pub refuse-listed : (n : ℕ) (t : Bool) {x : Checked A} → T (among ns n) → Listed ns x → Listed ns (refuse-if t n x)
   unfolding refuse-if
   refuse-listed n true m p = refused (among-mem m)
   refuse-listed n false m p = p
+
+  -- a demand with a listed number: what follows may rely on it
+  pub unless-listed : (n : ℕ) (t : Bool) {x : Checked A} → T (among ns n) → (T t → Listed ns x) → Listed ns (refuse-if (not t) n x)
+  unfolding refuse-if
+  unless-listed n true m p = p tt
+  unless-listed n false m p = refused (among-mem m)
 
   -- a value, or a listed number
   or-fault-listed : (n : ℕ) (o : Option A) → T (among ns n) → Listed ns (or-fault o n)
@@ -49,13 +55,13 @@ module _ {ns : List ℕ} {A : Type 0} where
   cond-listed false p q = q
 
   -- a listed outcome after a listed outcome
-  bind-listed : {B : Type 0} {x : Checked A} {f : A → Checked B} → Listed ns x → ((a : A) → Listed ns (f a)) → Listed ns (x >>= f)
+  pub bind-listed : {B : Type 0} {x : Checked A} {f : A → Checked B} → Listed ns x → ((a : A) → Listed ns (f a)) → Listed ns (x >>= f)
   unfolding _>>=_
   bind-listed (accepted {a}) q = q a
   bind-listed (refused m) q = refused m
 
   -- numbers that are all in another list
-  listed-among : {ms : List ℕ} {x : Checked A} → T (all (among ns) ms) → Listed ms x → Listed ns x
+  pub listed-among : {ms : List ℕ} {x : Checked A} → T (all (among ns) ms) → Listed ms x → Listed ns x
   listed-among w accepted = accepted
   listed-among {ms} w (refused {n} m) = refused (among-mem (all-at (among ns) ms w n m))
 
@@ -157,7 +163,7 @@ module _ (x : ℕ) where
       (cond-listed (same-bytes t (bytes "s SATISFIABLE") && not (a .begun)) accepted
       (refuse-listed 41 _ tt (through-listed answer-word-listed a _)))
 
-  answer-listed : (t : Bytes) → Listed answer-numbers (read-answer x t)
+  pub answer-listed : (t : Bytes) → Listed answer-numbers (read-answer x t)
   unfolding read-answer answer-numbers any
   answer-listed t =
       bind-listed (through-listed (λ a l. answer-line-listed a (line-text l)) _ (text-lines t)) (λ a. refuse-listed 41 _ tt accepted)
@@ -178,26 +184,45 @@ unfolding read-back formula-numbers read-back-numbers any all
 read-back-listed workspace t =
     bind-listed (listed-among tt (formula-listed read-back-limits t)) (λ i. refuse-listed 11 _ tt accepted)
 
--- a deletion without its clause: 32
-replay-line-listed : (f : Formula) (s : Line) → Listed walk-back-numbers (replay-line f s)
-unfolding replay-line formula-numbers log-numbers answer-numbers walk-back-numbers any
-replay-line-listed f (addition c) = accepted
-replay-line-listed f (deletion c) = refuse-listed 32 _ tt accepted
-
--- the answer tested and carried back: 44, 33, 14
-carry-listed : (room : ℕ) (i : Input) (ss : List Line) (standing : Formula) (a : Assignment) → Listed walk-back-numbers (carry-answer room i ss standing a)
-unfolding carry-answer formula-numbers log-numbers answer-numbers walk-back-numbers any
-carry-listed room i ss standing a = refuse-listed 44 _ tt (refuse-listed 33 _ tt (refuse-listed 14 _ tt accepted))
-
-walk-back-listed : (workspace room kept : ℕ) (t log answer : Bytes) → Listed walk-back-numbers (walk-back workspace room kept t log answer)
-unfolding walk-back replay formula-numbers log-numbers answer-numbers walk-back-numbers any all
-walk-back-listed workspace room kept t log answer =
+-- the three texts read, whatever variables are allowed: those of each, and 11
+texts-listed : (most : Input → List Line → ℕ) (workspace kept : ℕ) (t log answer : Bytes) → Listed (formula-numbers ++ log-numbers ++ answer-numbers ++ (11 ∷ [])) (read-texts most workspace kept t log answer)
+unfolding read-texts formula-numbers log-numbers answer-numbers any all
+texts-listed most workspace kept t log answer =
     bind-listed (listed-among tt (input-listed t)) (λ i.
     bind-listed (listed-among tt (log-listed kept log)) (λ ss.
-    bind-listed (listed-among tt (answer-listed (highest-allowed i ss) answer)) (λ named.
-    refuse-listed 11 _ tt
-    (bind-listed (through-listed replay-line-listed (i .formula) ss) (λ standing.
-    carry-listed room i ss standing (assigned named))))))
+    bind-listed (listed-among tt (answer-listed (most i ss) answer)) (λ named.
+    refuse-listed 11 _ tt accepted)))
+
+-- a deletion without its clause: 32
+replay-listed : (f : Formula) (ss : List Line) → Listed (32 ∷ []) (replay f ss)
+unfolding replay replay-line any
+replay-listed f ss = through-listed step f ss
+  where
+    step : (f : Formula) (s : Line) → Listed (32 ∷ []) (replay-line f s)
+    step f (addition c) = accepted
+    step f (deletion c) = refuse-listed 32 _ tt accepted
+
+-- a line: 14
+pub fitting-listed : (room v : ℕ) (a : Assignment) → Listed (14 ∷ []) (fitting-line room v a)
+unfolding fitting-line any
+fitting-listed room v a = refuse-listed 14 _ tt accepted
+
+-- after the texts: 32, the tests of the answer carried back, 14
+walk-back-listed : (workspace room kept : ℕ) (t log answer : Bytes) → Listed walk-back-numbers (walk-back workspace room kept t log answer)
+unfolding walk-back carry-answer formula-numbers log-numbers answer-numbers walk-back-numbers any all
+walk-back-listed workspace room kept t log answer =
+    bind-listed (listed-among tt (texts-listed highest-allowed workspace kept t log answer)) (λ h.
+    bind-listed (listed-among tt (replay-listed (h .input .formula) (h .lines))) (λ standing.
+    refuse-listed 44 _ tt (refuse-listed 33 _ tt (listed-among tt (fitting-listed room _ _)))))
+
+-- after the texts: the plan's test, 32, the test of what comes, 14
+carry-forward-listed : (workspace room kept : ℕ) (t log plan : Bytes) → Listed carry-forward-numbers (carry-forward workspace room kept t log plan)
+unfolding carry-forward carry-plan formula-numbers log-numbers answer-numbers carry-forward-numbers any all
+carry-forward-listed workspace room kept t log plan =
+    bind-listed (listed-among tt (texts-listed (λ i ss. i .variables) workspace kept t log plan)) (λ h.
+    refuse-listed 45 _ tt
+    (bind-listed (listed-among tt (replay-listed (h .input .formula) (h .lines))) (λ standing.
+    refuse-listed 46 _ tt (listed-among tt (fitting-listed room _ _)))))
 
 pub demand-1 : Demand-1
 unfolding buffer-after
@@ -208,5 +233,6 @@ demand-1 = record {
   reencoding = reencode-listed;
   reading-back = read-back-listed;
   walking-back = walk-back-listed;
+  carrying-forward = carry-forward-listed;
   zeroed = λ nought n written before. refl;
 }

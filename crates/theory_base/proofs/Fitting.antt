@@ -7,10 +7,11 @@ use native.Mathlib.Omega.{arith}
 use lib.ListN.{length, length-map}
 use lib.IntN.{ℤ, pos, negsuc, negℤ, negℤ-negℤ, natAbs}
 use Rattle.definition.specs.Literals.{Clause, Formula, highest, highest-of}
-use Rattle.definition.specs.Standing.{Line, literals, highest-in}
+use Rattle.definition.specs.Standing.{Line, literals, highest-in, after}
 use Rattle.theory_base.proofs.Loops.{by-order}
 use Rattle.theory_base.proofs.Sums.{Distinct, sum-within, count-length}
 use Rattle.theory_base.proofs.Members.{natAbs-neg, proper-literal, proper-first}
+use Rattle.theory_base.proofs.Replay.{All-lines, all-after}
 use Rattle.theory_base.specs.Clauses.{Fit, Fits, Proper, Proper-all, Absent, Fit-all}
 
 pub fit-neg : (h : ℕ) (x : ℤ) → Fit h x → Fit h (negℤ x)
@@ -170,3 +171,9 @@ pub highest-snoc : (ss : List Line) (s : Line) → highest-in (ss ++ (s ∷ []))
 unfolding highest-in
 highest-snoc [] s = omega arith
 highest-snoc (x ∷ ss) s = omega (arith, highest-snoc ss s)
+
+-- what stands after lines has no variable above those of the formula and of the lines
+pub after-fits : (h : ℕ) (F : Formula) (xs : List Line) → Fits h F → All-lines Proper xs → Fits (max h (highest-in xs)) (after F xs)
+after-fits h F xs f p =
+    all-after (Fit-all (max h (highest-in xs))) F xs (fits-up (max h (highest-in xs)) h F (omega arith) f)
+    (λ y m x k. (proper-literal (literals y) (p y m) x k, omega (arith, highest-at (literals y) x k, highest-in-at xs y m)))

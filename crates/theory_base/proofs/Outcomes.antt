@@ -41,10 +41,15 @@ module _ {S W : Type 0} (step : S → W → Checked S) where
       rw (r .1) (through-++ (r .0) ws vs t (r .2))
 
 -- steps one after another
-pub bind-bind : {A : Type 0} (a : Checked A) (f g : A → Checked A) → ((a >>= f) >>= g) ≡ (a >>= λ s. f s >>= g)
+pub bind-bind : {A B C : Type 0} (a : Checked A) (f : A → Checked B) (g : B → Checked C) → ((a >>= f) >>= g) ≡ (a >>= λ s. f s >>= g)
 unfolding _>>=_
 bind-bind (fault n) f g = refl
 bind-bind (value s) f g = refl
+
+pub refuse-bind : {A B : Type 0} (b : Bool) (n : ℕ) (x : Checked A) (f : A → Checked B) → (refuse-if b n x >>= f) ≡ refuse-if b n (x >>= f)
+unfolding _>>=_ refuse-if
+refuse-bind true n x f = refl
+refuse-bind false n x f = refl
 
 pub bind-end : {A : Type 0} (a : Checked A) → (a >>= value) ≡ a
 unfolding _>>=_

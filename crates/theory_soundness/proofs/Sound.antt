@@ -1,17 +1,17 @@
 -- A log whose every line is sound at the formula standing before it: what follows for every number of lines kept.
 use mathlib.Core.Path.{_≡_, sym, subst}
-use mathlib.Core.Logic.{_↔_}
 use mathlib.Core.List.{List, [], _∷_, _++_}
 use Prim.Native.Nat.{ℕ, zero, suc}
-use lib.ListN.{take}
+use lib.ListN.{length, take}
+use lib.Seq.{take-length}
 use Rattle.definition.specs.Literals.{Clause, Formula}
 use Rattle.definition.specs.Standing.{Line, addition, deletion, changed, after}
-use Rattle.definition.specs.Assignments.{Assignment, trues, repaired, carried, carried-back}
+use Rattle.definition.specs.Assignments.{Assignment, trues, repaired, carried, carried-back, forwarded, carried-forward}
 use Rattle.definition.specs.Events.{Choice, Event}
 use Rattle.definition.specs.Reencoding.{Goes-into}
 use Rattle.theory_base.proofs.Trues.{Sat, sat-left}
 use Rattle.theory_base.proofs.Removal.{Removed, removed-take-out, sat-less}
-use Rattle.theory_base.proofs.Replay.{Leads, ends, adds, dels}
+use Rattle.theory_base.proofs.Replay.{Leads, ends, adds, dels, leads-after}
 
 -- the clause goes into a choice in the course of the events
 pub record Into (es : List Event) (c : Clause) : Type 0 where
@@ -43,49 +43,31 @@ sound-leads (nothing h) = ends
 sound-leads (adding h s) = adds (sound-leads s)
 sound-leads (deleting r d o s) = dels r (sound-leads s)
 
--- some assignment satisfies the formula
-abbrev pub Can : Formula → Type 0
-Can F = (σ : Assignment) × Sat σ F
-
--- what holds of lines xs that lead from F to G
+-- what holds of lines xs that lead from F to G: an assignment can be carried over them both ways
 pub record Cut (F : Formula) (xs : List Line) (G : Formula) : Type 0 where
-  pub equisatisfiable : Can G ↔ Can F
   pub back : (σ : Assignment) → Sat σ G → Sat (carried-back σ xs) F
+  pub forward : (σ : Assignment) → Sat σ F → Sat (carried-forward σ xs) G
 
 none-kept : (F : Formula) → Cut F [] F
-unfolding carried-back
-none-kept F = record { equisatisfiable = (λ s. s, λ s. s); back = λ σ s. s }
+unfolding carried-back carried-forward
+none-kept F = record { back = λ σ s. s; forward = λ σ s. s }
 
 -- for every number of lines kept
 pub cut : {F G : Formula} {K L : List Event} {xs : List Line} → Sound F K xs G L → (j : ℕ) → Cut F (take j xs) (after F (take j xs))
-unfolding after changed carried-back carried
+unfolding after changed carried-back carried carried-forward forwarded
 cut {F} (nothing h) zero = none-kept F
 cut {F} (nothing h) (suc j) = none-kept F
 cut {F} (adding h s) zero = none-kept F
-cut {F} (adding {c = c} h s) (suc j) =
-    let k = cut s j in
-    record {
-      equisatisfiable = (
-        λ t. let u = k .equisatisfiable .0 t in (u .0, sat-left (u .0) F (c ∷ []) (u .1)),
-        λ t. k .equisatisfiable .1 (repaired c (t .0), h (t .0) (t .1)),
-      );
-      back = λ σ t. sat-left _ F (c ∷ []) (k .back σ t);
-    }
+cut {F} (adding {c = c} h s) (suc j) = let k = cut s j in record { back = λ σ t. sat-left _ F (c ∷ []) (k .back σ t); forward = λ σ t. k .forward (repaired c σ) (h σ t) }
 cut {F} (deleting r d o s) zero = none-kept F
 cut {F} (deleting {c = c} {xs = xs} r d o s) (suc j) =
     let k = cut s j in
     subst (λ (X : Formula). Cut F (deletion c ∷ take j xs) (after X (take j xs))) (sym (removed-take-out r))
-    (record {
-      equisatisfiable = (λ t. let u = k .equisatisfiable .0 t in (repaired c (u .0), d (u .0) (u .1)), λ t. k .equisatisfiable .1 (t .0, sat-less (t .0) r (t .1)));
-      back = λ σ t. d _ (k .back σ t);
-    })
+    (record { back = λ σ t. d _ (k .back σ t); forward = λ σ t. k .forward σ (sat-less σ r t) })
 
 -- all lines kept
 whole : {F G : Formula} {K L : List Event} {xs : List Line} → Sound F K xs G L → (σ : Assignment) → Sat σ G → Sat (carried-back σ xs) F
-unfolding carried-back carried
-whole (nothing h) σ t = t
-whole {F} (adding {c = c} h s) σ t = sat-left _ F (c ∷ []) (whole s σ t)
-whole (deleting r d o s) σ t = d _ (whole s σ t)
+whole {xs = xs} s = rw (take-length xs, leads-after (sound-leads s)) at (cut s (length xs) .back)
 
 pub exactly-one : {F G : Formula} {K L : List Event} {xs : List Line} → Sound F K xs G L → (σ : Assignment) → Sat σ G → Ones σ L → Ones (carried-back σ xs) K
 unfolding carried-back carried

@@ -1,6 +1,6 @@
 -- The replay before an assignment is carried: only what lies behind the lines changes, and what the parts answer, the whole answers.
 use mathlib.Core.Path.{_≡_, sym, ap, _∙_}
-use mathlib.Core.Bool.{Bool, true, false}
+use mathlib.Core.Bool.{Bool}
 use mathlib.Core.List.{List}
 use Prim.Native.Nat.{ℕ}
 use native.Mathlib.Omega.{arith}
@@ -21,7 +21,7 @@ use Rattle.replay.specs.Replayed.{Stands, Replays}
 use Rattle.replay.specs.declared.Replayed as Replayed-code
 use Rattle.replay.specs.declared.Replayed.the-variants as Replayed
 use Rattle.carry.specs.declared.Carried as Code
-use Rattle.carry.specs.Carried.{carried-answer, carried-plan, carried-over, replayed-text, Carries, Parts, Carryable}
+use Rattle.carry.specs.Carried.{carried-over, replayed-text, Carries, Parts, Carryable}
 
 -- ---- the outcome, by the replay's
 module _ (forward : Bool) (room v : ℕ) (f : Formula) (ss : List Line) (a : Assignment) where

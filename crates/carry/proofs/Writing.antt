@@ -1,6 +1,6 @@
--- An assignment tested and written; an answer tested and carried back, a plan carried forward, before that; and the buffer after a refusal.
-use mathlib.Core.Path.{_≡_, refl, ap, _∙_}
-use mathlib.Core.Bool.{true, false}
+-- An assignment tested and written, before that an answer tested and carried back or a plan carried forward, and after it the buffer.
+use mathlib.Core.Path.{_≡_, refl, sym, ap, _∙_}
+use mathlib.Core.Bool.{Bool, true, false}
 use mathlib.Core.List.{List, _++_}
 use Prim.Native.Nat.{ℕ, _≤_, _<_}
 use native.Mathlib.Omega.{arith}
@@ -19,18 +19,18 @@ use Rattle.carry.specs.declared.Carried.the-variants as Carried
 use Rattle.carry.specs.Carried.{tested-text, carried-answer, carried-plan, carried-of, Carries}
 
 -- ---- tested, under a number, and written
-module _ (number : ℕ) (old new : Bytes) (v n : ℕ) (f : Formula) (a : Assignment) where
-  pub tested-not : satisfies a f ≡ false → tested-text number (length old) v f a ≡ fault number
+module _ (number : ℕ) (old new : Bytes) (v n : ℕ) (f : Formula) (a : Assignment) (t : Bool) (q : t ≡ satisfies a f) where
+  pub tested-not : t ≡ false → tested-text number (length old) v f a ≡ fault number
   unfolding tested-text refuse-if
-  tested-not e = rw e refl
+  tested-not e = rw (sym q ∙ e) refl
 
-  pub tested-long : satisfies a f ≡ true → Put old 0 (answer-text v a) n new → length old < n → tested-text number (length old) v f a ≡ fault 14
+  pub tested-long : t ≡ true → Put old 0 (answer-text v a) n new → length old < n → tested-text number (length old) v f a ≡ fault 14
   unfolding tested-text fitting-line refuse-if
-  tested-long e p h = rw (e, lt-ltb (length old) (length (answer-text v a)) (omega (arith, p .next))) refl
+  tested-long e p h = rw (sym q ∙ e, lt-ltb (length old) (length (answer-text v a)) (omega (arith, p .next))) refl
 
-  pub tested-written : satisfies a f ≡ true → Put old 0 (answer-text v a) n new → n ≤ length old → Carries (tested-text number (length old) v f a) old (Carried.Line n) new
+  pub tested-written : t ≡ true → Put old 0 (answer-text v a) n new → n ≤ length old → Carries (tested-text number (length old) v f a) old (Carried.Line n) new
   unfolding tested-text fitting-line refuse-if
-  tested-written e p h = (answer-text v a, rw (e, le-ltb (length old) (length (answer-text v a)) (omega (arith, p .next))), p, h)
+  tested-written e p h = (answer-text v a, rw (sym q ∙ e, le-ltb (length old) (length (answer-text v a)) (omega (arith, p .next))), p, h)
 
 -- ---- an answer: tested against what stands, and carried back
 module _ (room v : ℕ) (f : Formula) (ss : List Line) (standing : Formula) (a : Assignment) where

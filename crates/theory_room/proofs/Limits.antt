@@ -7,9 +7,8 @@ use Rattle.definition.specs.Literals.{literals-of, highest}
 use Rattle.definition.specs.Standing.{Line, literals}
 use Rattle.definition.specs.Reading.{Input}
 use Rattle.definition.specs.Reencoding.{Settings, log, result, highest-used}
-use Rattle.theory_base.proofs.Members.{proper-literal}
-use Rattle.theory_base.specs.Clauses.{Proper, Proper-all, Fits, Fit-all}
-use Rattle.theory_base.proofs.Fitting.{fit-up, highest-at, highest-in-at}
+use Rattle.theory_base.specs.Clauses.{Proper, Proper-all, Fits}
+use Rattle.theory_base.proofs.Fitting.{highest-in-at, after-fits}
 use Rattle.theory_base.proofs.Replay.{all-after}
 use Rattle.theory_room.proofs.Runs.{Run, log-proper, few-new-variables, result-size}
 
@@ -21,10 +20,7 @@ module _ (s : Settings) (i : Input) (h : Run s i) where
 
   pub result-fits : Fits (highest-used s i) (result s i)
   unfolding result highest-used
-  result-fits =
-      all-after (Fit-all (highest-used s i)) (i .formula) (log s i)
-      (λ d m x k. fit-up (highest-used s i) (i .highest) x (omega arith) (h .fits d m x k))
-      (λ y m x k. (proper-literal (literals y) (log-proper s i h y m) x k, omega (arith, highest-at (literals y) x k, highest-in-at (log s i) y m)))
+  result-fits = after-fits (i .highest) (i .formula) (log s i) (h .fits) (log-proper s i h)
 
   pub log-line-limit : (b : ℕ) → highest-used s i ≤ b → (x : Line) → List·Memᴰ x (log s i) → highest (literals x) ≤ b
   unfolding highest-used

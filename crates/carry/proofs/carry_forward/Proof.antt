@@ -1,3 +1,4 @@
+-- Invariant: carrying over the lines from `at` on gives the whole (Carrying).
 use mathlib.Core.Path.{_≡_}
 use mathlib.Core.Bool.{true}
 use Prim.Native.Nat.{_+_, _-_}
@@ -9,10 +10,6 @@ use Rattle.drat.proofs.Loaded.{loaded-next, lines-end}
 use Rattle.carry.proofs.Carrying.{Carrying, carrying-start, carrying-end, forward-step}
 use Rattle.carry.proofs.carry_forward.Statement.{statement}
 use Rattle.carry.proofs.carry_forward.Tie as tie
-use Rattle.carry.proofs.carry_forward.Reads as reads
-use Rattle.carry.proofs.carry_forward.Lts as lts
-use Rattle.carry.proofs.carry_line.Reads as carry-line-reads
-use Rattle.store.proofs.next_at.Reads as next-at-reads
 
 abbrev Inv-loop : tie.InvT-loop
 Inv-loop marks₀ lines at₀ marks at = Carrying true lines marks₀ marks (drop at lines)
@@ -20,38 +17,58 @@ Inv-loop marks₀ lines at₀ marks at = Carrying true lines marks₀ marks (dro
 abbrev μ-loop : tie.MeasureT-loop
 μ-loop marks₀ lines at₀ marks at = length lines - at
 
--- src/lib.rt:161:5
 loop-holds : tie.Need-loop-holds Inv-loop μ-loop
-loop-holds c = carrying-start true (now (c .before .args .lines)) (now (c .before .args .marks)) (c .before .pre)
+loop-holds c =
+    let start = c .before in
+    carrying-start true (now (start .args .lines)) (now (start .args .marks)) (start .pre)
 
--- src/lib.rt:162:9
 carry-line-requires : tie.Need-carry-line-requires Inv-loop μ-loop
-carry-line-requires c κs = loaded-next (now (c .before .before .before .before .args .lines)) (c .before .before .loop .at) (c .before .loop-test .taken) (c .before .before .loop .inv .loaded) .0
+carry-line-requires c κs =
+    let back = c .before .before in let loop = back .loop in
+    let start = back .before .before in
+    loaded-next (now (start .args .lines)) (loop .at) (c .before .loop-test .taken) (loop .inv .loaded) .0
 
--- src/lib.rt:163:14
 next-at-requires : tie.Need-next-at-requires Inv-loop μ-loop
-next-at-requires c κs = c .before .before .before .before .loop-test .taken
+next-at-requires c κs =
+    let loop-test = c .before .before .before .before .loop-test in
+    loop-test .taken
 
--- src/lib.rt:163:14
 add-at : tie.Need-add-at Inv-loop μ-loop
-add-at c = omega (arith, loaded-next (now (c .before .before .before .before .before .before .before .before .args .lines)) (c .before .before .before .before .before .before .loop .at) (c .before .before .before .before .before .loop-test .taken) (c .before .before .before .before .before .before .loop .inv .loaded) .0, c .next-at .ensures)
+add-at c =
+    let back = c .before .before .before .before .before in let loop-test = back .loop-test in
+    let back = back .before in let loop = back .loop in
+    let start = back .before .before in
+    omega (
+      arith,
+      loaded-next (now (start .args .lines)) (loop .at) (loop-test .taken) (loop .inv .loaded) .0,
+      c .next-at .ensures,
+    )
 
--- src/lib.rt:161:5
 loop-less : tie.Need-loop-less Inv-loop μ-loop
-loop-less c = omega (arith, c .next-at .ensures, c .before .before .before .before .before .loop-test .taken)
+loop-less c =
+    let loop-test = c .before .before .before .before .before .loop-test in
+    omega (arith, c .next-at .ensures, loop-test .taken)
 
--- src/lib.rt:161:5
 loop-again : tie.Need-loop-again Inv-loop μ-loop
-loop-again c = let e : c .next-at .result + 1 ≡ past-line (now (c .before .before .before .before .before .before .before .before .args .lines)) (c .before .before .before .before .before .before .loop .at) = omega (arith, c .next-at .ensures) in
-    forward-step (now (c .before .before .before .before .before .before .before .before .args .lines)) (now (c .before .before .before .before .before .before .before .before .args .marks)) (c .before .before .before .before .before .before .loop .marks) _ (c .before .before .before .before .before .before .loop .at) _ (c .before .before .before .before .before .before .loop .inv) (c .before .before .before .before .before .loop-test .taken) e (c .before .before .before .carry-line .kept .0) (c .before .before .before .carry-line .ensures)
+loop-again c =
+    let back = c .before .before .before in let carry-line = back .carry-line in
+    let back = back .before .before in let loop-test = back .loop-test in
+    let back = back .before in let loop = back .loop in
+    let start = back .before .before in
+    let e : c .next-at .result + 1 ≡ past-line (now (start .args .lines)) (loop .at) = omega
+    (arith, c .next-at .ensures) in
+    forward-step (now (start .args .lines)) (now (start .args .marks)) (loop .marks) _ (loop .at) _ (loop .inv)
+    (loop-test .taken) e (carry-line .kept .0) (carry-line .ensures)
 
--- src/lib.rt:156:1
 same-length : tie.Need-same-length Inv-loop μ-loop
 same-length c = c .before .loop .inv .len
 
--- src/lib.rt:156:1
 returns : tie.Need-returns Inv-loop μ-loop
-returns c = carrying-end true (now (c .before .before .before .args .lines)) (now (c .before .before .before .args .marks)) _ _ (c .before .loop .inv) (lines-end (now (c .before .before .before .args .lines)) (c .before .loop .at) (c .loop-test .left))
+returns c =
+    let back = c .before in let loop = back .loop in
+    let start = back .before .before in
+    carrying-end true (now (start .args .lines)) (now (start .args .marks)) _ _ (loop .inv)
+    (lines-end (now (start .args .lines)) (loop .at) (c .loop-test .left))
 
 pub carry-forward-spec : {M : Type 1} → statement M
 carry-forward-spec =

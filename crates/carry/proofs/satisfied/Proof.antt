@@ -44,6 +44,7 @@ loop-again c =
     let back = back .before in let loop = back .loop in
     let back = back .before in let length-of = back .length-of in
     let start = back .before .before in
+    let holds-at = c .before .before .holds-at in
     let a = start .args in
     let s = cond (a .is-added) (now (a .added)) (now (a .read)) in
     let at = loop .at in
@@ -52,8 +53,8 @@ loop-again c =
     rw (c .next-in .ensures) (
       f .0,
       f .1,
-      satisfied-more (marked (now (a .marks))) s at inside (c .before .before .holds-at .result)
-          (c .before .before .holds-at .ensures) (c .before .if1 .taken)
+      satisfied-more (marked (now (a .marks))) s at inside (holds-at .result) (holds-at .ensures)
+          (c .before .if1 .taken)
           ∙ loop .inv .2,
     )
 
@@ -62,12 +63,12 @@ returns c =
     let back = c .before .before .before in let loop = back .loop in
     let back = back .before in let length-of = back .length-of in
     let start = back .before .before in
+    let holds-at = c .before .holds-at in
     let a = start .args in
     let s = cond (a .is-added) (now (a .added)) (now (a .read)) in
     let at = loop .at in
     let inside : at < length s = omega (arith, c .before .before .loop-test .taken, length-of .ensures) in
-    satisfied-not (marked (now (a .marks))) s at inside (c .before .holds-at .result)
-    (c .before .holds-at .ensures) (c .if1 .left)
+    satisfied-not (marked (now (a .marks))) s at inside (holds-at .result) (holds-at .ensures) (c .if1 .left)
     ∙ loop .inv .2
 
 returns-2 : tie.Need-returns-2 Inv-loop μ-loop

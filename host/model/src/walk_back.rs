@@ -57,7 +57,8 @@ pub fn highest_allowed(formula: &Formula, kept: &[Line]) -> i32 {
         .fold(formula.variables, i32::max)
 }
 
-/// The 32-bit entries that walking back, and any other call that reads a log, asks for. N counts the clauses that are kept.
+/// The 32-bit entries that walking back, and any other call that reads a log, asks for. N counts the clauses that
+/// are kept.
 pub fn workspace_needed(formula: &Formula, kept: &[Line]) -> u64 {
     let formula_numbers = formula.literal_count() + formula.clauses.len() as u64;
     let line_numbers: u64 = kept.iter().map(|line| line.literals.len() as u64 + 1).sum();

@@ -2,7 +2,9 @@
 
 use model::generator::{clauses_apart, largest_with, text_of};
 use model::reading::{read_formula, Formula, Limits, INPUT_LIMITS, READ_BACK_LIMITS};
-use model::{read_back, reencode, walk_back, Arrangement, Form, Room, Settings};
+use model::{
+    carry_forward, read_back, reencode, walk_back, Arrangement, Form, Reencoded, Room, Settings,
+};
 
 fn aligned(form: Form) -> Settings {
     Settings::new(form, Arrangement::Alignment)
@@ -85,6 +87,79 @@ fn free_choices_walked_back() {
             Ok(format!("v {}", clause(expected, 1)).into_bytes())
         );
     }
+}
+
+/// How many numbers the log has, zeros counted.
+fn numbers_in(log: &[u8]) -> u64 {
+    let log = String::from_utf8_lossy(log);
+    let words = log.split_whitespace().filter(|word| *word != "d");
+    words.count() as u64
+}
+
+/// The line of the variables up to the highest, true where it is said.
+fn line_with(highest: i32, is_true: impl Fn(i32) -> bool) -> String {
+    let sign = |variable| {
+        if is_true(variable) {
+            variable
+        } else {
+            -variable
+        }
+    };
+    format!("v {}", clause((1..=highest).map(sign), 1))
+}
+
+/// With all literals true, the first of each choice stays true, and all counter variables become true. With the last
+/// ones true, no line changes anything.
+#[test]
+fn free_choices_carried_forward() {
+    for (size, count) in [(64, 125), (5, 1_600)] {
+        let text = text_of(&clauses_apart(size, count));
+        let settings = Settings::new(Form::Order, Arrangement::AsListed);
+        let Reencoded {
+            log,
+            lines,
+            highest,
+            ..
+        } = reencode(&text, settings, Room::enough()).unwrap();
+        let numbers = 8_000 + count as u64 + numbers_in(&log);
+        let needed = 4 * numbers + 4 * highest as u64 + 64;
+        let carried = |plan: &str, workspace, room| {
+            let plan = format!("s SATISFIABLE\n{plan}");
+            let line = carry_forward(&text, &log, lines, plan.as_bytes(), workspace, room);
+            line.map(|line| String::from_utf8(line).unwrap())
+        };
+        let place = |variable: i32| (variable - 1) as usize % size + 1;
+
+        let all = line_with(8_000, |_| true);
+        let first = line_with(highest, |v| v > 8_000 || place(v) == 1);
+        let room = first.len();
+        assert_eq!(carried(&all, needed, room), Ok(first));
+        assert_eq!(carried(&all, needed - 1, room), Err(11));
+        assert_eq!(carried(&all, needed, room - 1), Err(14));
+
+        let is_last = |v: i32| v <= 8_000 && place(v) == size;
+        let last = line_with(8_000, is_last);
+        let expected = line_with(highest, is_last);
+        assert_eq!(carried(&last, needed, 1 << 30), Ok(expected));
+        let all_but_one = line_with(8_000, |v| is_last(v) && v != 8_000);
+        assert_eq!(carried(&all_but_one, needed, 1 << 30), Err(45));
+    }
+}
+
+/// X is 70,000 with no clause and one line.
+#[test]
+fn a_plan_of_no_variables_carried_to_70_000() {
+    let call = |log: &str, workspace, room| {
+        let plan = b"s SATISFIABLE\nv 0\n";
+        carry_forward(b"p cnf 0 0\n", log.as_bytes(), 1, plan, workspace, room)
+    };
+    let needed = 4 * 2 + 4 * 70_000 + 64;
+    let line = line_with(70_000, |variable| variable == 70_000).into_bytes();
+    let room = line.len();
+    assert_eq!(call("70000 0\n", needed, room), Ok(line));
+    assert_eq!(call("70000 0\n", needed, room - 1), Err(14));
+    assert_eq!(call("70000 0\n", needed - 1, room), Err(11));
+    assert_eq!(call("70001 0\n", needed, room), Err(31));
 }
 
 /// The clause that holds the literals, each written so many times.

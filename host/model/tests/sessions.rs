@@ -113,32 +113,82 @@ fn sessions_g_and_h_order_form() {
     assert_eq!(line, "v -1 -2 -3 4 -5 -6 0\n");
 }
 
-/// Of the eight plans these four satisfy E. The resolvent 2 3 is true in each, and nothing changes.
+/// Of the eight plans four satisfy E. The resolvent 2 3 is true in each of them, and nothing changes.
 #[test]
 fn session_e_carried_forward() {
     let e = "p cnf 3 2\n1 2 0\n-1 3 0\n";
-    let log = encode(e, Form::Counter).log;
-    let log = String::from_utf8_lossy(&log);
-    for line in [
-        "v -1 2 -3 0\n",
-        "v -1 2 3 0\n",
-        "v 1 -2 3 0\n",
-        "v 1 2 3 0\n",
-    ] {
-        let plan = format!("s SATISFIABLE\n{line}");
-        for keep in 0..=4 {
-            assert_eq!(carry(e, &log, keep, &plan), Ok(line.into()), "{keep}");
-            assert_eq!(
-                walk(e, log.as_bytes(), keep, &plan),
-                Ok(line.into()),
-                "{keep}"
-            );
+    let log = "2 3 0\nd 1 2 0\nd -1 3 0\nd 2 3 0\n";
+    for keep in 0..=4 {
+        for line in [
+            "v -1 2 -3 0\n",
+            "v -1 2 3 0\n",
+            "v 1 -2 3 0\n",
+            "v 1 2 3 0\n",
+        ] {
+            let plan = format!("s SATISFIABLE\n{line}");
+            assert_eq!(carry(e, log, keep, &plan), Ok(line.into()), "{keep}");
+            let back = walk(e, log.as_bytes(), keep, &plan);
+            assert_eq!(back, Ok(line.into()), "{keep}");
+        }
+        for variables in [&[][..], &[3], &[1], &[1, 2]] {
+            let plan = answer_with(variables);
+            assert_eq!(carry(e, log, keep, &plan), Err(45), "{keep} {plan:?}");
         }
     }
-    for literals in ["0", "3 0", "1 0", "1 2 0"] {
-        let plan = format!("s SATISFIABLE\nv {literals}\n");
-        for keep in 0..=4 {
-            assert_eq!(carry(e, &log, keep, &plan), Err(45), "{literals} {keep}");
+    for keep in [5, 6] {
+        assert_eq!(carry(e, log, keep, &answer_with(&[2])), Err(34));
+    }
+}
+
+/// X after so many lines of the logs of F and G.
+fn x_of_g(keep: usize) -> i32 {
+    match keep {
+        0 => 6,
+        1..=2 => 7,
+        3..=5 => 8,
+        6..=8 => 9,
+        _ => 10,
+    }
+}
+
+/// The line of the variables up to the highest in which these are true.
+fn line_with(variables: &[i32], highest: i32) -> String {
+    let sign = |v: i32| if variables.contains(&v) { v } else { -v };
+    let literals: Vec<i32> = (1..=highest).map(sign).collect();
+    format!("v {}", line_of(&literals))
+}
+
+/// A literal that a line makes true.
+type Change = (usize, i32);
+
+/// The variables that are true in plans for F, and what the lines of G change.
+const G_PLANS: [(&[i32], &[Change]); 5] = [
+    (&[5], &[]),
+    (&[3, 6], &[(8, 9), (10, 10)]),
+    (&[4, 5], &[(11, 10), (15, -5)]),
+    (&[1, 3, 6], &[(2, 7), (4, 8), (7, 9), (10, 10), (13, -3)]),
+    (&[2, 3, 6], &[(5, 8), (7, 9), (10, 10), (13, -3)]),
+];
+
+/// The variables that are true after so many lines.
+fn true_after(keep: usize, plan: &[i32], changes: &[Change]) -> Vec<i32> {
+    let kept = changes.iter().filter(|(line, _)| *line <= keep);
+    let made_true: Vec<i32> = kept.map(|(_, literal)| *literal).collect();
+    let mut variables = [plan, &made_true].concat();
+    variables.retain(|variable| *variable > 0 && !made_true.contains(&-variable));
+    variables
+}
+
+#[test]
+fn session_g_carried_forward() {
+    let log = [F_LOG, G_LOG].concat();
+    for (plan, changes) in G_PLANS {
+        for keep in 0..=41 {
+            let expected = true_after(keep, plan, changes);
+            let line = carry(F, &log, keep, &answer_with(plan)).unwrap();
+            assert_eq!(line, line_with(&expected, x_of_g(keep)), "{keep} {plan:?}");
+            let back = walk(F, log.as_bytes(), keep, &format!("s SATISFIABLE\n{line}"));
+            assert_eq!(back, Ok(line_with(&expected, 6)), "{keep} {plan:?}");
         }
     }
 }
@@ -490,21 +540,42 @@ fn short_workspace_and_buffers_of_reencoding() {
     assert_eq!(read_back(&g.formula, needed - 1), Err(11));
 }
 
+/// How many numbers the kept lines have, zeros counted.
+fn numbers_in(log: &str, keep: usize) -> u64 {
+    let words = log.lines().take(keep).flat_map(str::split_whitespace);
+    words.filter(|word| *word != "d").count() as u64
+}
+
 #[test]
 fn short_workspace_and_buffer_of_walk_back() {
     let g = encode(F, Form::Order);
     let answer = b"s SATISFIABLE\nv 1 2 3 4 5 -6 -7 -8 -9 10 0\n";
-    let log_numbers = g
-        .log
-        .split(|byte| b" \n".contains(byte))
-        .filter(|word| !word.is_empty() && *word != b"d")
-        .count() as u64;
+    let log_numbers = numbers_in(&String::from_utf8_lossy(&g.log), 41);
     let needed = 4 * (17 + 7 + log_numbers) + 4 * 10 + 64;
     let line = "v -1 -2 -3 4 -5 -6 0\n";
     let call = |workspace, room| walk_back(F.as_bytes(), &g.log, 41, answer, workspace, room);
     assert_eq!(call(needed, line.len()), Ok(line.as_bytes().to_vec()));
     assert_eq!(call(needed - 1, line.len() - 1), Err(11));
     assert_eq!(call(needed, line.len() - 1), Err(14));
+}
+
+#[test]
+fn short_workspace_and_buffer_of_carrying_forward() {
+    let log = [F_LOG, G_LOG].concat();
+    let plan = answer_with(&[3, 6]);
+    for keep in 0..=41 {
+        let line = carry(F, &log, keep, &plan).unwrap();
+        let x = x_of_g(keep) as u64;
+        let needed = 4 * (17 + 7 + numbers_in(&log, keep)) + 4 * x + 64;
+        let call = |workspace, room| {
+            let (formula, log, plan) = (F.as_bytes(), log.as_bytes(), plan.as_bytes());
+            carry_forward(formula, log, keep, plan, workspace, room)
+        };
+        let whole = Ok(line.clone().into_bytes());
+        assert_eq!(call(needed, line.len()), whole, "{keep}");
+        assert_eq!(call(needed - 1, line.len() - 1), Err(11), "{keep}");
+        assert_eq!(call(needed, line.len() - 1), Err(14), "{keep}");
+    }
 }
 
 #[test]
@@ -655,6 +726,10 @@ fn workspace_of_session_e_joined() {
     let call = |workspace| walk_back(text, log, 1, answer, workspace, PLENTY);
     assert_eq!(call(needed), Ok(b"v -1 2 -3 0\n".to_vec()));
     assert_eq!(call(needed - 1), Err(11));
+    let plan = b"s SATISFIABLE\nv 2 0\n";
+    let call = |workspace| carry_forward(text, log, 1, plan, workspace, PLENTY);
+    assert_eq!(call(needed), Ok(b"v -1 2 -3 0\n".to_vec()));
+    assert_eq!(call(needed - 1), Err(11));
 }
 
 #[test]
@@ -686,7 +761,13 @@ fn damaged_logs() {
     for (log, keep, number) in cases {
         let result = walk(formula, log.as_bytes(), keep, answer);
         assert_eq!(result, Err(number), "{log:?}");
+        let number = if number == 44 { 46 } else { number };
+        assert_eq!(carry(formula, log, keep, answer), Err(number), "{log:?}");
     }
+    assert_eq!(
+        carry(formula, "rubbish", 0, answer),
+        Ok("v 1 -2 0\n".into())
+    );
     assert_eq!(
         walk(formula, b"rubbish", 0, answer),
         Ok("v 1 -2 0\n".into())
@@ -711,6 +792,7 @@ fn damaged_answers() {
     for answer in good {
         let result = walk(formula, b"", 0, answer);
         assert_eq!(result, Ok("v 1 -2 0\n".into()), "{answer:?}");
+        assert_eq!(carry(formula, "", 0, answer), result, "{answer:?}");
     }
     let bad = [
         ("", 41),
@@ -736,5 +818,10 @@ fn damaged_answers() {
     ];
     for (answer, number) in bad {
         assert_eq!(walk(formula, b"", 0, answer), Err(number), "{answer:?}");
+        let number = if number == 44 { 45 } else { number };
+        assert_eq!(carry(formula, "", 0, answer), Err(number), "{answer:?}");
+        // 3 is above V, though not above X.
+        let forward = carry(formula, "3 0\n", 1, answer);
+        assert_eq!(forward, Err(number), "{answer:?}");
     }
 }

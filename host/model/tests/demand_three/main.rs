@@ -1,5 +1,5 @@
 //! Random small formulas. By full truth tables, every cut of the log and every assignment: demand 3, and the way
-//! forward. In counter form, the number of lines.
+//! forward. Every cut and every plan: plans carried forward. In counter form, the number of lines.
 
 mod back;
 mod drawing;
@@ -7,10 +7,11 @@ mod forward;
 mod lines;
 mod lists;
 mod occurred;
+mod plans;
 mod records;
 mod tables;
 
-use drawing::{drawn, drawn_cut, WAYS};
+use drawing::{drawn, drawn_cut, for_each_drawn, Drawn, WAYS};
 use lists::{apply, count_holding, long_unique, unclashed};
 use model::clearing::written_first;
 use model::encoding::{Encoding, Tally};
@@ -18,6 +19,7 @@ use model::generator::{clauses_apart, paired, Joined, Random};
 use model::texts::Line;
 use model::{Arrangement, Form, Settings};
 use occurred::{add_up, Occurred};
+use plans::{Carried, OwnLog};
 use records::used;
 use std::ops::Range;
 use tables::Tables;
@@ -35,24 +37,21 @@ fn run_with(
     steps: &[u32],
 ) -> Occurred {
     let mut occurred = Occurred::default();
-    for seed in seeds {
-        let mut random = Random::new(seed);
-        let joined = draw(&mut random);
-        let (form, arrangement) = *random.one_of(&WAYS);
-        let settings = Settings {
-            step: steps[seed as usize % steps.len()],
-            ..Settings::new(form, arrangement)
-        };
-        let encoding = Encoding::run(&joined.formula, settings);
-        if used(&joined.formula, &encoding).len() > most {
-            continue;
+    for_each_drawn(seeds, draw, steps, |drawn, random| {
+        let Drawn {
+            joined,
+            settings,
+            encoding,
+        } = drawn;
+        if used(&joined.formula, encoding).len() > most {
+            return;
         }
-        occurred.count(&joined, &encoding);
+        occurred.count(joined, encoding);
         let forward = &mut occurred.forward;
-        if back::check(&joined, settings, &mut random, forward) {
-            occurred.count_satisfiable(&joined.formula, &encoding, settings);
+        if back::check(joined, *settings, random, forward) {
+            occurred.count_satisfiable(&joined.formula, encoding, *settings);
         }
-    }
+    });
     occurred
 }
 
@@ -169,6 +168,84 @@ fn formulas_with_two_choices_and_steps() {
     assert_forward(&occurred, 100);
 }
 
+/// Plans carried forward, in counter form and in order form, listed and aligned: formulas with at least so many
+/// choices, and one to so many plans.
+fn carried(
+    seeds: Range<u64>,
+    variables: (usize, usize),
+    (choices, plans): (usize, usize),
+    steps: &[u32],
+) -> [Carried; 4] {
+    let mut carried: [Carried; 4] = Default::default();
+    let draw = |random: &mut Random| match random.chance(50) {
+        true => drawn(random, variables),
+        false => drawn_cut(random, variables),
+    };
+    for_each_drawn(seeds, draw, steps, |drawn, random| {
+        if drawn.encoding.choices.len() < choices {
+            return;
+        }
+        let own = OwnLog::of(drawn);
+        if (1..=plans).contains(&own.plans()) {
+            let way = (drawn.settings.form, drawn.settings.arrangement);
+            let index = WAYS.iter().position(|other| *other == way);
+            let carried = &mut carried[index.expect("one of the ways")];
+            carried.check(&own, random);
+            carried.check_failing(&own, random);
+        }
+    });
+    carried
+}
+
+fn plans_of_small(seeds: Range<u64>) -> [Carried; 4] {
+    carried(seeds, (0, 8), (0, 40), &[1, 1, 2, 3, 7])
+}
+
+fn plans_of_two_choices(seeds: Range<u64>) -> [Carried; 4] {
+    carried(seeds, (10, 11), (2, 40), &[1, 2, 3, 39])
+}
+
+#[test]
+fn plans_carried_forward() {
+    let ways = plans_of_small(30_000..31_000);
+    println!("{ways:#?}");
+    for carried in &ways {
+        assert!(carried.plans > 200);
+        for count in [
+            carried.failing_plans,
+            carried.inside_choices,
+            carried.skipping,
+            carried.changed,
+            carried.changed_inside_choices,
+            carried.with_new,
+            carried.same,
+            carried.other,
+        ] {
+            assert!(count > 500);
+        }
+    }
+}
+
+#[test]
+fn plans_carried_forward_over_two_choices() {
+    let ways = plans_of_two_choices(40_000..41_500);
+    println!("{ways:#?}");
+    let aligned: usize = ways.iter().map(|carried| carried.aligned).sum();
+    assert!(aligned > 5);
+    for carried in &ways {
+        assert!(carried.with_two_choices > 4);
+        for count in [
+            carried.inside_choices,
+            carried.skipping,
+            carried.changed_inside_choices,
+            carried.same,
+            carried.other,
+        ] {
+            assert!(count > 500);
+        }
+    }
+}
+
 /// In counter form: the random formulas, and choices of up to 64 literals with some of their pairs.
 #[test]
 fn lines_in_counter_form() {
@@ -236,4 +313,6 @@ fn more_formulas() {
     println!("{:#?}", run(400_000..402_000, (10, 12), 20));
     println!("{:#?}", with_steps(500_000..530_000));
     println!("{:#?}", two_with_steps(600_000..602_000));
+    println!("{:#?}", plans_of_small(700_000..715_000));
+    println!("{:#?}", plans_of_two_choices(800_000..807_000));
 }

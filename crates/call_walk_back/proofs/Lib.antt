@@ -1,3 +1,1 @@
-pub mod Workspace
-pub mod TextsRead
 pub mod Outcome

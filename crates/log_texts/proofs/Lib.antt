@@ -1,3 +1,4 @@
 pub mod Workspace
 pub mod TextsRead
 pub mod Handing
+pub mod Called

@@ -5,7 +5,8 @@ r"""Verified reencoding of formulas for SAT solvers.
 >>> solve("p cnf 2 2\n1 2 0\n-1 0\n")
 [-1, 2]
 
-`reencode`, `walk_back` and `read_back` are the calls of the proved library, with buffers of their own:
+`reencode`, `walk_back`, `carry_forward` and `read_back` are the calls of the proved library, with buffers of their
+own:
 
 >>> formula = b"p cnf 3 2\n1 2 0\n-1 3 0\n"
 >>> new = reencode(formula)
@@ -49,6 +50,7 @@ __all__ = [
     "Refused",
     "SolverFailed",
     "Undecided",
+    "carry_forward",
     "plan",
     "read_back",
     "reencode",
@@ -82,18 +84,22 @@ _MEANINGS = {
     32: "the log deletes a clause that does not stand",
     33: "the walked-back assignment fails the formula",
     34: "the log has fewer lines than are to be kept",
-    41: "the answer is not in the layout `s SATISFIABLE`, then `v ` lines that end in 0",
-    42: "the answer names a variable above those of formula and log",
-    43: "the answer names a variable twice",
+    41: "the answer or plan is not in the layout `s SATISFIABLE`, then `v ` lines that end in 0",
+    42: "the answer names a variable above those of formula and log, or the plan one above V",
+    43: "the answer or plan names a variable twice",
     44: "a clause that stands is false under the answer",
+    45: "the plan fails the formula",
+    46: "a clause that stands is false under the plan carried forward, so the log is not the formula's own",
 }
 
 
 _MENDERS = {
     (*range(1, 5), *range(7, 10)): "the formula's writer",
     range(11, 18): "the caller",
-    range(31, 35): "the log's writer",
-    range(41, 45): "the solver",
+    (*range(31, 35), 46): "the log's writer",
+    range(41, 44): "the solver or planner",
+    (44,): "the solver",
+    (45,): "the planner",
 }
 
 
@@ -130,11 +136,13 @@ _BYTES = [ctypes.POINTER(ctypes.c_uint8), ctypes.c_size_t]
 _ENTRIES = [ctypes.POINTER(ctypes.c_int32), ctypes.c_size_t]
 _COUNTS = [ctypes.POINTER(ctypes.c_uint64), ctypes.c_size_t]
 _TABLE = [ctypes.POINTER(_Choice), ctypes.c_size_t]
+_CARRYING = _TEXT + _TEXT + [ctypes.c_size_t] + _TEXT + _ENTRIES + _BYTES + _COUNTS
 
 # The arguments of host/include/sirgholyn.h; each call returns a uint32_t.
 _DECLARED: Dict[str, List[Any]] = {
     "sirgholyn_reencode": _TEXT + 3 * [ctypes.c_uint32] + _ENTRIES + _BYTES + _BYTES + _TABLE + _COUNTS,
-    "sirgholyn_walk_back": _TEXT + _TEXT + [ctypes.c_size_t] + _TEXT + _ENTRIES + _BYTES + _COUNTS,
+    "sirgholyn_walk_back": _CARRYING,
+    "sirgholyn_carry_forward": _CARRYING,
     "sirgholyn_read_back": _TEXT + _ENTRIES + _COUNTS,
 }
 
@@ -195,8 +203,12 @@ def _on_large_stack(call: Callable[[], int]) -> int:
 # No buffer grows beyond this; a call that wants more is refused.
 _MOST_BYTES = 16 << 30
 
+# No accepted formula has more variables, and no log a higher one.
+_MOST_VARIABLES = 8_000
+_MOST_LOG_VARIABLES = 70_000
+
 # No accepted formula has more choices: each has 5 literals or more, and no variable stands in two.
-_MOST_CHOICES = 8_000 // 5
+_MOST_CHOICES = _MOST_VARIABLES // 5
 
 
 class _Buffer:
@@ -336,7 +348,7 @@ def reencode(
     arrangement = int(bool(align))
     step_number = _step_number(step)
     call: Callable[..., int] = _library().sirgholyn_reencode
-    workspace = _Buffer(ctypes.c_int32, work, _reading_workspace(text, 60_000, 20_000, 8_000))
+    workspace = _Buffer(ctypes.c_int32, work, _reading_workspace(text, 60_000, 20_000, _MOST_VARIABLES))
     guess = min(len(text), 1 << 20)
     log = _Buffer(ctypes.c_uint8, log_room, guess * 16 + (1 << 20))
     formula = _Buffer(ctypes.c_uint8, formula_room, guess * 4 + (1 << 18))
@@ -388,12 +400,51 @@ def walk_back(
     >>> walk_back(b"p cnf 3 2\n1 2 0\n-1 3 0\n", log, b"s SATISFIABLE\nv 0\n")
     b'v -1 2 -3 0\n'
     """
-    formula, log, answer = _bytes(formula), _bytes(log), _bytes(answer)
+    return _carry("sirgholyn_walk_back", _MOST_VARIABLES, formula, log, answer, kept, work, room)
+
+
+def carry_forward(
+    formula: Text,
+    log: Text,
+    plan: Text,
+    *,
+    kept: Optional[int] = None,
+    work: Optional[int] = None,
+    room: Optional[int] = None,
+) -> bytes:
+    r"""A plan for the formula, carried forward over its own log: a line `v`, literals of 1..X, `0`, LF.
+
+    `plan` is laid out as a solver's answer: `s SATISFIABLE`, then what `walk_back` gives. X is the highest variable of
+    formula and kept lines, and the line satisfies the clauses that stand after them: those of the new formula, where
+    all lines are kept. `kept`, `work` and `room` are those of `walk_back`.
+
+    Raises Refused with 1 to 4, 7 to 9, 31, 32, 34, 41 to 43, 45, 46; with 11 and 14 only where the size of that buffer
+    is set.
+
+    >>> formula = b"p cnf 5 1\n1 2 3 4 5 0\n"
+    >>> carry_forward(formula, reencode(formula).log, b"s SATISFIABLE\nv 2 4 0\n")
+    b'v -1 2 -3 -4 -5 -6 7 8 9 0\n'
+    """
+    return _carry("sirgholyn_carry_forward", _MOST_LOG_VARIABLES, formula, log, plan, kept, work, room)
+
+
+def _carry(
+    name: str,
+    most_variables: int,
+    formula: Text,
+    log: Text,
+    assignment: Text,
+    kept: Optional[int],
+    work: Optional[int],
+    room: Optional[int],
+) -> bytes:
+    """An assignment carried over the kept lines by the call of this name, to a line for so many variables at most."""
+    formula, log, assignment = _bytes(formula), _bytes(log), _bytes(assignment)
     # no log has more lines than Python's sizes count, and a larger number would not pass as it is
     lines = _lines(log) if kept is None else min(_count(kept), sys.maxsize)
-    call: Callable[..., int] = _library().sirgholyn_walk_back
-    workspace = _Buffer(ctypes.c_int32, work, 4 * (_words(formula) + _words(log)) + 4 * 70_000 + 64)
-    line = _Buffer(ctypes.c_uint8, room, 1 << 16)
+    call: Callable[..., int] = getattr(_library(), name)
+    workspace = _Buffer(ctypes.c_int32, work, 4 * (_words(formula) + _words(log)) + 4 * _MOST_LOG_VARIABLES + 64)
+    line = _Buffer(ctypes.c_uint8, room, _longest_line(most_variables))
     tally = _zeros(ctypes.c_uint64, 1)
     _call_until_it_fits(
         lambda: call(
@@ -402,8 +453,8 @@ def walk_back(
             log,
             len(log),
             lines,
-            answer,
-            len(answer),
+            assignment,
+            len(assignment),
             workspace.elements,
             len(workspace),
             line.elements,
@@ -416,13 +467,18 @@ def walk_back(
     return line.first_bytes(tally[0])
 
 
+def _longest_line(variables: int) -> int:
+    """At least as many bytes as the line for so many variables has: each may have a sign, and has a blank."""
+    return (1 + len(str(variables)) + 1) * variables + len(b"v 0\n")
+
+
 def _lines(log: bytes) -> int:
     """All lines of a log, a last one without LF included."""
     return log.count(b"\n") + (not log.endswith(b"\n") and log != b"")
 
 
 def plan(line: Text) -> List[int]:
-    r"""The literals of a line as `walk_back` gives it.
+    r"""The literals of a line as `walk_back` and `carry_forward` give it.
 
     >>> plan(b"v -1 2 -3 0\n")
     [-1, 2, -3]

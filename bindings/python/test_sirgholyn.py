@@ -21,7 +21,8 @@ from pathlib import Path
 from unittest import mock
 
 import sirgholyn
-from sirgholyn import Choice, Refused, SolverFailed, Undecided, plan, read_back, reencode, solve, walk_back
+from sirgholyn import Choice, Refused, SolverFailed, Undecided
+from sirgholyn import carry_forward, plan, read_back, reencode, solve, walk_back
 
 HERE = Path(__file__).resolve().parent
 ROOT = HERE.parent.parent
@@ -42,8 +43,13 @@ JOINED_F = b"p cnf 6 9\n1 2 1 3 4 5 5 0\n-1 1 0\n-1 -2 -1 0\n-1 6 0\n-2 6 0\n-3 
 CHAIN = b"p cnf 8 3\n1 2 3 0\n-3 4 5 0\n-5 6 7 8 0\n"
 H_ANSWER = b"s SATISFIABLE\nv 1 2 3 4 5 -6 -7 -8 -9 10 0\n"
 H_LINE = b"v -1 -2 -3 4 -5 -6 0\n"
+H_PLAN = b"s SATISFIABLE\n" + H_LINE
+FORWARD = b"v -1 -2 -3 4 -5 -6 -7 -8 -9 10 0\n"
 
 ALL_FALSE = b"s SATISFIABLE\nv 0\n"
+
+# the calls that carry an assignment over a log
+CARRYING = (walk_back, carry_forward)
 
 
 def cnf(variables, clauses):
@@ -88,12 +94,14 @@ class Sessions(Case):
 
     def test_a(self):
         self.expect(A, b"", b"p cnf 0 0\n")
-        self.assertEqual(walk_back(A, b"", ALL_FALSE), b"v 0\n")
+        for carry in CARRYING:
+            self.assertEqual(carry(A, b"", ALL_FALSE), b"v 0\n")
         self.assertEqual(read_back(A), ([], 0, 0))
 
     def test_b(self):
         self.expect(B, b"", B)
         self.assert_refused(44, walk_back, B, b"", ALL_FALSE)
+        self.assert_refused(45, carry_forward, B, b"", ALL_FALSE)
         self.assertEqual(read_back(B), ([[]], 0, 0))
 
     def test_c(self):
@@ -104,6 +112,7 @@ class Sessions(Case):
         log = b"d 1 2 0\nd -1 -2 0\n"
         self.expect(D, log, b"p cnf 2 0\n")
         self.assertEqual(plan(walk_back(D, log, ALL_FALSE)), [1, -2])
+        self.assertEqual(plan(carry_forward(D, log, b"s SATISFIABLE\nv 2 0\n")), [-1, 2])
 
     def test_e(self):
         log = b"2 3 0\nd 1 2 0\nd -1 3 0\nd 2 3 0\n"
@@ -124,6 +133,28 @@ class Sessions(Case):
         self.assertEqual(walk_back(F, new.log, H_ANSWER, kept=41), H_LINE)
         self.assertEqual(walk_back(F, new.log, b"s SATISFIABLE\nv 4 0\n", kept=0), H_LINE)
         self.assertEqual(plan(H_LINE), [-1, -2, -3, 4, -5, -6])
+
+    def test_carried_forward(self):
+        for text in (F, JOINED_F):
+            for form in ("counter", "order"):
+                log = reencode(text, form=form).log
+                self.assertEqual(carry_forward(text, log, H_PLAN), FORWARD)
+                self.assertEqual(carry_forward(text, log, H_PLAN, kept=0), H_LINE)
+                self.assertEqual(plan(carry_forward(text, log, H_PLAN, kept=4)), [-1, -2, -3, 4, -5, -6, -7, -8])
+                self.assertEqual(walk_back(text, log, b"s SATISFIABLE\n" + FORWARD), H_LINE)
+                # of two true literals the first in the choice stays
+                several = carry_forward(text, log, b"s SATISFIABLE\nv 1 3 6 0\n")
+                self.assertEqual(plan(several), [1, -2, -3, -4, -5, 6, 7, 8, 9, 10])
+
+    def test_carried_forward_satisfies_the_new_formula(self):
+        text = (ROOT / "examples" / "valley.cnf").read_bytes()
+        literals = " ".join(map(str, solve(text)))
+        for form in ("counter", "order"):
+            for step in (1, 10):
+                new = reencode(text, form=form, align=True, step=step)
+                line = carry_forward(text, new.log, f"s SATISFIABLE\nv {literals} 0\n")
+                self.assertEqual(len(plan(line)), new.highest)
+                self.assertTrue(sirgholyn._satisfies(new.formula, plan(line)))
 
     def test_copies_of_pairs(self):
         new = reencode(COPIES)
@@ -179,7 +210,8 @@ class Sessions(Case):
         new = reencode(F)
         self.assertEqual([type(part) for part in new], [bytes, bytes, int, int, int, int, list])
         self.assertEqual([type(part) for part in new.table[0]], [int, int, int])
-        self.assertIs(type(walk_back(A, b"", ALL_FALSE)), bytes)
+        for carry in CARRYING:
+            self.assertIs(type(carry(A, b"", ALL_FALSE)), bytes)
 
 
 class Refusals(Case):
@@ -191,7 +223,8 @@ class Refusals(Case):
         texts[9] = cnf(2000, [list(range(1, 2001))] * 30 + [[1]])
         for number, text in texts.items():
             self.assert_refused(number, reencode, text)
-            self.assert_refused(number, walk_back, text, b"", ALL_FALSE)
+            for carry in CARRYING:
+                self.assert_refused(number, carry, text, b"", ALL_FALSE)
             if number not in (2, 9):
                 self.assert_refused(number, read_back, text)
         self.assert_refused(2, read_back, b"p cnf 70001 0\n")
@@ -208,11 +241,12 @@ class Refusals(Case):
 
         new = reencode(F, form="order")
         numbers = len(new.log.replace(b"d ", b"").split())
-        exact = dict(work=4 * (24 + numbers) + 4 * 10 + 64, room=len(H_LINE))
-        self.assertEqual(walk_back(F, new.log, H_ANSWER, **exact), H_LINE)
-        for number, name in ((11, "work"), (14, "room")):
-            short = dict(exact, **{name: exact[name] - 1})
-            self.assert_refused(number, walk_back, F, new.log, H_ANSWER, **short)
+        for carry, given, line in ((walk_back, H_ANSWER, H_LINE), (carry_forward, H_PLAN, FORWARD)):
+            exact = dict(work=4 * (24 + numbers) + 4 * 10 + 64, room=len(line))
+            self.assertEqual(carry(F, new.log, given, **exact), line)
+            for number, name in ((11, "work"), (14, "room")):
+                short = dict(exact, **{name: exact[name] - 1})
+                self.assert_refused(number, carry, F, new.log, given, **short)
 
         work = 40 * 19 + 4 * 8 + 12 * 10 + 8_192
         self.assertEqual(read_back(G, work=work), read_back(G))
@@ -229,20 +263,28 @@ class Refusals(Case):
         self.assert_refused(17, reencode, many, step=38, table_room=1599, log_room=0)
 
     def test_log(self):
-        for log in (b"1  0\n", b"1 0", b"1 1 0\n", b"1 -1 0\n", b"70001 0\n", b"x"):
-            self.assert_refused(31, walk_back, A, log, ALL_FALSE)
-        self.assert_refused(32, walk_back, A, b"d 1 0\n", ALL_FALSE)
+        for carry in CARRYING:
+            for log in (b"1  0\n", b"1 0", b"1 1 0\n", b"1 -1 0\n", b"70001 0\n", b"x"):
+                self.assert_refused(31, carry, A, log, ALL_FALSE)
+            self.assert_refused(32, carry, A, b"d 1 0\n", ALL_FALSE)
+            self.assert_refused(34, carry, A, b"1 0\n", ALL_FALSE, kept=2)
+            for many in (2**63, 2**64, 2**64 + 1, 10**30):
+                self.assert_refused(34, carry, A, b"1 0\n", ALL_FALSE, kept=many)
         self.assert_refused(33, walk_back, b"p cnf 2 2\n1 0\n-1 2 0\n", b"d 1 0\nd -1 2 0\n", ALL_FALSE)
-        self.assert_refused(34, walk_back, A, b"1 0\n", ALL_FALSE, kept=2)
-        for many in (2**63, 2**64, 2**64 + 1, 10**30):
-            self.assert_refused(34, walk_back, A, b"1 0\n", ALL_FALSE, kept=many)
+        self.assert_refused(46, carry_forward, F, b"-4 0\n", H_PLAN)
+        self.assert_refused(32, carry_forward, E, reencode(F).log, b"s SATISFIABLE\nv 2 0\n")
 
-    def test_answer(self):
-        for answer in (b"", b"s UNSATISFIABLE\n", b"s SATISFIABLE\nv 1 \n", b"v 0\n"):
-            self.assert_refused(41, walk_back, E, b"", answer)
-        self.assert_refused(42, walk_back, E, b"", b"s SATISFIABLE\nv 4 0\n")
-        self.assert_refused(43, walk_back, E, b"", b"s SATISFIABLE\nv 1 -1 0\n")
+    def test_answer_and_plan(self):
+        for carry in CARRYING:
+            for given in (b"", b"s UNSATISFIABLE\n", b"s SATISFIABLE\nv 1 \n", b"v 0\n"):
+                self.assert_refused(41, carry, E, b"", given)
+            self.assert_refused(42, carry, E, b"", b"s SATISFIABLE\nv 4 0\n")
+            self.assert_refused(43, carry, E, b"", b"s SATISFIABLE\nv 1 -1 0\n")
         self.assert_refused(44, walk_back, E, b"", ALL_FALSE)
+        self.assert_refused(45, carry_forward, E, b"", ALL_FALSE)
+        # a variable of the log, which only an answer may name
+        self.assertEqual(walk_back(E, b"4 0\n", b"s SATISFIABLE\nv 2 4 0\n"), b"v -1 2 -3 0\n")
+        self.assert_refused(42, carry_forward, E, b"4 0\n", b"s SATISFIABLE\nv 2 4 0\n")
 
     def test_what_a_refusal_tells(self):
         refused = self.assert_refused(4, reencode, b"p cnf 1 1\n2 0\n")
@@ -283,11 +325,26 @@ class Refusals(Case):
                     numbers.add(refused.number)
         self.assertLessEqual({41, 42, 43}, numbers)
 
+    def test_damaged_plans(self):
+        new = reencode(F, form="order")
+        numbers = set()
+        for place in range(len(H_PLAN)):
+            before, after = H_PLAN[:place], H_PLAN[place:]
+            for given in (before, before + b"1 " + after, before + after[1:]):
+                try:
+                    line = carry_forward(F, new.log, given)
+                    self.assertTrue(sirgholyn._satisfies(new.formula, plan(line)))
+                    numbers.add(0)
+                except Refused as refused:
+                    numbers.add(refused.number)
+        self.assertEqual(numbers, {0, 41, 42, 43, 45})
+
 
 class Arguments(Case):
     def test_str_is_its_utf8(self):
         self.assertEqual(reencode(F.decode()), reencode(F))
-        self.assertEqual(walk_back(A.decode(), "", ALL_FALSE.decode()), b"v 0\n")
+        for carry in CARRYING:
+            self.assertEqual(carry(A.decode(), "", ALL_FALSE.decode()), b"v 0\n")
         self.assertEqual(read_back(G.decode()), read_back(G))
         self.assertEqual(plan(H_LINE.decode()), plan(H_LINE))
         self.assertEqual(reencode("c Füchse im Tal\np cnf 0 0").formula, b"p cnf 0 0\n")
@@ -297,7 +354,8 @@ class Arguments(Case):
         self.assert_refused(3, reencode, "p cnf 1 1\n１ 0\n")
         self.assert_refused(1, reencode, "p cnf １ 0\n")
         self.assert_refused(1, reencode, b"\xef\xbb\xbf" + A)
-        self.assert_refused(41, walk_back, A, b"", "s SATISFIABLE\nv\u00a00\n")
+        for carry in CARRYING:
+            self.assert_refused(41, carry, A, b"", "s SATISFIABLE\nv\u00a00\n")
         with self.assertRaises(ValueError):
             reencode("p cnf 0 0\ud800")
 
@@ -307,21 +365,17 @@ class Arguments(Case):
 
     def test_wrong_types(self):
         for text in (None, 1, bytearray(F), memoryview(F), [F], F.split()):
-            for call in (
-                lambda: reencode(text),
-                lambda: walk_back(text, b"", ALL_FALSE),
-                lambda: walk_back(A, text, ALL_FALSE),
-                lambda: walk_back(A, b"", text),
-                lambda: read_back(text),
-                lambda: plan(text),
-                lambda: solve(text),
-            ):
-                self.assertRaises(TypeError, call)
+            for call in (reencode, read_back, plan, solve):
+                self.assertRaises(TypeError, call, text)
+            for carry in CARRYING:
+                for given in ((text, b"", ALL_FALSE), (A, text, ALL_FALSE), (A, b"", text)):
+                    self.assertRaises(TypeError, carry, *given)
         for size in ("1", 1.5, b"1", [1]):
             self.assertRaises(TypeError, reencode, A, work=size)
             self.assertRaises(TypeError, reencode, A, step=size)
             self.assertRaises(TypeError, solve, A, step=size)
-            self.assertRaises(TypeError, walk_back, A, b"", ALL_FALSE, kept=size)
+            for carry in CARRYING:
+                self.assertRaises(TypeError, carry, A, b"", ALL_FALSE, kept=size)
         self.assertRaises(TypeError, reencode, A, "order")
         self.assertRaises(TypeError, solve, A, timeout="1")
         self.assertRaises(TypeError, solve, A, proof=1)
@@ -332,7 +386,8 @@ class Arguments(Case):
             self.assertRaises(ValueError, solve, A, form=form)
         self.assertRaises(ValueError, reencode, A, work=-1)
         self.assertRaises(ValueError, reencode, A, step=-1)
-        self.assertRaises(ValueError, walk_back, A, b"", ALL_FALSE, kept=-1)
+        for carry in CARRYING:
+            self.assertRaises(ValueError, carry, A, b"", ALL_FALSE, kept=-1)
         for line in (b"", b"v", b"v 1", b"1 0", b"v x 0"):
             self.assertRaises(ValueError, plan, line)
 
@@ -360,16 +415,25 @@ class Buffers(Case):
             self.assertEqual(reencode(F, form="order"), new)
             self.assertEqual(reencode(two).table, table)
             self.assertEqual(walk_back(F, new.log, H_ANSWER), H_LINE)
+            self.assertEqual(carry_forward(F, new.log, H_PLAN), FORWARD)
             self.assertEqual(read_back(G), back)
             with mock.patch.object(sirgholyn, "_MOST_BYTES", 500):
                 self.assert_refused(11, reencode, F)
                 self.assert_refused(12, reencode, F, form="order", work=10_000)
 
+    def test_longest_line(self):
+        line = carry_forward(A, b"-70000 0\n", ALL_FALSE)
+        self.assertEqual(plan(line), list(range(-1, -70_001, -1)))
+        self.assertLessEqual(len(line), sirgholyn._longest_line(70_000))
+        with mock.patch.object(sirgholyn._Buffer, "grow", lambda self: False):
+            self.assertEqual(carry_forward(A, b"-70000 0\n", ALL_FALSE), line)
+
     def test_no_memory(self):
         for size in (2**60, 2**62, 2**64, 10**30):
             self.assertRaises(MemoryError, reencode, A, work=size)
             self.assertRaises(MemoryError, reencode, A, table_room=size)
-            self.assertRaises(MemoryError, walk_back, A, b"", ALL_FALSE, room=size)
+            for carry in CARRYING:
+                self.assertRaises(MemoryError, carry, A, b"", ALL_FALSE, room=size)
             self.assertRaises(MemoryError, read_back, A, work=size)
 
 
@@ -398,18 +462,23 @@ class Threads(Case):
         self.assertEqual(os.waitpid(child, 0)[1], 0)
 
     def test_from_a_small_stack(self):
-        """Walk-back takes more stack than this thread has; the size for other threads stays as it is."""
+        """These calls take more stack than this thread has; the size for other threads stays as it is."""
         lines = []
         log = reencode(F, form="order").log
+
+        def carry():
+            lines.append(walk_back(F, log, H_ANSWER))
+            lines.append(carry_forward(F, log, H_PLAN))
+
         before = threading.stack_size(256 << 10)
         try:
-            thread = threading.Thread(target=lambda: lines.append(walk_back(F, log, H_ANSWER)))
+            thread = threading.Thread(target=carry)
             thread.start()
             thread.join()
             self.assertEqual(threading.stack_size(), 256 << 10)
         finally:
             threading.stack_size(before)
-        self.assertEqual(lines, [H_LINE])
+        self.assertEqual(lines, [H_LINE, FORWARD])
 
     def test_a_call_that_raises(self):
         def call():
@@ -435,7 +504,7 @@ class Library(Case):
             name: [known[re.sub(r"\w+$", "", parameter.strip())] for parameter in parameters.split(",")]
             for name, parameters in re.findall(r"^uint32_t (sirgholyn_\w+)\(([^)]*)\);", header, re.MULTILINE)
         }
-        self.assertEqual(len(declared), 3)
+        self.assertEqual(len(declared), 4)
         self.assertEqual(declared, sirgholyn._DECLARED)
         body = re.search(r"struct sirgholyn_choice \{([^}]*)\}", header).group(1)
         fields = [(name, ctypes.c_uint32) for name in re.findall(r"^    uint32_t (\w+);", body, re.MULTILINE)]
@@ -611,7 +680,7 @@ class Texts(Case):
         self.assertGreater(tried, 8)
 
     def test_every_function_has_an_example(self):
-        for name in ("plan", "read_back", "reencode", "solve", "walk_back"):
+        for name in ("carry_forward", "plan", "read_back", "reencode", "solve", "walk_back"):
             self.assertIn(">>> ", getattr(sirgholyn, name).__doc__)
 
     def test_readme(self):

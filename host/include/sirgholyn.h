@@ -73,7 +73,7 @@ enum sirgholyn_number {
     /* the table of choices is too short */
     SIRGHOLYN_TABLE_SHORT = 17,
 
-    /* 31 to 34: the log's writer can mend it. */
+    /* 31 to 34, 46: the log's writer can mend it. */
 
     /* a kept line of the log is not in the layout of a DRAT line, repeats or opposes a literal, or
      * has a variable above 70000 */
@@ -85,27 +85,41 @@ enum sirgholyn_number {
     /* the log has fewer lines than are to be kept */
     SIRGHOLYN_FEWER_LINES = 34,
 
-    /* 41 to 44: the solver can mend it. */
+    /* 41 to 43: the solver or planner can mend it. */
 
-    /* the answer is not in the layout `s SATISFIABLE`, then `v ` lines that end in 0 */
+    /* the answer or plan is not in the layout `s SATISFIABLE`, then `v ` lines that end in 0 */
     SIRGHOLYN_ANSWER_LAYOUT = 41,
-    /* the answer names a variable above those of formula and log */
+    /* the answer names a variable above those of formula and log, or the plan one above V */
     SIRGHOLYN_VARIABLE_ABOVE_X = 42,
-    /* the answer names a variable twice */
+    /* the answer or plan names a variable twice */
     SIRGHOLYN_VARIABLE_TWICE = 43,
+
+    /* 44: the solver can mend it. */
+
     /* a clause that stands is false under the answer */
-    SIRGHOLYN_STANDING_CLAUSE_FALSE = 44
+    SIRGHOLYN_STANDING_CLAUSE_FALSE = 44,
+
+    /* 45: the planner can mend it. */
+
+    /* the plan fails the formula */
+    SIRGHOLYN_PLAN_FAILS = 45,
+
+    /* 31 to 34, 46: the log's writer can mend it. */
+
+    /* a clause that stands is false under the plan carried forward, so the log is not the
+     * formula's own */
+    SIRGHOLYN_LOG_NOT_OWN = 46
 };
 
 /* How every call reads a formula: a literal that is repeated in its clause is kept at its first
  * place only, and a clause that holds a literal and its negation is left out, though C counts it. */
 
-/* The most variables, clauses and kept literals that reencoding and walk-back read in a formula.. */
+/* The most variables, clauses and kept literals that a formula has.. */
 #define SIRGHOLYN_MOST_VARIABLES 8000
 #define SIRGHOLYN_MOST_CLAUSES 20000
 #define SIRGHOLYN_MOST_LITERALS 60000
 
-/* .. and that reading back reads in a new one. */
+/* .. and that a new one has, which reading back reads. */
 #define SIRGHOLYN_MOST_NEW_VARIABLES 70000
 #define SIRGHOLYN_MOST_NEW_CLAUSES 300000
 #define SIRGHOLYN_MOST_NEW_LITERALS 1000000
@@ -202,6 +216,33 @@ uint32_t sirgholyn_walk_back(
     const uint8_t *log, size_t log_len,
     size_t kept,
     const uint8_t *answer, size_t answer_len,
+    int32_t *work, size_t work_len,
+    uint8_t *out, size_t out_len,
+    uint64_t *tally, size_t tally_len);
+
+/* ---- carrying forward */
+
+/* The counts of carrying forward by their index in the tally, and how many there are. */
+enum sirgholyn_carry_forward_count {
+    SIRGHOLYN_CARRY_FORWARD_BYTES = 0,    /* bytes of the line */
+    SIRGHOLYN_CARRY_FORWARD_COUNTS = 1
+};
+
+/* Carries a plan for the formula forward to the clauses that stand after the kept lines, which it
+ * satisfies then: those of the new formula, where all lines are kept.
+ *   formula      read: the formula that was reencoded
+ *   log          read: its own log
+ *   kept         how many lines of the log are kept; what follows them is not looked at
+ *   plan         read: a plan for 1..V that satisfies the formula, laid out as a solver's answer
+ *   work         workspace: SIRGHOLYN_WALK_BACK_WORK(N, G, X) entries
+ *   out          written: one line, `v`, the literals of 1..X, `0`, and LF
+ *   tally        written: the counts, of enum sirgholyn_carry_forward_count
+ * Returns 0, or 1 to 4, 7 to 9, 31 or 34, 41 to 43, 11, 45, 32, 46, 14, in this order. */
+uint32_t sirgholyn_carry_forward(
+    const uint8_t *formula, size_t formula_len,
+    const uint8_t *log, size_t log_len,
+    size_t kept,
+    const uint8_t *plan, size_t plan_len,
     int32_t *work, size_t work_len,
     uint8_t *out, size_t out_len,
     uint64_t *tally, size_t tally_len);

@@ -1,7 +1,8 @@
 //! The library beside an ordinary implementation with vectors and cadical's and minisat's preprocessing, in one run:
-//! instructions, seconds, peak memory, and growth from size to size. Prints the tables of docs/BENCHMARKS.md.
+//! instructions, seconds, peak memory, and growth from size to size; and what carrying a plan over a log takes. Prints
+//! the tables of docs/BENCHMARKS.md.
 //!
-//! `cargo bench --offline --bench compare [-- --short | -- --long]`. Instructions are counted by valgrind's callgrind
+//! `cargo bench --offline --bench compare [-- --short | -- --long | -- --carrying]`. Instructions are counted by valgrind's callgrind
 //! where it is installed, for runs of at most a second; they are those of the whole process.
 
 #[path = "../tests/common/formulas.rs"]
@@ -12,9 +13,13 @@ mod vectors;
 
 use measure::{measure_once, spent, Spent};
 use model::generator::{largest_with, text_of, Random};
+use model::log_reading::read_kept_lines;
 use model::reading::{read_formula, INPUT_LIMITS};
 use model::valleys::Valley;
-use sirgholyn::{calls, Arrangement, ChoiceRecord, Form, ReencodeRoom, Settings};
+use model::walk_back::workspace_needed;
+use sirgholyn::{
+    calls, plan, Arrangement, ChoiceRecord, Form, ReencodeRoom, Settings, WalkBackRoom,
+};
 use std::hint::black_box;
 use std::path::Path;
 use std::process::{Command, Stdio};
@@ -32,13 +37,24 @@ fn main() {
     let words: Vec<&str> = words.iter().map(String::as_str).collect();
     match words.as_slice() {
         ["--reencode", who, file, form, sizes @ ..] => reencode_once(who, file, form, sizes),
+        ["--carry", call, formula, log, given, sizes @ ..] => {
+            carry_once(call, [formula, log, given], sizes)
+        }
         ["--measure", printed, command @ ..] => measure_once(printed, command),
         ["--short"] => compare(&valleys(&[75, 150])),
         ["--long"] => compare_long(),
-        [] => compare(&[valleys(&[75, 150, 300, 600]), others()].concat()),
-        _ => eprintln!("wanted: nothing, --short or --long"),
+        ["--carrying"] => compare_carrying(&valleys(&SIZES)),
+        [] => {
+            compare(&[valleys(&SIZES), others()].concat());
+            println!();
+            compare_carrying(&valleys(&SIZES));
+        }
+        _ => eprintln!("wanted: nothing, --short, --long or --carrying"),
     }
 }
+
+/// The traps of the valleys.
+const SIZES: [usize; 4] = [75, 150, 300, 600];
 
 fn named(form: &str) -> Form {
     match form {
@@ -63,6 +79,18 @@ fn reencode_once(who: &str, file: &str, form: &str, sizes: &[&str]) {
     } else {
         black_box(vectors::reencode(&text, form, wish).ok().unwrap());
     }
+}
+
+/// One assignment carried over the log, on buffers of these sizes.
+fn carry_once(call: &str, texts: [&str; 3], sizes: &[&str]) {
+    let [formula, log, given] = texts.map(|file| fs::read(file).unwrap());
+    let sizes: Vec<usize> = sizes.iter().map(|size| size.parse().unwrap()).collect();
+    let (kept, mut work, mut line) = (sizes[0], vec![0; sizes[1]], vec![0; sizes[2]]);
+    let call = match call {
+        "walk-back" => calls::walk_back,
+        _ => calls::carry_forward,
+    };
+    call(&formula, &log, kept, &given, &mut work, &mut line).unwrap();
 }
 
 // ---- the comparison
@@ -282,7 +310,106 @@ fn words(words: &[&str]) -> Vec<String> {
     words.iter().map(|word| word.to_string()).collect()
 }
 
+// ---- carrying over a log
+
+/// The calls of a row, in the order of its columns.
+const CARRYING: [&str; 2] = ["walk-back", "carry-forward"];
+
+struct CarryingRow {
+    name: String,
+    form: &'static str,
+    lines: usize,
+    by: [Measured; CARRYING.len()],
+}
+
+/// A solver's answer carried back over the whole log, and the plan that it gives forward.
+fn compare_carrying(inputs: &[Input]) {
+    let mut rows = Vec::new();
+    in_folder(|folder| {
+        for form in ["counter", "order"] {
+            for input in inputs {
+                rows.push(measure_carrying(folder, input, form));
+            }
+        }
+    });
+    print_carrying(&rows);
+}
+
+fn measure_carrying(folder: &Path, input: &Input, form: &'static str) -> CarryingRow {
+    eprintln!("{}, {form} form, carried", input.name);
+    let write = |name: &str, bytes: &[u8]| {
+        let path = folder.join(name).to_string_lossy().into_owned();
+        fs::write(&path, bytes).unwrap();
+        path
+    };
+    let text = &input.text;
+    let settings = Settings::new(named(form), Arrangement::Alignment);
+    let new = sirgholyn::reencode(text, settings, ReencodeRoom::default()).unwrap();
+    let lines = new.tally.lines as usize;
+    let room = WalkBackRoom::default();
+    let answer = answer_of(&write("new.cnf", &new.formula));
+    let back = sirgholyn::walk_back(text, &new.log, lines, &answer, room).unwrap();
+    let plan = [b"s SATISFIABLE\n", &back[..]].concat();
+    let forward = sirgholyn::carry_forward(text, &new.log, lines, &plan, room).unwrap();
+    let [new_formula, line] = [&new.formula, &forward].map(|text| String::from_utf8_lossy(text));
+    assert!(plan::satisfies(&new_formula, &line));
+
+    let read = read_formula(text, &INPUT_LIMITS).unwrap();
+    let kept = read_kept_lines(&new.log, lines).unwrap();
+    let work = workspace_needed(&read, &kept);
+    let own = env::current_exe().unwrap().to_string_lossy().into_owned();
+    let files = [write("formula.cnf", text), write("log.drat", &new.log)];
+    let command = |call: &str, given: &[u8], line: &[u8]| {
+        let given = write(call, given);
+        let sizes = [lines.to_string(), work.to_string(), line.len().to_string()];
+        let first = words(&[&own, "--carry", call, &files[0], &files[1], &given]);
+        [&first[..], &sizes].concat()
+    };
+    let [one, other] = CARRYING;
+    let commands = [
+        command(one, &answer, &back),
+        command(other, &plan, &forward),
+    ];
+    CarryingRow {
+        name: input.name.clone(),
+        form,
+        lines,
+        by: commands.map(|command| measure(folder, &command, true)),
+    }
+}
+
+/// What cadical prints of a formula that can be satisfied.
+fn answer_of(file: &str) -> Vec<u8> {
+    let output = Command::new("cadical").args(["-q", file]).output().unwrap();
+    assert_eq!(output.status.code(), Some(10));
+    output.stdout
+}
+
 // ---- the tables
+
+fn print_carrying(rows: &[CarryingRow]) {
+    println!("Carrying over the whole log: instructions of the whole process, growth to the row before, seconds.");
+    println!();
+    let columns = CARRYING.map(|call| [call, "growth", "seconds"]).concat();
+    print_head(&[&["formula", "form", "lines"][..], &columns].concat());
+    let mut before: Option<&CarryingRow> = None;
+    for row in rows {
+        let smaller = before.filter(|before| before.form == row.form);
+        let shown = |call: usize| {
+            let by = &row.by[call];
+            let growth = smaller.map(|smaller| ratio(by, &smaller.by[call]));
+            let growth = growth.unwrap_or_default();
+            format!("{} | {growth} | {:.3}", in_millions(by), by.seconds)
+        };
+        let (name, form, lines) = (&row.name, row.form, row.lines);
+        println!(
+            "| {name} | {form} | {lines} | {} | {} |",
+            shown(0),
+            shown(1)
+        );
+        before = Some(row);
+    }
+}
 
 fn print_head(first: &[&str]) {
     println!("| {} |", first.join(" | "));

@@ -48,6 +48,9 @@ pub struct WalkBackRoom {
     pub line: Option<usize>,
 }
 
+/// Carrying forward has the same buffers.
+pub type CarryForwardRoom = WalkBackRoom;
+
 /// A reencoded formula.
 #[derive(Debug, Clone, PartialEq, Eq)]
 pub struct Reencoded {
@@ -147,17 +150,60 @@ pub fn walk_back(
     answer: &[u8],
     room: WalkBackRoom,
 ) -> Result<Vec<u8>, Error> {
+    let most = Limits::INPUT.variables;
+    carry(calls::walk_back, most, formula, log, kept, answer, room)
+}
+
+/// Carries a plan for the formula forward over the first `kept` lines of its own log, to a line for all variables up
+/// to the highest of formula and kept lines. It satisfies the clauses that stand there.
+///
+/// Refuses with 1 to 4, 7 to 9, 31, 32, 34, 41 to 43, 45, 46; with 11 and 14 only where the room for it is set.
+///
+/// ```
+/// use sirgholyn::{carry_forward, reencode, Arrangement, CarryForwardRoom, Form, ReencodeRoom, Settings};
+/// let formula = b"p cnf 5 1\n1 2 3 4 5 0\n";
+/// let settings = Settings::new(Form::Counter, Arrangement::AsListed);
+/// let new = reencode(formula, settings, ReencodeRoom::default()).unwrap();
+/// let plan = b"s SATISFIABLE\nv 2 4 0\n";
+/// let lines = new.tally.lines as usize;
+/// let line = carry_forward(formula, &new.log, lines, plan, CarryForwardRoom::default());
+/// assert_eq!(line.unwrap(), b"v -1 2 -3 -4 -5 -6 7 8 9 0\n");
+/// ```
+pub fn carry_forward(
+    formula: &[u8],
+    log: &[u8],
+    kept: usize,
+    plan: &[u8],
+    room: CarryForwardRoom,
+) -> Result<Vec<u8>, Error> {
+    let most = MOST_LOG_VARIABLES;
+    carry(calls::carry_forward, most, formula, log, kept, plan, room)
+}
+
+/// A call that carries an assignment over the kept lines of a log.
+type Carrying = fn(&[u8], &[u8], usize, &[u8], &mut [i32], &mut [u8]) -> Result<usize, u32>;
+
+/// Carries an assignment over the kept lines, to a line for that many variables at most.
+fn carry(
+    call: Carrying,
+    most_variables: usize,
+    formula: &[u8],
+    log: &[u8],
+    kept: usize,
+    assignment: &[u8],
+    room: WalkBackRoom,
+) -> Result<Vec<u8>, Error> {
     let mut work = Buffer::new(
         room.work,
         4 * (words(formula) + words(log)) + 4 * MOST_LOG_VARIABLES + 64,
     )?;
-    let mut line = Buffer::new(room.line, 1 << 16)?;
+    let mut line = Buffer::new(room.line, longest_line(most_variables))?;
     loop {
-        match calls::walk_back(
+        match call(
             formula,
             log,
             kept,
-            answer,
+            assignment,
             &mut work.entries,
             &mut line.entries,
         ) {
@@ -193,6 +239,12 @@ pub fn read_back(text: &[u8], store: Option<usize>) -> Result<ReadBack, Error> {
 fn reading_workspace(text: &[u8], limits: &Limits) -> usize {
     let literals = words(text).min(limits.literals);
     40 * literals + 4 * limits.clauses + 12 * limits.variables + 8_192
+}
+
+/// At least as many bytes as the line for so many variables has: each may have a sign, and has a blank.
+fn longest_line(variables: usize) -> usize {
+    let digits = variables.to_string().len();
+    (1 + digits + 1) * variables + "v 0\n".len()
 }
 
 /// The words of a text: at least as many as its numbers.

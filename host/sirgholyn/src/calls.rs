@@ -134,6 +134,22 @@ pub mod library {
             tally_len: usize,
         ) -> u32;
 
+        pub fn sirgholyn_carry_forward(
+            formula: *const u8,
+            formula_len: usize,
+            log: *const u8,
+            log_len: usize,
+            kept: usize,
+            plan: *const u8,
+            plan_len: usize,
+            work: *mut i32,
+            work_len: usize,
+            out: *mut u8,
+            out_len: usize,
+            tally: *mut u64,
+            tally_len: usize,
+        ) -> u32;
+
         pub fn sirgholyn_read_back(
             text: *const u8,
             text_len: usize,
@@ -243,18 +259,63 @@ pub fn walk_back(
     work: &mut [i32],
     line: &mut [u8],
 ) -> Result<usize, u32> {
+    let function = library::sirgholyn_walk_back;
+    carry(function, formula, log, kept, answer, work, line)
+}
+
+/// Writes the line of a plan carried forward, and gives its length. Refuses with 1 to 4, 7 to 9, 31 or 34,
+/// 41 to 43, 11, 45, 32, 46, 14.
+pub fn carry_forward(
+    formula: &[u8],
+    log: &[u8],
+    kept: usize,
+    plan: &[u8],
+    work: &mut [i32],
+    line: &mut [u8],
+) -> Result<usize, u32> {
+    let function = library::sirgholyn_carry_forward;
+    carry(function, formula, log, kept, plan, work, line)
+}
+
+/// A C function that carries an assignment over the kept lines of a log.
+type Carrying = unsafe extern "C" fn(
+    *const u8,
+    usize,
+    *const u8,
+    usize,
+    usize,
+    *const u8,
+    usize,
+    *mut i32,
+    usize,
+    *mut u8,
+    usize,
+    *mut u64,
+    usize,
+) -> u32;
+
+/// Writes the line of the assignment carried over the kept lines, and gives its length.
+fn carry(
+    function: Carrying,
+    formula: &[u8],
+    log: &[u8],
+    kept: usize,
+    assignment: &[u8],
+    work: &mut [i32],
+    line: &mut [u8],
+) -> Result<usize, u32> {
     let mut tally = [0u64; 1];
     let lent = &mut tally;
     // SAFETY: as in `reencode`.
     let number = on_own_stack(move || unsafe {
-        library::sirgholyn_walk_back(
+        function(
             formula.as_ptr(),
             formula.len(),
             log.as_ptr(),
             log.len(),
             kept,
-            answer.as_ptr(),
-            answer.len(),
+            assignment.as_ptr(),
+            assignment.len(),
             work.as_mut_ptr(),
             work.len(),
             line.as_mut_ptr(),

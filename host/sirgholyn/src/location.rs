@@ -77,10 +77,33 @@ pub fn in_answer(
     answer: &[u8],
     number: u32,
 ) -> Option<Location> {
+    in_assignment(formula, log, kept, answer, number, i64::max)
+}
+
+/// The same for a plan that is carried forward, where 42 is a variable above V.
+pub fn in_plan(
+    formula: &[u8],
+    log: &[u8],
+    kept: usize,
+    plan: &[u8],
+    number: u32,
+) -> Option<Location> {
+    in_assignment(formula, log, kept, plan, number, |variables, _| variables)
+}
+
+/// `highest` gives the highest variable that may be named, by V and the highest in the kept lines.
+fn in_assignment(
+    formula: &[u8],
+    log: &[u8],
+    kept: usize,
+    assignment: &[u8],
+    number: u32,
+    highest: fn(i64, i64) -> i64,
+) -> Option<Location> {
     let formula = read_formula(formula, &Limits::INPUT).ok()?;
-    let highest = highest_kept(log, kept).ok()?.max(formula.variables);
-    let fault = read_answer(answer, highest).err()?;
-    fault.location(answer, number)
+    let highest = highest(formula.variables, highest_kept(log, kept).ok()?);
+    let fault = read_answer(assignment, highest).err()?;
+    fault.location(assignment, number)
 }
 
 /// The first fault of a text in reading order: its number, and where it stands. A place that starts at the

@@ -28,10 +28,12 @@ impl Refusal {
             32 => "the log deletes a clause that does not stand",
             33 => "the walked-back assignment fails the formula",
             34 => "the log has fewer lines than are to be kept",
-            41 => "the answer is not in the layout `s SATISFIABLE`, then `v ` lines that end in 0",
-            42 => "the answer names a variable above those of formula and log",
-            43 => "the answer names a variable twice",
+            41 => "the answer or plan is not in the layout `s SATISFIABLE`, then `v ` lines that end in 0",
+            42 => "the answer names a variable above those of formula and log, or the plan one above V",
+            43 => "the answer or plan names a variable twice",
             44 => "a clause that stands is false under the answer",
+            45 => "the plan fails the formula",
+            46 => "a clause that stands is false under the plan carried forward, so the log is not the formula's own",
             _ => "a number that is not listed",
         }
     }
@@ -41,8 +43,10 @@ impl Refusal {
         match self.0 {
             1..=4 | 7..=9 => "the formula's writer",
             11..=17 => "the caller",
-            31..=34 => "the log's writer",
-            41..=44 => "the solver",
+            31..=34 | 46 => "the log's writer",
+            41..=43 => "the solver or planner",
+            44 => "the solver",
+            45 => "the planner",
             _ => "nobody listed",
         }
     }

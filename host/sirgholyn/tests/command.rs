@@ -47,6 +47,39 @@ fn reencode_and_back(text: &str) {
     expect_printed(&run_with(&words, &fs::read(&log).unwrap()), line);
     let words = ["walk-back", &input, &log, "-", "--keep", "0"];
     expect_printed(&run_with(&words, b"s SATISFIABLE\nv 4 0\n"), line);
+
+    let plan = folder.write("plan", format!("s SATISFIABLE\n{line}").as_bytes());
+    let forward = "v -1 -2 -3 4 -5 -6 -7 -8 -9 10 0\n";
+    expect_printed(&run(&["carry-forward", &input, &log, &plan]), forward);
+    let words = ["carry-forward", "--keep=41", &input, "-", &plan];
+    expect_printed(&run_with(&words, &fs::read(&log).unwrap()), forward);
+    let words = ["carry-forward", &input, &log, "-", "--keep", "0"];
+    expect_printed(&run_with(&words, b"s SATISFIABLE\nv 4 0\n"), line);
+    let words = ["carry-forward", &input, &log, &plan, "--keep", "4"];
+    expect_printed(&run(&words), "v -1 -2 -3 4 -5 -6 -7 -8 0\n");
+    let answer = format!("s SATISFIABLE\n{forward}");
+    let words = ["walk-back", &input, &log, "-"];
+    expect_printed(&run_with(&words, answer.as_bytes()), line);
+}
+
+/// What `solve` prints is carried forward to values that satisfy the new formula.
+#[test]
+fn a_plan_carried_forward() {
+    let folder = Folder::new();
+    let input = example("valley.cnf");
+    let (formula, log) = (folder.path("new.cnf"), folder.path("new.drat"));
+    let solved = run(&["solve", &input]);
+    assert_eq!(solved.status, 10);
+    for form in ["counter", "order"] {
+        let outputs = ["--form", form, "--formula", &formula, "--log", &log];
+        let ran = run(&[&["reencode", &input], &outputs[..]].concat());
+        assert_eq!(ran.status, 0, "{}", ran.err);
+        let words = ["carry-forward", &input, &log, "-"];
+        let ran = run_with(&words, solved.out.as_bytes());
+        assert_eq!((ran.status, ran.err.as_str()), (0, ""));
+        let new = fs::read_to_string(&formula).unwrap();
+        assert!(plan::satisfies(&new, &ran.out), "{form}");
+    }
 }
 
 #[test]
@@ -140,7 +173,13 @@ fn help_and_version() {
     assert_eq!(run(&["help"]).out, ran.out);
     assert_eq!(run(&["-h"]).out, ran.out);
     assert_eq!(run(&["help", "nothing"]).out, ran.out);
-    for command in ["reencode", "walk-back", "read-back", "solve"] {
+    for command in [
+        "reencode",
+        "walk-back",
+        "carry-forward",
+        "read-back",
+        "solve",
+    ] {
         assert!(ran.out.contains(&format!("  sirgholyn {command} ")));
         let own = run(&[command, "--help"]);
         assert_eq!((own.status, own.err.as_str()), (0, ""));
@@ -182,7 +221,7 @@ fn help_tells_every_option() {
             }
         }
     }
-    assert_eq!(options, 22);
+    assert_eq!(options, 25);
 }
 
 #[test]
@@ -192,7 +231,9 @@ fn help_tells_every_number() {
         "the formula's writer",
         "the caller",
         "the log's writer",
+        "the solver or planner",
         "the solver",
+        "the planner",
     ] {
         let numbers = format!("  {} ", numbers_of(mender));
         let line = help.lines().find(|line| line.starts_with(&numbers));
@@ -284,6 +325,22 @@ fn wrong_words() {
             &["walk-back", "-", "-", "a"],
             "standard input can be read once only",
         ),
+        (
+            &["carry-forward", "a", "b", "c", "d"],
+            "wanted: IN.cnf LOG.drat PLAN; found 4",
+        ),
+        (
+            &["carry-forward", "a", "-", "-"],
+            "standard input can be read once only",
+        ),
+        (
+            &["carry-forward", "a", "b", "c", "--form", "order"],
+            "no option `--form` here",
+        ),
+        (
+            &["carry-forward", "a", "b", "c", "--keep", "all"],
+            "`--keep` wants a number",
+        ),
         (&["read-back"], "wanted: NEW.cnf; found 0"),
         (&["solve", "a", "--log", "b"], "no option `--log` here"),
         (
@@ -360,7 +417,7 @@ fn refusals_are_the_exit_status() {
         "--room",
         "5",
     ]);
-    expect_failure(&kept, 42, "the solver can mend it");
+    expect_failure(&kept, 42, "the solver or planner can mend it");
     let good = folder.write("good", b"s SATISFIABLE\nv 4 0\n");
     expect_failure(
         &run(&["walk-back", &input, &log, &good, "--keep=0", "--room", "5"]),
@@ -391,7 +448,7 @@ fn refusals_are_the_exit_status() {
     expect_failure(
         &run(&["walk-back", &input, &log, &input]),
         41,
-        "the solver can mend it",
+        "the solver or planner can mend it",
     );
     expect_failure(
         &run(&["walk-back", &input, &log, &wrong_answer]),
@@ -399,6 +456,50 @@ fn refusals_are_the_exit_status() {
         "refused 44: ",
     );
     assert_eq!(run(&["reencode", &input, "--work", "8972"]).status, 0);
+}
+
+/// The same of carrying forward: who can mend it, for each of its numbers that is no formula's.
+#[test]
+fn refusals_of_carrying_forward() {
+    let folder = Folder::new();
+    let input = folder.write("in.cnf", F.as_bytes());
+    let (log, plan) = ("7 -4 0\nd -1 -2 0\n", "s SATISFIABLE\nv 4 0\n");
+    for (log, plan, options, number, mender) in [
+        ("1  0\n", plan, &[][..], 31, "the log's writer"),
+        ("d 1 0\n", plan, &[], 32, "the log's writer"),
+        (log, plan, &["--keep", "3"], 34, "the log's writer"),
+        ("-4 0\n", plan, &[], 46, "the log's writer"),
+        (log, "s UNKNOWN\n", &[], 41, "the solver or planner"),
+        (
+            log,
+            "s SATISFIABLE\nv 7 0\n",
+            &[],
+            42,
+            "the solver or planner",
+        ),
+        (
+            log,
+            "s SATISFIABLE\nv 4 4 0\n",
+            &[],
+            43,
+            "the solver or planner",
+        ),
+        (log, "s SATISFIABLE\nv 0\n", &[], 45, "the planner"),
+        (log, plan, &["--work", "211"], 11, "the caller"),
+        (log, plan, &["--room", "22"], 14, "the caller"),
+    ] {
+        let log = folder.write("log", log.as_bytes());
+        let plan = folder.write("plan", plan.as_bytes());
+        let ran = run(&[&["carry-forward", &input, &log, &plan], options].concat());
+        let said = format!("; {mender} can mend it");
+        expect_failure(&ran, number, &format!("refused {number}: "));
+        expect_failure(&ran, number, &said);
+    }
+    let log = folder.write("log", log.as_bytes());
+    let plan = folder.write("plan", plan.as_bytes());
+    let exact = ["--work", "212", "--room", "23"];
+    let ran = run(&[&["carry-forward", &input, &log, &plan], &exact[..]].concat());
+    expect_printed(&ran, "v -1 -2 -3 4 -5 -6 7 0\n");
 }
 
 /// A refused text: the line, the byte and the word where the fault was found.
@@ -453,8 +554,16 @@ fn refusals_tell_where() {
             b"" => good.clone(),
             _ => folder.write("answer", answer),
         };
-        expect_failure(&run(&["walk-back", &input, &log, &answer]), number, place);
+        for command in ["walk-back", "carry-forward"] {
+            expect_failure(&run(&[command, &input, &log, &answer]), number, place);
+        }
     }
+    // a variable of the log, which an answer may name and a plan may not
+    let log = folder.write("log", b"7 0\n");
+    let given = folder.write("given", b"s SATISFIABLE\nv 4 7 0\n");
+    assert_eq!(run(&["walk-back", &input, &log, &given]).status, 0);
+    let ran = run(&["carry-forward", &input, &log, &given]);
+    expect_failure(&ran, 42, "(line 2, byte 5: `7`)");
 }
 
 #[test]
@@ -466,6 +575,7 @@ fn inputs_that_cannot_be_read() {
         &["solve", &missing],
         &["read-back", &missing],
         &["walk-back", &missing, &missing, &missing],
+        &["carry-forward", &missing, &missing, &missing],
         &["reencode", &folder.path("")],
     ] {
         expect_failure(&run(words), 66, "cannot be read");

@@ -5,9 +5,8 @@ mod common;
 use common::formulas::{any_kind_joined, choices_near_the_limit, is_joined};
 use common::lines::lines_of_choices;
 use common::{
-    compare_read_back, compare_reencode, compare_walk_back, expect_more, new_formula, note,
-    over_seeds, run_model, skipped, sum, walk_back_work, work_for, Occurred, Room, NO_STEPS, STEPS,
-    WAYS,
+    carrying_work, compare_read_back, compare_reencode, expect_more, new_formula, note, over_seeds,
+    run_model, skipped, sum, work_for, Carrying, Occurred, Room, CARRYING, NO_STEPS, STEPS, WAYS,
 };
 use model::encoding::{Encoding, Tally, PAIRS};
 use model::generator::{
@@ -61,16 +60,18 @@ fn note_choices(occurred: &mut Occurred, way: &str, encoding: &Encoding) {
     }
 }
 
-/// A walk-back that gave a plan, over all lines or some, by what choices the log has.
-fn note_walked(occurred: &mut Occurred, way: &str, encoding: &Encoding, kept: usize) {
+/// An assignment that was carried, over all lines or some, by what choices the log has, and whether values of
+/// the formula's variables changed.
+fn note_carried(occurred: &mut Occurred, of: &str, encoding: &Encoding, carried: &Carried) {
     let tally = &encoding.tally;
-    if kept <= tally.clearing_lines() {
+    if carried.kept <= tally.clearing_lines() {
         return;
     }
-    let cut = ["cut in a choice", "whole"][usize::from(kept == encoding.log.len())];
-    for (what, times) in kinds(tally) {
-        let walked = usize::from(times > 0);
-        note(occurred, format!("{way}, {cut}: {what}"), walked);
+    let cut = ["cut in a choice", "whole"][usize::from(carried.kept == encoding.log.len())];
+    let changed = ("values changed", usize::from(carried.changed));
+    for (what, times) in kinds(tally).into_iter().chain([changed]) {
+        let carried = usize::from(times > 0);
+        note(occurred, format!("{of}, {cut}: {what}"), carried);
     }
 }
 
@@ -174,6 +175,7 @@ fn around(random: &mut Random, exact: usize) -> usize {
 /// Texts that are in order, and buffers that mostly suffice.
 fn in_order(seed: u64, occurred: &mut Occurred) {
     let mut random = Random::new(seed);
+    let forward_random = &mut Random::new(seed + (3 << 32));
     let input = any_kind_joined(&mut random);
     for form in [0, 2] {
         let way = WAYS[form + random.below(2)].with_step(*random.one_of(&STEPS));
@@ -204,10 +206,13 @@ fn in_order(seed: u64, occurred: &mut Occurred) {
             let number = compare_read_back(&text.text, store);
             read_outcome(occurred, "read-back", number, text);
         }
-        let (number, kept) = walk_in_order(&mut random, &input, &encoding);
-        read_outcome(occurred, "walk-back", number, &input);
-        if number == 0 {
-            note_walked(occurred, &name, &encoding, kept);
+        for (carrying, random) in CARRYING.into_iter().zip([&mut random, forward_random]) {
+            let carried = carry_in_order(random, carrying, &input, &encoding);
+            read_outcome(occurred, carrying.name(), carried.number, &input);
+            if carried.number == 0 {
+                let of = format!("{}, {name}", carrying.name());
+                note_carried(occurred, &of, &encoding, &carried);
+            }
         }
     }
 }
@@ -241,8 +246,47 @@ fn near_the_limit(seed: u64, occurred: &mut Occurred) {
     outcome(occurred, "near the limit", number);
 }
 
-/// Walks back over all lines of a log or the first of them; the answer is the number, and how many were kept.
-fn walk_in_order(random: &mut Random, input: &Joined, encoding: &Encoding) -> (u32, usize) {
+/// What carrying an assignment over the lines of a log came to.
+struct Carried {
+    number: u32,
+    kept: usize,
+    /// Whether a variable of the formula has another value than in the assignment.
+    changed: bool,
+}
+
+/// An assignment that may be carried over the lines: an answer for what stands after them, or a plan.
+fn drawn_for(
+    random: &mut Random,
+    carrying: Carrying,
+    formula: &Formula,
+    lines: &[Line],
+) -> Vec<u8> {
+    match carrying {
+        Carrying::Back => answer_after(random, formula, lines),
+        Carrying::Forward => answer_after(random, formula, &[]),
+    }
+}
+
+/// The variables up to V that the `v ` lines name as true, in order.
+fn true_variables(text: &[u8], formula: &Formula) -> Vec<i32> {
+    let text = String::from_utf8_lossy(text);
+    let lines = text.lines().filter_map(|line| line.strip_prefix("v "));
+    let literals = lines.flat_map(|line| line.split_whitespace().map(|word| word.parse().unwrap()));
+    let mut found: Vec<i32> = literals
+        .filter(|literal| (1..=formula.variables).contains(literal))
+        .collect();
+    found.sort_unstable();
+    found
+}
+
+/// Carries over all lines of a log or the first of them.
+fn carry_in_order(
+    random: &mut Random,
+    carrying: Carrying,
+    input: &Joined,
+    encoding: &Encoding,
+) -> Carried {
+    let Joined { text, formula } = input;
     let log = log_text(&encoding.log);
     let lines = encoding.log.len();
     let kept = if random.chance(50) {
@@ -250,16 +294,25 @@ fn walk_in_order(random: &mut Random, input: &Joined, encoding: &Encoding) -> (u
     } else {
         random.below(lines + 1)
     };
-    let answer = answer_after(random, &input.formula, &encoding.log[..kept]);
-    let work = around(random, walk_back_work(&input.formula, &log, kept));
-    let longest = 4 + 5 * input.formula.variables as usize;
+    let assignment = drawn_for(random, carrying, formula, &encoding.log[..kept]);
+    let work = around(random, carrying_work(formula, &log, kept));
+    let longest = match carrying {
+        Carrying::Back => 4 + 5 * formula.variables as usize,
+        Carrying::Forward => 4 + 6 * encoding.highest as usize,
+    };
     let room = if random.chance(50) {
         longest
     } else {
         random.below(longest)
     };
-    let number = compare_walk_back(&input.text, &log, kept, &answer, work, room);
-    (number, kept)
+    let line = carrying.line(text, &log, kept, &assignment, work, room);
+    let changed =
+        |line: &Vec<u8>| true_variables(line, formula) != true_variables(&assignment, formula);
+    Carried {
+        kept,
+        changed: line.as_ref().is_ok_and(changed),
+        number: line.err().unwrap_or(0),
+    }
 }
 
 /// Texts with a few changes.
@@ -290,12 +343,20 @@ fn changed(seed: u64, occurred: &mut Occurred) {
         }
     }
     outcome(occurred, "read-back", compare_read_back(&text, room.work));
-    let number = walk_changed(&mut random, &input, encoding.log);
-    outcome(occurred, "walk-back", number);
+    let forward_random = &mut Random::new(seed + (4 << 32));
+    for (carrying, random) in CARRYING.into_iter().zip([&mut random, forward_random]) {
+        let number = carry_changed(random, carrying, &input, encoding.log.clone());
+        outcome(occurred, carrying.name(), number);
+    }
 }
 
-/// Walks back over a log and from an answer with a few changes.
-fn walk_changed(random: &mut Random, input: &Joined, mut lines: Vec<Line>) -> u32 {
+/// Carries an assignment with a few changes over a log with a few.
+fn carry_changed(
+    random: &mut Random,
+    carrying: Carrying,
+    input: &Joined,
+    mut lines: Vec<Line>,
+) -> u32 {
     let Joined { text, formula } = input;
     if random.chance(60) {
         lines = damage_log(random, &lines);
@@ -305,18 +366,24 @@ fn walk_changed(random: &mut Random, input: &Joined, mut lines: Vec<Line>) -> u3
     } else {
         random.below(lines.len() + 2)
     };
-    let mut answer = answer_after(random, formula, &lines[..kept.min(lines.len())]);
+    let mut assignment = drawn_for(random, carrying, formula, &lines[..kept.min(lines.len())]);
     let mut log = log_text(&lines);
     if random.chance(20) {
         log = damage(random, &log);
     }
     if random.chance(30) {
-        answer = damage(random, &answer);
+        assignment = damage(random, &assignment);
     }
-    let work = walk_back_work(formula, &log, kept) + 1_000;
-    let room = 20 + 5 * formula.variables as usize;
-    compare_walk_back(text, &log, kept, &answer, work, room)
+    let work = carrying_work(formula, &log, kept) + 1_000;
+    let room = match carrying {
+        Carrying::Back => 20 + 5 * formula.variables as usize,
+        Carrying::Forward => LONGEST_LINE,
+    };
+    carrying.compare(text, &log, kept, &assignment, work, room)
 }
+
+/// As many bytes as a line for 70,000 variables has at most.
+const LONGEST_LINE: usize = 4 + 7 * 70_000;
 
 #[test]
 fn library_and_model_agree() {
@@ -338,9 +405,15 @@ fn library_and_model_agree() {
         ("reencode", &[0, 1, 2, 3, 4, 7, 8, 11, 12, 13, 15, 17][..]),
         ("read-back", &[0, 1, 2, 3, 4, 7, 8, 11]),
         ("walk-back", &[0, 11, 14, 31, 32, 33, 34, 41, 42, 43, 44]),
+        (
+            "carry-forward",
+            &[0, 11, 14, 31, 32, 34, 41, 42, 43, 45, 46],
+        ),
     ] {
         expect_call(&occurred, call, numbers);
     }
+    let forward_alone = [("carry-forward 45", 1_000), ("carry-forward 46", 30)];
+    expect_more(&occurred, forward_alone);
 }
 
 fn expect_cases(occurred: &Occurred) {
@@ -384,17 +457,25 @@ fn expect_choices(occurred: &Occurred) {
     expect_more(occurred, choices("changed"));
     for way in WAYS.map(name_of) {
         expect_more(occurred, choices(&way));
-        for (what, least) in [
-            ("free choices", 200),
-            ("choices with no pair", 200),
-            ("choices with some pairs", 500),
-            ("choices with all pairs", 100),
-            ("pairs in several copies", 500),
-        ] {
-            let cuts = ["whole", "cut in a choice"];
-            let of_way = cuts.map(|cut| (format!("{way}, {cut}: {what}"), least));
-            expect_more(occurred, of_way);
+        for carrying in CARRYING {
+            expect_carried(occurred, &format!("{}, {way}", carrying.name()));
         }
+    }
+}
+
+/// Carried over whole logs, and over logs cut in a choice.
+fn expect_carried(occurred: &Occurred, of: &str) {
+    for (what, least) in [
+        ("free choices", 200),
+        ("choices with no pair", 200),
+        ("choices with some pairs", 500),
+        ("choices with all pairs", 100),
+        ("pairs in several copies", 500),
+        ("values changed", 150),
+    ] {
+        let cuts = ["whole", "cut in a choice"];
+        let of_call = cuts.map(|cut| (format!("{of}, {cut}: {what}"), least));
+        expect_more(occurred, of_call);
     }
 }
 

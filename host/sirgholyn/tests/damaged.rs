@@ -1,12 +1,12 @@
-//! Texts, logs and answers with each byte dropped, doubled and changed, and random bytes: library and model
+//! Texts, logs, answers and plans with each byte dropped, doubled and changed, and random bytes: library and model
 //! agree, and nothing is read or written outside.
 
 mod common;
 
 use common::formulas::JOINED_F;
 use common::{
-    compare_read_back, compare_reencode, compare_walk_back, count, expect_numbers, over_seeds,
-    run_model, sum, way_of, Numbers, Room, WAYS,
+    compare_read_back, compare_reencode, count, expect_numbers, over_seeds, run_model, sum, way_of,
+    Carrying, Numbers, Room, CARRYING, WAYS,
 };
 use model::generator::Random;
 use model::reading::{read_formula, INPUT_LIMITS};
@@ -61,55 +61,56 @@ fn formulas() {
             let way = way_of(turn as u64);
             count(numbers, compare_reencode(text, way, ROOM));
             count(numbers, compare_read_back(text, ROOM.work));
-            let answer = b"s SATISFIABLE\nv 0\n";
-            count(
-                numbers,
-                compare_walk_back(
-                    text,
-                    b"",
-                    0,
-                    answer,
-                    1_000 + 5 * text.len() + 32_000,
-                    50_000,
-                ),
-            );
+            let none = b"s SATISFIABLE\nv 0\n";
+            let work = 1_000 + 5 * text.len() + 32_000;
+            for carrying in CARRYING {
+                count(numbers, carrying.compare(text, b"", 0, none, work, 50_000));
+            }
         }
     });
     let numbers = sum(counted);
-    expect_numbers(&numbers, &[0, 1, 2, 3, 4, 7, 8]);
+    expect_numbers(&numbers, &[0, 1, 2, 3, 4, 7, 8, 44, 45]);
 }
 
-#[test]
-fn logs_and_answers() {
+/// Carries an assignment over session F's log, each byte of both damaged in turn.
+fn over_damaged(carrying: Carrying, assignment: &[u8]) -> Numbers {
     let read = read_formula(F, &INPUT_LIMITS).unwrap();
     let encoding = run_model(&read, WAYS[2]);
     let log = log_text(&encoding.log);
     let kept = encoding.log.len();
-    let answer: &[u8] =
-        b"c first\ns SATISFIABLE\r\nv 1 2 3 4 5 \nc between\nv -6 -7\t-8 -9 10 0 \nc last\n";
-    let mut numbers = Numbers::new();
-    let logs = each_damage(&log);
-    let counted = over_seeds(0..logs.len() as u64, |index, numbers: &mut Numbers| {
+    let (logs, assignments) = (each_damage(&log), each_damage(assignment));
+    let both = (logs.len() + assignments.len()) as u64;
+    let counted = over_seeds(0..both, |index, numbers: &mut Numbers| {
         let index = index as usize;
         let formula = [F, JOINED_F.as_bytes()][index % 2];
-        let number = compare_walk_back(formula, &logs[index], kept, answer, 4_000, 100);
+        let (log, assignment) = match logs.get(index) {
+            Some(damaged) => (damaged, assignment),
+            None => (&log, &assignments[index - logs.len()][..]),
+        };
+        let number = carrying.compare(formula, log, kept, assignment, 4_000, 100);
         count(numbers, number);
     });
-    for part in counted {
-        numbers = sum([numbers, part]);
-    }
-    for answer in each_damage(answer) {
-        count(
-            &mut numbers,
-            compare_walk_back(F, &log, kept, &answer, 4_000, 100),
-        );
-    }
-    let wrong_way = b"p cnf 1 2\n1 0\n-1 0\n";
+    sum(counted)
+}
+
+#[test]
+fn logs_and_answers() {
+    let answer =
+        b"c first\ns SATISFIABLE\r\nv 1 2 3 4 5 \nc between\nv -6 -7\t-8 -9 10 0 \nc last\n";
+    let mut numbers = over_damaged(Carrying::Back, answer);
+    let (wrong_way, none) = (b"p cnf 1 2\n1 0\n-1 0\n", b"s SATISFIABLE\nv 0");
     count(
         &mut numbers,
-        compare_walk_back(wrong_way, b"d 1 0\n", 1, b"s SATISFIABLE\nv 0", 1_000, 100),
+        Carrying::Back.compare(wrong_way, b"d 1 0\n", 1, none, 1_000, 100),
     );
     expect_numbers(&numbers, &[0, 31, 32, 33, 34, 41, 42, 43, 44]);
+}
+
+#[test]
+fn logs_and_plans() {
+    let plan = b"c first\ns SATISFIABLE\r\nv -1 -2 \nc between\nv 3\t-4  6 0 \nc last\n";
+    let numbers = over_damaged(Carrying::Forward, plan);
+    expect_numbers(&numbers, &[0, 31, 32, 34, 41, 42, 43, 45, 46]);
 }
 
 #[test]
@@ -140,14 +141,12 @@ fn random_bytes() {
         count(numbers, compare_reencode(&text, way, ROOM));
         count(numbers, compare_read_back(&text, ROOM.work));
         let kept = (seed % 3) as usize;
-        count(
-            numbers,
-            compare_walk_back(F, &log, kept, &answer, 1_000, 100),
-        );
-        count(
-            numbers,
-            compare_walk_back(&text, &log, kept, &answer, 1_000, 100),
-        );
+        for carrying in CARRYING {
+            for formula in [F, &text] {
+                let number = carrying.compare(formula, &log, kept, &answer, 1_000, 100);
+                count(numbers, number);
+            }
+        }
     });
     expect_numbers(&sum(numbers), &[1, 3, 4, 7, 8, 31, 34, 41, 42]);
 }

@@ -152,7 +152,7 @@ fn the_declarations_are_those_of_the_source() {
     let header = words(&text("host/include/sirgholyn.h")).replace("( ", "(");
     let calls = words(&text("host/sirgholyn/src/calls.rs"));
     let exported = exported();
-    assert_eq!(exported.len(), 3);
+    assert_eq!(exported.len(), 4);
     for Exported { name, parameters } in &exported {
         let c: Vec<String> = parameters.iter().map(in_c).collect();
         let c = format!("uint32_t {name}({});", c.join(", "));
@@ -161,8 +161,8 @@ fn the_declarations_are_those_of_the_source() {
         let rust = format!("pub fn {name}( {} ) -> u32;", rust.join(" "));
         assert!(calls.contains(&rust), "{rust}");
     }
-    assert_eq!(header.matches("uint32_t sirgholyn_").count(), 3);
-    assert_eq!(calls.matches("pub fn sirgholyn_").count(), 3);
+    assert_eq!(header.matches("uint32_t sirgholyn_").count(), 4);
+    assert_eq!(calls.matches("pub fn sirgholyn_").count(), 4);
 }
 
 /// The names of the 32-bit numbers that a text has between two words.

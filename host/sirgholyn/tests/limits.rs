@@ -5,8 +5,8 @@ mod common;
 use common::formulas::{clash_chain, with_pairs, JOINED_F};
 use common::lines::parts;
 use common::{
-    compare_read_back, compare_reencode, compare_walk_back, new_formula, run_model, walk_back_work,
-    work_for, Room, PLENTY, WAYS,
+    carrying_work, compare_read_back, compare_reencode, new_formula, run_model, work_for, Carrying,
+    Room, CARRYING, PLENTY, WAYS,
 };
 use model::generator::{
     all_but_one, clashing_at_1, clauses_apart, forbidding, largest_with, text_of,
@@ -17,7 +17,8 @@ use model::texts::{answer_text, log_text};
 use sirgholyn::calls::{library, on_large_stack, Tally};
 use sirgholyn::limits::MOST_CHOICES;
 use sirgholyn::{
-    Arrangement, ChoiceRecord, Error, Form, ReencodeRoom, Refusal, Settings, WalkBackRoom,
+    Arrangement, CarryForwardRoom, ChoiceRecord, Error, Form, ReencodeRoom, Refusal, Settings,
+    WalkBackRoom,
 };
 use std::slice;
 
@@ -36,10 +37,18 @@ fn read_back(text: &str) -> u32 {
     compare_read_back(text.as_bytes(), 43_000_000)
 }
 
-/// Walks back over no line, from an answer that makes 1 true.
+/// Carries over no line an assignment that makes 1 true.
+fn carry(carrying: Carrying, text: &str) -> u32 {
+    let assignment = b"s SATISFIABLE\nv 1 0\n";
+    carrying.compare(text.as_bytes(), b"", 0, assignment, 400_000, 50_000)
+}
+
 fn walk_back(text: &str) -> u32 {
-    let answer = b"s SATISFIABLE\nv 1 0\n";
-    compare_walk_back(text.as_bytes(), b"", 0, answer, 400_000, 50_000)
+    carry(Carrying::Back, text)
+}
+
+fn carry_forward(text: &str) -> u32 {
+    carry(Carrying::Forward, text)
 }
 
 /// A formula with so many literals, a thousand to a clause; every clause has the same.
@@ -125,10 +134,11 @@ fn with_clause(text: &str, clause: &str) -> [String; 2] {
 
 #[test]
 fn literals_that_are_kept() {
-    // the last clause is empty, so that walk-back ends with 44
+    // the last clause is empty, so that walk-back ends with 44 and carrying forward with 45
     for (call, accepted, variables, most) in [
         (reencode as fn(&str) -> u32, 0, 8_000, 60_000),
         (walk_back, 44, 8_000, 60_000),
+        (carry_forward, 45, 8_000, 60_000),
         (read_back, 0, 70_000, 1_000_000),
     ] {
         let full = with_repeats(variables, most);
@@ -185,8 +195,8 @@ fn workspace_by_what_is_kept() {
 
 /// N counts what is kept, of a clause left out not even its 0.
 #[test]
-fn walk_back_workspace_by_what_is_kept() {
-    let answer = b"s SATISFIABLE\nv 4 0\n";
+fn carrying_workspace_by_what_is_kept() {
+    let assignment = b"s SATISFIABLE\nv 4 0\n";
     for (text, numbers, variables) in [
         (JOINED_F.to_string(), 24, 6),
         (format!("p cnf 4 1\n{}4 0\n", words("4", 100_000)), 2, 4),
@@ -194,12 +204,13 @@ fn walk_back_workspace_by_what_is_kept() {
         (format!("p cnf 4 20000\n{}", words("1 -1 0", 20_000)), 0, 4),
     ] {
         let work = 4 * (numbers + 3) + 4 * variables.max(5) + 64;
-        let walk = |work| {
-            let room = 6 * variables + 20;
-            compare_walk_back(text.as_bytes(), b"5 4 0\n", 1, answer, work, room)
-        };
-        assert_eq!(walk(work), 0);
-        assert_eq!(walk(work - 1), 11);
+        let room = 6 * variables + 20;
+        for carrying in CARRYING {
+            let carry =
+                |work| carrying.compare(text.as_bytes(), b"5 4 0\n", 1, assignment, work, room);
+            assert_eq!(carry(work), 0);
+            assert_eq!(carry(work - 1), 11);
+        }
     }
 }
 
@@ -222,40 +233,66 @@ fn clauses_left_out() {
         assert_eq!(reencode(text), number, "{text}");
         assert_eq!(read_back(text), number, "{text}");
         assert_eq!(walk_back(text), number, "{text}");
+        assert_eq!(carry_forward(text), number, "{text}");
     }
 }
 
 #[test]
 fn log_variables() {
-    let formula = b"p cnf 1 0\n";
-    let walk = |log: &str, answer: &str| {
-        compare_walk_back(
-            formula,
-            log.as_bytes(),
-            1,
-            answer.as_bytes(),
-            1_000_000,
-            100,
-        )
+    let carry = |carrying: Carrying, log: &str, named: &str| {
+        let assignment = format!("s SATISFIABLE\nv {named}0\n");
+        let (log, assignment) = (log.as_bytes(), assignment.as_bytes());
+        carrying.compare(b"p cnf 1 0\n", log, 1, assignment, 1_000_000, 490_000)
     };
-    let none = "s SATISFIABLE\nv 0\n";
-    assert_eq!(walk("70000 0\n", "s SATISFIABLE\nv 70000 0\n"), 0);
-    assert_eq!(walk("70000 0\n", "s SATISFIABLE\nv 70000 -70001 0\n"), 42);
-    assert_eq!(walk("-70000 0\n", none), 0);
-    assert_eq!(walk("70001 0\n", none), 31);
-    assert_eq!(walk("4294967297 0\n", none), 31);
-    assert_eq!(walk("d 99999999999999999999999 0\n", none), 31);
+    for (log, named, number) in [
+        ("70000 0\n", "70000 ", 0),
+        ("70000 0\n", "70000 -70001 ", 42),
+    ] {
+        assert_eq!(carry(Carrying::Back, log, named), number);
+    }
+    for (log, named, number) in [
+        ("70000 0\n", "1 ", 0),
+        ("70000 0\n", "-2 ", 42),
+        ("70000 0\n", "1 70000 ", 42),
+    ] {
+        assert_eq!(carry(Carrying::Forward, log, named), number);
+    }
+    for carrying in CARRYING {
+        assert_eq!(carry(carrying, "-70000 0\n", ""), 0);
+        assert_eq!(carry(carrying, "70001 0\n", ""), 31);
+        assert_eq!(carry(carrying, "4294967297 0\n", ""), 31);
+        assert_eq!(carry(carrying, "d 99999999999999999999999 0\n", ""), 31);
+    }
+}
+
+/// The longest line of all: that of 70,000 variables of which none is true.
+#[test]
+fn the_longest_line() {
+    let (formula, plan) = (b"p cnf 0 0\n", b"s SATISFIABLE\nv 0\n");
+    let line = answer_text(70_000, |_| false);
+    let work = 4 * 2 + 4 * 70_000 + 64;
+    for (work, room, number) in [
+        (work, line.len(), 0),
+        (work - 1, line.len(), 11),
+        (work, line.len() - 1, 14),
+    ] {
+        let found = Carrying::Forward.compare(formula, b"-70000 0\n", 1, plan, work, room);
+        assert_eq!(found, number);
+    }
+    let open = CarryForwardRoom::default();
+    let found = sirgholyn::carry_forward(formula, b"-70000 0\n", 1, plan, open);
+    assert!(found == Ok(line));
 }
 
 #[test]
 fn kept_numbers() {
-    let answer = b"s SATISFIABLE\nv 1 0\n";
+    let assignment = b"s SATISFIABLE\nv 1 0\n";
     for kept in [0, 1, 2, 3, usize::MAX - 1, usize::MAX] {
         let expected = if kept < 2 { 0 } else { 34 };
-        assert_eq!(
-            compare_walk_back(b"p cnf 1 0\n", b"1 0\n", kept, answer, 1_000, 100),
-            expected
-        );
+        for carrying in CARRYING {
+            let number = carrying.compare(b"p cnf 1 0\n", b"1 0\n", kept, assignment, 1_000, 100);
+            assert_eq!(number, expected);
+        }
     }
 }
 
@@ -299,16 +336,22 @@ fn short_by_one() {
 
         let kept = encoding.log.len();
         // 1 and its counter, whichever form.
-        let answer = b"s SATISFIABLE\nv 1 6 7 8 9 10 0\n";
-        let line = b"v 1 -2 -3 -4 -5 6 0\n".len();
-        let work = walk_back_work(&read, &log, kept);
-        let walk = |work, room| compare_walk_back(F, &log, kept, answer, work, room);
-        assert_eq!(walk(work, line), 0);
-        assert_eq!(walk(work - 1, line), 11);
-        assert_eq!(walk(work - 1, line - 1), 11);
-        assert_eq!(walk(0, 0), 11);
-        for room in 0..line {
-            assert_eq!(walk(work, room), 14);
+        let (plan, counter) = ("v 1 -2 -3 -4 -5 6 ", "7 8 9 10 ");
+        let work = carrying_work(&read, &log, kept);
+        for (carrying, given, line) in [
+            (Carrying::Back, [plan, counter], [plan, ""]),
+            (Carrying::Forward, [plan, ""], [plan, counter]),
+        ] {
+            let given = format!("s SATISFIABLE\n{}0\n", given.concat());
+            let line = format!("{}0\n", line.concat()).len();
+            let carry = |work, room| carrying.compare(F, &log, kept, given.as_bytes(), work, room);
+            assert_eq!(carry(work, line), 0);
+            assert_eq!(carry(work - 1, line), 11);
+            assert_eq!(carry(work - 1, line - 1), 11);
+            assert_eq!(carry(0, 0), 11);
+            for room in 0..line {
+                assert_eq!(carry(work, room), 14);
+            }
         }
     }
 }
@@ -389,7 +432,7 @@ fn most_free_choices_walked_back() {
             let new = sirgholyn::reencode(&text, way, ReencodeRoom::default()).unwrap();
             let lines = new.tally.lines as usize;
             let exact = WalkBackRoom {
-                work: Some(walk_back_work(&formula, &new.log, lines)),
+                work: Some(carrying_work(&formula, &new.log, lines)),
                 line: Some(last.len()),
             };
             let line = sirgholyn::walk_back(&text, &new.log, lines, answer.as_bytes(), exact);
@@ -397,6 +440,30 @@ fn most_free_choices_walked_back() {
                 line.as_deref() == expected.as_ref().copied(),
                 "{form:?} {size}"
             );
+        }
+    }
+}
+
+/// A plan with all of 1..8,000 true: of each choice the first literal stays true alone, and all counters are true.
+#[test]
+fn most_free_choices_carried_forward() {
+    let plan = format!("s SATISFIABLE\n{}", line_of(|_| true));
+    for (size, count) in [(64, 125), (5, 1_600)] {
+        let formula = clauses_apart(size, count);
+        let text = text_of(&formula);
+        for form in [Form::Counter, Form::Order] {
+            let way = Settings::new(form, Arrangement::AsListed);
+            let new = sirgholyn::reencode(&text, way, ReencodeRoom::default()).unwrap();
+            let lines = new.tally.lines as usize;
+            let first = |variable: i32| variable as usize % size == 1;
+            let stays = |variable: i32| variable > 8_000 || first(variable);
+            let expected = answer_text(new.tally.highest as i32, stays);
+            let exact = CarryForwardRoom {
+                work: Some(carrying_work(&formula, &new.log, lines)),
+                line: Some(expected.len()),
+            };
+            let line = sirgholyn::carry_forward(&text, &new.log, lines, plan.as_bytes(), exact);
+            assert!(line == Ok(expected), "{form:?} {size}");
         }
     }
 }
@@ -498,23 +565,26 @@ fn logs_of_a_choice_of_64_cut_short() {
     }
 }
 
-/// Walked back on the least workspace, from an answer with the last literal true.
+/// Carried on the least workspace, with the last literal true.
 #[test]
-fn a_choice_of_64_walked_back() {
-    let answer = b"s SATISFIABLE\nv 64 0\n";
-    let line = answer_text(64, |variable| variable == 64).len();
+fn a_choice_of_64_carried() {
+    let assignment = b"s SATISFIABLE\nv 64 0\n";
+    let line = |highest| answer_text(highest, |variable| variable == 64).len();
     for copies in [0, 1, 2] {
         let formula = with_pairs(64, 1, copies);
         let text = text_of(&formula);
         for way in WAYS {
             let lines = run_model(&formula, way).log;
             let log = log_text(&lines);
-            let work = walk_back_work(&formula, &log, lines.len());
-            for (work, room, number) in
-                [(work, line, 0), (work - 1, line, 11), (work, line - 1, 14)]
-            {
-                let found = compare_walk_back(&text, &log, lines.len(), answer, work, room);
-                assert_eq!(found, number, "{copies} {way:?}");
+            let work = carrying_work(&formula, &log, lines.len());
+            for (carrying, line) in [(Carrying::Back, line(64)), (Carrying::Forward, line(127))] {
+                for (work, room, number) in
+                    [(work, line, 0), (work - 1, line, 11), (work, line - 1, 14)]
+                {
+                    let kept = lines.len();
+                    let found = carrying.compare(&text, &log, kept, assignment, work, room);
+                    assert_eq!(found, number, "{carrying:?} {copies} {way:?}");
+                }
             }
         }
     }
@@ -560,7 +630,7 @@ fn expect_tally(expected: &[u64], call: impl Fn(*mut u64, usize) -> u32 + Sync) 
 fn tallies_of_any_length() {
     let text = b"p cnf 3 2\n1 2 0\n-1 3 0\n";
     let log = b"2 3 0\nd 1 2 0\nd -1 3 0\nd 2 3 0\n";
-    let answer = b"s SATISFIABLE\nv 0\n";
+    let assignment = b"s SATISFIABLE\nv 2 0\n";
     // SAFETY, here and below: each pointer and length are those of one slice.
     expect_tally(&[0, 3, 0, 4, 31, 10], |tally, room| unsafe {
         let (mut work, mut log, mut formula) = ([0; 9_000], [0; 100], [0; 100]);
@@ -584,25 +654,30 @@ fn tallies_of_any_length() {
             room,
         )
     });
-    expect_tally(&[12], |tally, room| unsafe {
-        let (mut work, mut line) = ([0; 1_000], [0; 100]);
-        let (t, l, a, w, o) = (text, log, answer, &mut work, &mut line);
-        library::sirgholyn_walk_back(
-            t.as_ptr(),
-            t.len(),
-            l.as_ptr(),
-            l.len(),
-            4,
-            a.as_ptr(),
-            a.len(),
-            w.as_mut_ptr(),
-            w.len(),
-            o.as_mut_ptr(),
-            o.len(),
-            tally,
-            room,
-        )
-    });
+    for carry in [
+        library::sirgholyn_walk_back,
+        library::sirgholyn_carry_forward,
+    ] {
+        expect_tally(&[12], |tally, room| unsafe {
+            let (mut work, mut line) = ([0; 1_000], [0; 100]);
+            let (t, l, a, w, o) = (text, log, assignment, &mut work, &mut line);
+            carry(
+                t.as_ptr(),
+                t.len(),
+                l.as_ptr(),
+                l.len(),
+                4,
+                a.as_ptr(),
+                a.len(),
+                w.as_mut_ptr(),
+                w.len(),
+                o.as_mut_ptr(),
+                o.len(),
+                tally,
+                room,
+            )
+        });
+    }
     expect_tally(&[3, 2, 4], |tally, room| unsafe {
         let mut store = [0; 9_000];
         let (t, s) = (text, &mut store);

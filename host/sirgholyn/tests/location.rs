@@ -3,15 +3,14 @@
 mod common;
 
 use common::formulas::any_kind_joined;
-use common::{count, over_seeds, run_model, sum, way_of, Numbers, WAYS};
+use common::{count, over_seeds, run_model, sum, way_of, Carrying, Numbers, CARRYING, WAYS};
 use model::generator::{answer_after, damage, damage_log, Joined, Random};
 use model::sessions::{self, JOINED_E};
 use model::texts::log_text;
 use sirgholyn::limits::Limits;
-use sirgholyn::location::{in_answer, in_formula, in_log, Location};
+use sirgholyn::location::{in_answer, in_formula, in_log, in_plan, Location};
 use sirgholyn::shown::shown;
-use sirgholyn::{read_back, reencode, walk_back, Error, Refusal};
-use sirgholyn::{ReencodeRoom, WalkBackRoom};
+use sirgholyn::{read_back, reencode, Error, ReencodeRoom, Refusal, WalkBackRoom};
 
 /// A row's location: line, byte, word.
 type Place<'a> = (usize, usize, Option<&'a str>);
@@ -39,22 +38,31 @@ fn new_formula_number(text: &[u8]) -> u32 {
     number(read_back(text, None))
 }
 
-/// Formula, log, number of kept lines, answer.
+/// Which way, formula, log, number of kept lines, answer or plan.
 #[derive(Clone, Copy)]
-struct Walk<'a>(&'a [u8], &'a [u8], usize, &'a [u8]);
+struct Walk<'a>(Carrying, &'a [u8], &'a [u8], usize, &'a [u8]);
 
 impl Walk<'_> {
     fn number(self) -> u32 {
-        let Walk(formula, log, kept, answer) = self;
+        let Walk(carrying, formula, log, kept, given) = self;
         let room = WalkBackRoom::default();
-        number(walk_back(formula, log, kept, answer, room))
+        number(carrying.call(formula, log, kept, given, room))
+    }
+
+    /// The place in the answer or plan.
+    fn in_given(self, asked: u32) -> Option<Location> {
+        let Walk(carrying, formula, log, kept, given) = self;
+        match carrying {
+            Carrying::Back => in_answer(formula, log, kept, given, asked),
+            Carrying::Forward => in_plan(formula, log, kept, given, asked),
+        }
     }
 }
 
 const OF_FORMULA: [u32; 7] = [1, 2, 3, 4, 7, 8, 9];
 const OF_LOG: [u32; 3] = [31, 32, 34];
 const OF_ANSWER: [u32; 3] = [41, 42, 43];
-const ELSE: [u32; 11] = [0, 5, 6, 10, 11, 12, 14, 33, 44, 45, u32::MAX];
+const ELSE: [u32; 13] = [0, 5, 6, 10, 11, 12, 14, 33, 44, 45, 46, 47, u32::MAX];
 
 /// Of all numbers, a location is found for the library's alone, and only if it is one of these.
 fn only(
@@ -132,37 +140,41 @@ fn check_new_formula(text: &[u8]) -> u32 {
     check_formula(text, &Limits::NEW_FORMULA, new_formula_number)
 }
 
-/// Library and locations agree, and those in log and answer are where the first fault is.
+/// Library and locations agree, and those in log, answer and plan are where the first fault is.
 fn check_walk(walk: Walk) -> u32 {
-    let Walk(formula, log, kept, answer) = walk;
+    let Walk(carrying, formula, log, kept, given) = walk;
     let number = walk.number();
     let seen = || {
-        let texts = [formula, log, answer].map(|text| shown(text, 4_000));
-        format!("kept {kept}: {}", texts.join("  |  "))
+        let texts = [formula, log, given].map(|text| shown(text, 4_000));
+        format!("{carrying:?}, kept {kept}: {}", texts.join("  |  "))
     };
     let find = |asked| in_formula(formula, &Limits::INPUT, asked);
     only(number, &OF_FORMULA, find, &seen);
-    // The answer is read before the log is replayed.
+    // The answer is read, and the plan tested, before the log is replayed.
     let find = |asked| {
-        let unread = asked == 32 && OF_ANSWER.contains(&number);
+        let unread = asked == 32 && (OF_ANSWER.contains(&number) || number == 45);
         (!unread).then(|| in_log(formula, log, kept, asked))?
     };
     only(number, &OF_LOG, find, &seen);
     if let Some(found) = find(number) {
         check_in_log(walk, number, &found, &seen);
     }
-    let find = |asked| in_answer(formula, log, kept, answer, asked);
-    only(number, &OF_ANSWER, find, &seen);
-    if let Some(found) = find(number) {
-        check_in_answer(walk, &found, &seen);
+    only(number, &OF_ANSWER, |asked| walk.in_given(asked), &seen);
+    if let Some(found) = walk.in_given(number) {
+        check_in_given(walk, &found, &seen);
     }
     number
 }
 
 /// The lines before the fault's can be kept. Up to the fault its line can be completed, and no further.
 fn check_in_log(walk: Walk, number: u32, found: &Location, seen: &dyn Fn() -> String) {
-    let Walk(formula, log, _, _) = walk;
-    let keeping = |log: &[u8], kept| Walk(formula, log, kept, b"s SATISFIABLE\nv 0\n").number();
+    let Walk(carrying, formula, log, _, given) = walk;
+    // a variable of the answer may be above those of fewer lines
+    let given = match carrying {
+        Carrying::Back => b"s SATISFIABLE\nv 0\n",
+        Carrying::Forward => given,
+    };
+    let keeping = |log: &[u8], kept| Walk(carrying, formula, log, kept, given).number();
     let start = offset(log, found);
     let before = keeping(log, found.line - 1);
     let in_order = before != number && ![31, 34].contains(&before);
@@ -183,13 +195,13 @@ fn check_in_log(walk: Walk, number: u32, found: &Location, seen: &dyn Fn() -> St
     assert!(!completed(with), "{found}: {}", seen());
 }
 
-/// Up to the fault the answer can be completed, and no further.
-fn check_in_answer(walk: Walk, found: &Location, seen: &dyn Fn() -> String) {
-    let Walk(formula, log, kept, answer) = walk;
-    let start = offset(answer, found);
+/// Up to the fault the answer or plan can be completed, and no further.
+fn check_in_given(walk: Walk, found: &Location, seen: &dyn Fn() -> String) {
+    let Walk(carrying, formula, log, kept, given) = walk;
+    let start = offset(given, found);
     let completed = |part: &[u8], rest: &str| {
-        let answer = [part, rest.as_bytes()].concat();
-        !OF_ANSWER.contains(&Walk(formula, log, kept, &answer).number())
+        let given = [part, rest.as_bytes()].concat();
+        !OF_ANSWER.contains(&Walk(carrying, formula, log, kept, &given).number())
     };
     let rests = [
         "",
@@ -201,7 +213,7 @@ fn check_in_answer(walk: Walk, found: &Location, seen: &dyn Fn() -> String) {
     ];
     let mut rests = rests.into_iter();
     assert!(
-        rests.any(|rest| completed(&answer[..start], rest)),
+        rests.any(|rest| completed(&given[..start], rest)),
         "{found}: {}",
         seen()
     );
@@ -210,7 +222,7 @@ fn check_in_answer(walk: Walk, found: &Location, seen: &dyn Fn() -> String) {
         (_, 1) => (b"\n", "\n"),
         _ => (b" \t\n", " 0"),
     };
-    let with = up_to(answer, start, separators);
+    let with = up_to(given, start, separators);
     assert!(!completed(with, rest), "{found}: {}", seen());
 }
 
@@ -447,17 +459,20 @@ fn logs() {
     ];
     for formula in formulas {
         for (log, kept, number, place) in rows {
-            let walk = Walk(formula, log, *kept, b"s SATISFIABLE\nv 0\n");
-            assert_eq!(check_walk(walk), *number, "{}", shown(log, 100));
+            for carrying in CARRYING {
+                let walk = Walk(carrying, formula, log, *kept, b"s SATISFIABLE\nv 2 0\n");
+                assert_eq!(check_walk(walk), *number, "{}", shown(log, 100));
+            }
             let found = in_log(formula, log, *kept, *number).unwrap();
             assert_eq!(found, location(*place), "{}", shown(log, 100));
         }
     }
 }
 
+/// Up to 5 is allowed: by the kept lines in an answer, by V in a plan.
 #[test]
-fn answers() {
-    let (formula, log) = (b"p cnf 3 1\n1 2 0\n", b"5 0\nd 5 0\n6 0\n");
+fn answers_and_plans() {
+    let log = b"5 0\nd 5 0\n6 0\n";
     let long = [b"s SATISFIABLE\nv ".as_slice(), &[b'6'; 1_000], b" 0\n"].concat();
     let rows: &[(&[u8], u32, Place)] = &[
         (b"", 41, (1, 1, None)),
@@ -505,11 +520,15 @@ fn answers() {
             (3, 3, Some("-5")),
         ),
     ];
-    for (answer, number, place) in rows {
-        let walk = Walk(formula, log, 2, answer);
-        assert_eq!(check_walk(walk), *number, "{}", shown(answer, 100));
-        let found = in_answer(formula, log, 2, answer, *number).unwrap();
-        assert_eq!(found, location(*place), "{}", shown(answer, 100));
+    for (given, number, place) in rows {
+        for walk in [
+            Walk(Carrying::Back, b"p cnf 3 1\n1 2 0\n", log, 2, given),
+            Walk(Carrying::Forward, b"p cnf 5 1\n1 2 0\n", log, 3, given),
+        ] {
+            assert_eq!(check_walk(walk), *number, "{}", shown(given, 100));
+            let found = walk.in_given(*number).unwrap();
+            assert_eq!(found, location(*place), "{}", shown(given, 100));
+        }
     }
 }
 
@@ -518,9 +537,11 @@ fn answers() {
 fn other_texts_wrong() {
     let (formula, log, answer) = (b"p cnf 1 1\n1 0\n", b"x\n", b"s UNKNOWN\n");
     assert!(in_log(b"p cnf 1 1\n", log, 1, 31).is_none());
-    assert!(in_answer(b"p cnf 1 1\n", b"", 0, answer, 41).is_none());
-    assert!(in_answer(formula, log, 1, answer, 41).is_none());
-    assert!(in_answer(formula, log, 0, answer, 41).is_some());
+    for in_given in [in_answer, in_plan] {
+        assert!(in_given(b"p cnf 1 1\n", b"", 0, answer, 41).is_none());
+        assert!(in_given(formula, log, 1, answer, 41).is_none());
+        assert!(in_given(formula, log, 0, answer, 41).is_some());
+    }
 }
 
 /// The text cut before each byte, without it, and with others before it or in its place.
@@ -571,19 +592,21 @@ fn each_byte_of_a_formula() {
 }
 
 #[test]
-fn each_byte_of_a_log_and_an_answer() {
+fn each_byte_of_a_log_an_answer_and_a_plan() {
     let formula = JOINED_E.as_bytes();
     let log = b"2 3 0\nd 1 2 0\nd -1 3 0\nd 2 3 0\n";
     let answer = b"c first\ns SATISFIABLE\r\nv 1 \nc between\nv -2\t-3  0 \nc last\n";
-    let (logs, answers) = (each_damage(log), each_damage(answer));
-    let both = (logs.len() + answers.len()) as u64;
-    let counted = over_seeds(0..both, |index, numbers: &mut Numbers| {
-        let index = index as usize;
-        let walk = match logs.get(index) {
-            Some(log) => Walk(formula, log, 4, answer),
-            None => Walk(formula, log, 4, &answers[index - logs.len()]),
-        };
-        count(numbers, check_walk(walk));
+    let plan = b"s SATISFIABLE\r\nv 1\t-2\nc between\nv 3 0 \n";
+    let [logs, answers, plans] = [&log[..], answer, plan].map(each_damage);
+    let back = |log, answer| Walk(Carrying::Back, formula, log, 4, answer);
+    let over_logs = logs.iter().map(|log| back(log, answer));
+    let over_answers = answers.iter().map(|answer| back(log, answer));
+    let over_plans = plans
+        .iter()
+        .map(|plan| Walk(Carrying::Forward, formula, log, 4, plan));
+    let walks: Vec<Walk> = over_logs.chain(over_answers).chain(over_plans).collect();
+    let counted = over_seeds(0..walks.len() as u64, |index, numbers: &mut Numbers| {
+        count(numbers, check_walk(walks[index as usize]));
     });
     expect(counted, &[0, 31, 32, 41, 42, 43], 24);
 }
@@ -603,8 +626,9 @@ fn damaged_formulas() {
 }
 
 #[test]
-fn damaged_logs_and_answers() {
-    let counted = over_seeds(0..4_000, |seed, numbers: &mut Numbers| {
+fn damaged_logs_answers_and_plans() {
+    let counted = over_seeds(0..5_000, |seed, numbers: &mut Numbers| {
+        let carrying = CARRYING[usize::from(seed >= 4_000)];
         let mut random = Random::new(seed);
         let Joined { mut text, formula } = any_kind_joined(&mut random);
         let mut lines = run_model(&formula, way_of(seed)).log;
@@ -615,16 +639,21 @@ fn damaged_logs_and_answers() {
             true => lines.len(),
             false => random.below(lines.len() + 2),
         };
-        let mut answer = answer_after(&mut random, &formula, &lines[..kept.min(lines.len())]);
+        let answered = match carrying {
+            Carrying::Back => &lines[..kept.min(lines.len())],
+            Carrying::Forward => &[],
+        };
+        let mut given = answer_after(&mut random, &formula, answered);
         let mut log = log_text(&lines);
-        for (part, percent) in [(&mut text, 5), (&mut log, 20), (&mut answer, 30)] {
+        for (part, percent) in [(&mut text, 5), (&mut log, 20), (&mut given, 30)] {
             if random.chance(percent) {
                 *part = damage(&mut random, part);
             }
         }
-        count(numbers, check_walk(Walk(&text, &log, kept, &answer)));
+        let walk = Walk(carrying, &text, &log, kept, &given);
+        count(numbers, check_walk(walk));
     });
-    expect(counted, &[0, 31, 32, 34, 41, 42, 43], 24);
+    expect(counted, &[0, 31, 32, 34, 41, 42, 43, 45], 24);
 }
 
 #[test]
@@ -656,7 +685,10 @@ fn random_bytes() {
             &text
         };
         let kept = [0, 1, 2, usize::MAX][seed as usize % 4];
-        count(numbers, check_walk(Walk(formula, &log, kept, &answer)));
+        for carrying in CARRYING {
+            let walk = Walk(carrying, formula, &log, kept, &answer);
+            count(numbers, check_walk(walk));
+        }
     });
     expect(counted, &[1, 3, 31, 41], 24);
 }

@@ -138,6 +138,7 @@ fn the_input_by_any_name_is_no_output() {
             "read-back \"$2\"",
             "solve \"$2\"",
             "walk-back \"$3\" \"$3\" \"$2\"",
+            "carry-forward \"$3\" \"$2\" \"$3\"",
         ] {
             let appended = shell(
                 &format!("\"$SIRGHOLYN\" {command} >>\"$1\""),
@@ -318,6 +319,7 @@ fn names_are_shown_escaped() {
             &["solve"],
             &["read-back"],
             &["walk-back", "/dev/null", "/dev/null"],
+            &["carry-forward", "/dev/null", "/dev/null"],
         ] {
             let ran = Command::new(COMMAND)
                 .args(words)

@@ -1,18 +1,23 @@
-//! Every number of kept lines, with every assignment that satisfies what stands there.
+//! Every number of kept lines: with every assignment that satisfies what stands there, carried back, and with every
+//! plan, carried forward.
 
 mod common;
 
 use common::formulas::is_joined;
 use common::lines::{parts, Part};
-use common::{expect_more, note, over_seeds, run_model, skipped, sum, way_of, Occurred, WAYS};
+use common::{
+    expect_more, note, over_seeds, run_model, skipped, sum, way_of, Carrying, Occurred, WAYS,
+};
 use model::encoding::{Encoding, PAIRS};
 use model::generator::{
     clauses_apart, clauses_with_repeat, planned, varied, written_clauses, Joined, Random,
 };
 use model::reading::Formula;
-use model::texts::{count_true, log_text};
-use model::walk_back::{replay, satisfies};
+use model::texts::{count_true, formula_text, log_text};
+use model::walk_back::{highest_allowed, replay, satisfies};
 use sirgholyn::{calls, plan, ChoiceRecord, Form, Settings};
+use std::collections::HashSet;
+use std::ops::Range;
 
 /// One formula's log, which is the library's.
 struct Walk<'a> {
@@ -40,33 +45,101 @@ impl<'a> Walk<'a> {
         }
     }
 
-    /// Walks back from every assignment that satisfies what stands after so many lines; the answer is how many.
-    fn walk_cut(&self, kept: usize, walked: &mut Occurred) -> usize {
-        let Joined { text, formula } = self.input;
-        let standing = replay(&formula.clauses, &self.encoding.log[..kept]).unwrap();
-        let mut work = vec![0; 100_000];
-        let mut lines = 0;
-        for_each_answer(&standing, |answer| {
-            let mut line = vec![0; 200];
-            let outcome = calls::walk_back(text, &self.log, kept, answer, &mut work, &mut line);
-            let seen = || format!("{kept} lines of {} {:?}", shown(text), self.way);
-            let bytes = outcome.unwrap_or_else(|number| panic!("{number}: {}", seen()));
-            let line = String::from_utf8_lossy(&line[..bytes]);
-            assert!(plan::satisfies(&shown(text), &line), "{line}: {}", seen());
-            if kept == self.encoding.log.len() {
-                for &place in &self.in_choices {
-                    let chosen = count_true(&line, &formula.clauses[place]);
-                    assert_eq!(chosen, 1, "{line}: clause {place}, {}", seen());
-                    note(walked, "exactly one literal", chosen);
-                }
-            }
-            lines += 1;
-        });
-        lines
+    fn seen(&self, kept: usize) -> String {
+        format!("{kept} lines of {} {:?}", shown(&self.input.text), self.way)
     }
 
-    /// Walks back from every cut.
-    fn walk_all(&self, walked: &mut Occurred) {
+    /// The line of an assignment that the library carries over so many lines.
+    fn carry(&self, carrying: Carrying, kept: usize, given: &[u8]) -> String {
+        let call = match carrying {
+            Carrying::Back => calls::walk_back,
+            Carrying::Forward => calls::carry_forward,
+        };
+        let (mut work, mut line) = (vec![0; 10_000], vec![0; 2_000]);
+        let outcome = call(
+            &self.input.text,
+            &self.log,
+            kept,
+            given,
+            &mut work,
+            &mut line,
+        );
+        let bytes = outcome.unwrap_or_else(|number| panic!("{number}: {}", self.seen(kept)));
+        shown(&line[..bytes])
+    }
+
+    /// An answer walks back to a plan; over all lines, to one with exactly one true literal in each clause that goes
+    /// into a choice.
+    fn walk_back(&self, kept: usize, answer: &[u8], walked: &mut Occurred) {
+        let Joined { text, formula } = self.input;
+        let seen = || self.seen(kept);
+        let line = self.carry(Carrying::Back, kept, answer);
+        assert!(plan::satisfies(&shown(text), &line), "{line}: {}", seen());
+        if kept == self.encoding.log.len() {
+            for &place in &self.in_choices {
+                let chosen = count_true(&line, &formula.clauses[place]);
+                assert_eq!(chosen, 1, "{line}: clause {place}, {}", seen());
+                note(walked, "exactly one literal", chosen);
+            }
+        }
+    }
+
+    /// Walks back from every assignment that satisfies what stands after so many lines; the answer is how many.
+    fn walk_cut(&self, kept: usize, walked: &mut Occurred) -> usize {
+        let lines = &self.encoding.log[..kept];
+        let standing = replay(&self.input.formula.clauses, lines).unwrap();
+        let mut answers = 0;
+        for_each_answer(&standing, |answer| {
+            self.walk_back(kept, answer, walked);
+            answers += 1;
+        });
+        answers
+    }
+
+    /// Carries every plan forward over so many lines, to what satisfies the clauses that stand there and walks back to
+    /// a plan; the answer is how many.
+    fn forward_to_cut(&self, kept: usize, walked: &mut Occurred) -> usize {
+        let (formula, lines) = (&self.input.formula, &self.encoding.log[..kept]);
+        let standing = replay(&formula.clauses, lines).unwrap();
+        let standing = shown(&formula_text(highest_allowed(formula, lines), &standing));
+        let mut plans = 0;
+        for_each_answer(&formula.clauses, |given| {
+            let line = self.carry(Carrying::Forward, kept, given);
+            let seen = || self.seen(kept);
+            assert!(plan::satisfies(&standing, &line), "{line}: {}", seen());
+            if kept == self.encoding.log.len() {
+                let changed = self.expect_first_stays(&shown(given), &line);
+                note(walked, "plans changed", usize::from(changed));
+            }
+            let answer = format!("s SATISFIABLE\n{line}");
+            self.walk_back(kept, answer.as_bytes(), walked);
+            plans += 1;
+        });
+        plans
+    }
+
+    /// The values of a plan stay over all lines, but of each choice only the first true literal does; the answer is
+    /// whether a value changed.
+    fn expect_first_stays(&self, given: &str, line: &str) -> bool {
+        let mut expected = true_variables(given);
+        let before = expected.clone();
+        for (_, choice) in &self.encoding.choices {
+            let is_true = |literal: &&i32| before.contains(&literal.abs()) == (**literal > 0);
+            for literal in choice.iter().filter(is_true).skip(1) {
+                match *literal > 0 {
+                    true => expected.remove(literal),
+                    false => expected.insert(-literal),
+                };
+            }
+        }
+        let mut found = true_variables(line);
+        found.retain(|&variable| variable <= self.input.formula.variables);
+        assert_eq!(found, expected, "{line} of {given}");
+        found != before
+    }
+
+    /// Carries back from every cut, or forward to it.
+    fn over_cuts(&self, carrying: Carrying, walked: &mut Occurred) {
         let Joined { text, formula } = self.input;
         self.note(walked);
         let parts = parts(formula, &self.encoding);
@@ -75,9 +148,12 @@ impl<'a> Walk<'a> {
         let skips = skipped(formula, &self.encoding) > 0;
         let can = can_be_satisfied(formula.variables, &written_clauses(text));
         for kept in 0..=parts.len() {
-            let lines = self.walk_cut(kept, walked);
-            assert_eq!(lines > 0, can, "{kept} lines of {}", shown(text));
-            note(walked, "lines walked back", lines);
+            let times = match carrying {
+                Carrying::Back => self.walk_cut(kept, walked),
+                Carrying::Forward => self.forward_to_cut(kept, walked),
+            };
+            assert_eq!(times > 0, can, "{kept} lines of {}", shown(text));
+            note(walked, "carried", times);
             note(walked, "cuts", 1);
             note(walked, "cuts with a free choice", usize::from(free));
             if let Some(place) = place_of_cut(&parts, kept).filter(|_| can) {
@@ -128,6 +204,12 @@ fn place_of_cut(parts: &[Part], kept: usize) -> Option<&'static str> {
 
 fn shown(text: &[u8]) -> String {
     String::from_utf8_lossy(text).into_owned()
+}
+
+/// The variables that a text of literals names as true.
+fn true_variables(text: &str) -> HashSet<i32> {
+    let literals = text.split_whitespace().filter_map(|word| word.parse().ok());
+    literals.filter(|&literal| literal > 0).collect()
 }
 
 /// Does the work with each assignment of the clauses' variables that satisfies them, as an answer.
@@ -181,16 +263,22 @@ fn variables(formula: &Formula) -> i32 {
     run_model(formula, WAYS[0]).highest
 }
 
-#[test]
-fn every_cut_walks_back() {
-    let counted = over_seeds(0..600, |seed, walked: &mut Occurred| {
+/// Carries back from every cut of formulas that are drawn, or forward to it.
+fn over_drawn(seeds: Range<u64>, carrying: Carrying) -> Occurred {
+    let counted = over_seeds(seeds, |seed, walked: &mut Occurred| {
         let input = drawn(&mut Random::new(seed));
         if variables(&input.formula) <= 13 {
-            Walk::new(&input, way_of(seed)).walk_all(walked);
+            Walk::new(&input, way_of(seed)).over_cuts(carrying, walked);
         }
     });
     let walked = sum(counted);
     println!("{walked:#?}");
+    walked
+}
+
+#[test]
+fn every_cut_walks_back() {
+    let walked = over_drawn(0..600, Carrying::Back);
     let cases = [
         ("formulas with a choice", 100),
         ("joined, with a choice", 20),
@@ -202,15 +290,34 @@ fn every_cut_walks_back() {
         ("pairs in several copies", 50),
         ("cuts", 5_000),
         ("cuts with a free choice", 1_000),
-        ("lines walked back", 40_000),
+        ("carried", 40_000),
         ("exactly one literal", 500),
     ];
     expect_more(&walked, cases);
-    expect_cuts(&walked);
+    expect_cuts(&walked, 1);
 }
 
-/// Cuts of a formula that has a plan, all over the lines of a choice.
-fn expect_cuts(walked: &Occurred) {
+#[test]
+fn every_plan_is_carried_forward() {
+    let walked = over_drawn(0..80, Carrying::Forward);
+    let cases = [
+        ("formulas with a choice", 20),
+        ("joined, with a choice", 4),
+        ("choices with no pair", 10),
+        ("choices with some pairs", 10),
+        ("choices with all pairs", 1),
+        ("cuts", 1_000),
+        ("cuts with a free choice", 200),
+        ("carried", 20_000),
+        ("plans changed", 400),
+        ("exactly one literal", 400),
+    ];
+    expect_more(&walked, cases);
+    expect_cuts(&walked, 15);
+}
+
+/// Cuts of a formula that has a plan, all over the lines of a choice; fewer by the share of formulas.
+fn expect_cuts(walked: &Occurred, share: usize) {
     for form in [Form::Counter, Form::Order] {
         let cuts = [
             ("in stage 2", 500),
@@ -219,10 +326,10 @@ fn expect_cuts(walked: &Occurred) {
             ("between stages 3 and 4", 50),
             ("in stage 4", 200),
         ];
-        let of_form = |(place, least)| (format!("{form:?}: cuts {place}"), least);
+        let of_form = |(place, least)| (format!("{form:?}: cuts {place}"), least / share);
         expect_more(walked, cuts.map(of_form));
         let skipping = format!("{form:?}, numbers skipped");
-        let of_skipping = |(place, least)| (format!("{skipping}: cuts {place}"), least / 2);
+        let of_skipping = |(place, least)| (format!("{skipping}: cuts {place}"), least / 2 / share);
         expect_more(walked, cuts.map(of_skipping));
     }
     let order = [
@@ -230,5 +337,5 @@ fn expect_cuts(walked: &Occurred) {
         ("Order: cuts in order form", 500),
         ("Order, numbers skipped: cuts in order form", 250),
     ];
-    expect_more(walked, order);
+    expect_more(walked, order.map(|(cuts, least)| (cuts, least / share)));
 }

@@ -3,7 +3,7 @@
 mod common;
 
 use common::formulas::clash_chain;
-use common::{compare_reencode, run_model, Room, LISTED, WAYS};
+use common::{compare_reencode, run_model, Carrying, Room, LISTED, PLENTY, WAYS};
 use model::generator::{clauses_apart, text_of};
 use sirgholyn::{reencode, walk_back, Error, ReencodeRoom, Refusal, WalkBackRoom};
 use std::collections::HashSet;
@@ -13,8 +13,10 @@ fn each_number_has_a_meaning_and_a_mender() {
     let mender_of = |number| match number {
         1..=9 => "the formula's writer",
         11..=17 => "the caller",
-        31..=34 => "the log's writer",
-        _ => "the solver",
+        31..=34 | 46 => "the log's writer",
+        44 => "the solver",
+        45 => "the planner",
+        _ => "the solver or planner",
     };
     let mut meanings = HashSet::from([Refusal(0).meaning()]);
     for number in LISTED {
@@ -63,6 +65,39 @@ fn the_order_of_reencodings_refusals() {
         }
         assert_eq!(compare_reencode(&text, way.with_step(step), room), 0);
     }
+}
+
+/// Carrying forward with everything wrong, of which one thing after the other is mended.
+#[test]
+fn the_order_of_forward_refusals() {
+    let enough = b"v 1 -2 3 0\n".len();
+    let (mut text, mut log, mut named) = ("", "3 1 0\n1\n", "1 x");
+    let (mut work, mut room) = (0, enough - 1);
+    for number in [1, 31, 34, 41, 42, 43, 11, 45, 32, 46, 14] {
+        let plan = format!("s SATISFIABLE\nv {named} 0\n");
+        let carry = |work, room| {
+            let (text, log, plan) = (text.as_bytes(), log.as_bytes(), plan.as_bytes());
+            Carrying::Forward.compare(text, log, 2, plan, work, room)
+        };
+        assert_eq!(carry(work, room), number);
+        match number {
+            1 => text = "p cnf 2 1\n1 2 0\n",
+            31 => log = "3 1 0\n",
+            34 => log = "-1 0\nd 2 0\n",
+            41 => named = "3 1 1",
+            42 => named = "2 -2",
+            43 => named = "-2",
+            11 => work = PLENTY,
+            45 => named = "1",
+            32 => log = "-1 0\nd -1 0\n",
+            46 => log = "3 -1 0\nd 1 2 0\n",
+            _ => room = enough,
+        }
+    }
+    let plan = format!("s SATISFIABLE\nv {named} 0\n");
+    let (text, log, plan) = (text.as_bytes(), log.as_bytes(), plan.as_bytes());
+    let line = Carrying::Forward.line(text, log, 2, plan, work, room);
+    assert_eq!(line.as_deref(), Ok(&b"v 1 -2 3 0\n"[..]));
 }
 
 /// A log some hundred times as long as its formula, which no first guess covers.

@@ -509,13 +509,14 @@ fn interrupted_while_building() {
 
 /// Words that the script answers where nothing is built, each with its message, or the text that is told.
 #[rustfmt::skip]
-const WORDS: [(&[&str], Result<&str, &str>); 45] = [
+const WORDS: [(&[&str], Result<&str, &str>); 49] = [
     (&[], Err("which command? `sirgholyn --help` lists them")),
     (&["--help"], Ok("help")),
     (&["-h"], Ok("help")),
     (&["help"], Ok("help")),
     (&["help", "solve"], Ok("solve")),
     (&["--help", "walk-back", "x"], Ok("walk-back")),
+    (&["help", "carry-forward"], Ok("carry-forward")),
     (&["help", "encode"], Ok("help")),
     (&["help", ""], Ok("help")),
     (&["reencode", "--help"], Ok("reencode")),
@@ -530,6 +531,9 @@ const WORDS: [(&[&str], Result<&str, &str>); 45] = [
     (&["reencode", "a", "b"], Err("wanted: IN.cnf; found 2 file names")),
     (&["walk-back", "a", "b"], Err("wanted: IN.cnf LOG.drat ANSWER; found 2 file names")),
     (&["walk-back", "-", "a", "-"], Err("standard input can be read once only")),
+    (&["carry-forward"], Err("wanted: IN.cnf LOG.drat PLAN; found 0 file names")),
+    (&["carry-forward", "a", "-", "-"], Err("standard input can be read once only")),
+    (&["carry-forward", "a", "b", "c", "--step=1"], Err("there is no option `--step` here")),
     (&["solve", "--", "-", "--form"], Err("wanted: IN.cnf; found 2 file names")),
     (&["walk-back", "-", "--", "-", "--work"], Err("standard input can be read once only")),
     (&["solve", "a", "--log", "b"], Err("there is no option `--log` here")),
@@ -601,6 +605,7 @@ fn words_are_read_before_anything_is_built() {
             "0",
         ],
         &["walk-back", "a", "b", "-", "--keep", "18446744073709551615"],
+        &["carry-forward", "a", "b", "-", "--keep=0", "--room", "9"],
     ] {
         let ran = ran(checkout.command("sirgholyn", "").args(words));
         expect_setup_failure(&ran, &["rt to PATH"]);

@@ -2,12 +2,12 @@
 
 mod common;
 
-use common::{compare_reencode, run_model, Room, WAYS};
+use common::{compare_reencode, run_model, Carrying, Room, WAYS};
 use model::reading::{read_formula, INPUT_LIMITS};
 use model::sessions::{CHAIN, COPIES, F, SIX};
 use sirgholyn::{
-    read_back, reencode, walk_back, Arrangement, ChoiceRecord, Error, Form, ReencodeRoom,
-    Reencoded, Refusal, Settings, WalkBackRoom,
+    read_back, reencode, Arrangement, ChoiceRecord, Error, Form, ReencodeRoom, Reencoded, Refusal,
+    Settings, WalkBackRoom,
 };
 
 const G: &str =
@@ -27,15 +27,27 @@ fn expect(text: &str, log: &str, formula: &str) {
     }
 }
 
+fn carry(
+    carrying: Carrying,
+    formula: &str,
+    log: &[u8],
+    kept: usize,
+    assignment: &str,
+) -> Result<String, Error> {
+    let room = WalkBackRoom::default();
+    let line = carrying.call(formula.as_bytes(), log, kept, assignment.as_bytes(), room);
+    line.map(|line| String::from_utf8(line).unwrap())
+}
+
 fn walk(formula: &str, log: &[u8], kept: usize, answer: &str) -> Result<String, Error> {
-    walk_back(
-        formula.as_bytes(),
-        log,
-        kept,
-        answer.as_bytes(),
-        WalkBackRoom::default(),
-    )
-    .map(|line| String::from_utf8(line).unwrap())
+    carry(Carrying::Back, formula, log, kept, answer)
+}
+
+/// A plan with these literals true, carried forward over the whole log.
+fn forward(formula: &str, log: &[u8], named: &str) -> Result<String, Error> {
+    let lines = log.split_inclusive(|&byte| byte == b'\n').count();
+    let plan = format!("s SATISFIABLE\nv {named} 0\n");
+    carry(Carrying::Forward, formula, log, lines, &plan)
 }
 
 #[test]
@@ -223,6 +235,63 @@ fn tables() {
             let new = reencode(text.as_bytes(), way, ReencodeRoom::default()).unwrap();
             assert_eq!(new.table, records, "{sizes:?}, step {step}");
         }
+    }
+}
+
+/// Plans of the sessions carried forward, over the log of either form.
+#[test]
+fn carried_forward() {
+    let f_joined = common::formulas::JOINED_F;
+    for (text, named, line) in [
+        ("p cnf 0 0", "", "v 0"),
+        ("p cnf 2 2\n1 2 0\n-1 -2 0\n", "2", "v -1 2 0"),
+        ("p cnf 3 2\n1 2 0\n-1 3 0\n", "1 3", "v 1 -2 3 0"),
+        (F, "4", "v -1 -2 -3 4 -5 -6 -7 -8 -9 10 0"),
+        (F, "1 6 3", "v 1 -2 -3 -4 -5 6 7 8 9 10 0"),
+        (f_joined, "-2 3 6 -4", "v -1 -2 3 -4 -5 6 -7 -8 9 10 0"),
+        (SIX, "6", "v -1 -2 -3 -4 -5 6 -7 -8 -9 -10 -11 0"),
+        (SIX, "3 5 6", "v -1 -2 3 -4 -5 -6 -7 -8 9 10 11 0"),
+        (COPIES, "2 3", "v -1 2 -3 -4 -5 -6 7 8 9 0"),
+        (
+            CHAIN,
+            "3 5 8",
+            "v -1 -2 3 -4 5 -6 -7 8 -9 -10 -11 -12 -13 0",
+        ),
+        (CHAIN, "2 4 7", "v -1 2 -3 -4 -5 -6 -7 -8 -9 10 11 12 13 0"),
+    ] {
+        for form in [Form::Counter, Form::Order] {
+            let new = encode(text, form, Arrangement::AsListed);
+            let found = forward(text, &new.log, named);
+            assert_eq!(found, Ok(format!("{line}\n")), "{named} of {text}");
+        }
+    }
+}
+
+/// Skipped numbers are false, and have their place in the line.
+#[test]
+fn carried_forward_over_skipped_numbers() {
+    let way = WAYS[0].with_step(10);
+    let new = reencode(CHAIN.as_bytes(), way, ReencodeRoom::default()).unwrap();
+    let line = "v 1 -2 3 -4 5 -6 -7 -8 -9 -10 11 12 13 14 15 0\n";
+    let found = forward(CHAIN, &new.log, "1 3 5 8");
+    assert_eq!(found.as_deref(), Ok(line));
+}
+
+/// What is no plan, and a log that is another formula's.
+#[test]
+fn not_carried_forward() {
+    let [of_f, of_six] = [F, SIX].map(|text| encode(text, Form::Counter, Arrangement::AsListed));
+    for (text, log, named, number) in [
+        ("p cnf 0 1\n0\n", &b""[..], "", 45),
+        ("p cnf 1 2\n1 0\n-1 0\n", b"", "1", 45),
+        (F, &of_f.log, "1", 45),
+        (F, &of_f.log, "7", 42),
+        (F, &of_f.log, "-1 1", 43),
+        ("p cnf 6 0\n", &of_six.log[..of_six.log.len() - 16], "", 46),
+        ("p cnf 6 0\n", &of_six.log, "", 32),
+    ] {
+        let refused = forward(text, log, named);
+        assert_eq!(refused, Err(Error::Refused(Refusal(number))), "{text}");
     }
 }
 

@@ -13,7 +13,7 @@ use model::log_reading::read_kept_lines;
 use model::texts::count_true;
 use model::valleys::Valley;
 use sirgholyn::drat::{self, Ground};
-use sirgholyn::{plan, ReencodeRoom, Reencoded, Settings, WalkBackRoom};
+use sirgholyn::{plan, CarryForwardRoom, ReencodeRoom, Reencoded, Settings, WalkBackRoom};
 use std::io::Read;
 
 fn either(formula: &[u8], is_satisfiable: bool, solve: fn(&[u8]) -> Answer) -> Answer {
@@ -85,7 +85,23 @@ impl<'a> Trip<'a> {
             assert_eq!(chosen, 1, "{clause:?} in {line} of {plain_text}");
         }
         self.note(trips, "plans");
+        self.carry_forward(format!("s SATISFIABLE\n{line}").as_bytes(), trips);
         line
+    }
+
+    /// The plan carried forward satisfies the new formula.
+    fn carry_forward(&self, given: &[u8], trips: &mut Occurred) {
+        let Reencoded {
+            log,
+            tally,
+            formula,
+            ..
+        } = &self.new;
+        let (text, room) = (&self.input.text, CarryForwardRoom::default());
+        let line = sirgholyn::carry_forward(text, log, tally.lines as usize, given, room).unwrap();
+        let [new, line] = [formula, &line].map(|text| String::from_utf8_lossy(text));
+        assert!(plan::satisfies(&new, &line), "{line} of {new}");
+        self.note(trips, "plans carried forward");
     }
 
     /// The log and the solver's proof show that the text has no plan.
@@ -98,11 +114,17 @@ impl<'a> Trip<'a> {
         self.note(trips, "proofs");
     }
 
-    /// Solves input, as it is written, and new formula by both solvers, and carries each answer back to a line.
+    /// Solves input, as it is written, and new formula by both solvers, and carries the first's answers forward and
+    /// the second's back to a line.
     fn round(&self, trips: &mut Occurred) -> Vec<String> {
         let text = &self.input.text;
-        let can = matches!(cadical(text), Answer::Satisfiable(_));
-        either(text, can, minisat);
+        let of_cadical = cadical(text);
+        let can = matches!(of_cadical, Answer::Satisfiable(_));
+        for answer in [of_cadical, either(text, can, minisat)] {
+            if let Answer::Satisfiable(plan) = answer {
+                self.carry_forward(&plan, trips);
+            }
+        }
         let mut lines = Vec::new();
         for solve in [cadical, minisat] {
             match either(&self.new.formula, can, solve) {
@@ -123,8 +145,10 @@ fn total(trips: Vec<Occurred>) -> Occurred {
 
 /// Also of texts that are not kept in full, with a choice that has a pure literal, with and without pairs, and with
 /// numbers skipped.
-const ROUNDS: [(&str, usize); 12] = [
+const ROUNDS: [(&str, usize); 14] = [
     ("plans", 60),
+    ("plans carried forward", 120),
+    ("unpaired: plans carried forward", 40),
     ("proofs", 60),
     ("joined: plans", 20),
     ("joined: proofs", 10),

@@ -414,7 +414,7 @@ fn solvers_that_fail() {
         ("echo s UNKNOWN; exit 1", 69, "the status 1"),
         ("yes", 69, "printed more than"),
         ("exit 0", 41, "refused 41"),
-        ("echo nonsense", 41, "the solver can mend it"),
+        ("echo nonsense", 41, "the solver or planner can mend it"),
         ("echo nonsense", 41, "(line 1, byte 1: `nonsense`)"),
         ("printf 's SATISFIABLE\\n'; exit 10", 41, "refused 41"),
         ("printf 's SATISFIABLE\\nv 1 2 '; exit 10", 41, "refused 41"),

@@ -2,11 +2,12 @@
 
 mod common;
 
+use common::solvers::named;
 use common::{compare_reencode, run_model, Room, WAYS};
 use model::generator::{clauses_apart, text_of};
 use model::reading::Formula;
 use model::sessions::F;
-use model::texts::count_true;
+use model::texts::{answer_text, count_true};
 use sirgholyn::limits::MOST_CHOICES;
 use sirgholyn::{ChoiceRecord, Error, ReencodeRoom, Refusal, Settings, WalkBackRoom};
 
@@ -78,9 +79,10 @@ fn answer_by(table: &[ChoiceRecord], formula: &Formula) -> String {
     answer + "0\n"
 }
 
-/// Where the highest variable is 70,000, new formula and log are read as any others.
+/// Where the highest variable is 70,000, new formula and log are read as any others, and the line that the answer walks
+/// back to is carried forward to the answer's values again.
 #[test]
-fn the_highest_variable_read_back_and_walked_back() {
+fn the_highest_variable_read_back_and_carried() {
     let formula = fives_and_one(1_013, 49);
     let text = text_of(&formula);
     for way in [WAYS[0], WAYS[2]] {
@@ -100,6 +102,12 @@ fn the_highest_variable_read_back_and_walked_back() {
             assert_eq!(count_true(&line, choice), 1);
             assert!(line.contains(&format!(" {} ", choice[0])));
         }
+
+        let plan = format!("s SATISFIABLE\n{line}");
+        let line = sirgholyn::carry_forward(&text, &new.log, lines, plan.as_bytes(), room).unwrap();
+        let is_true = named(answer.as_bytes());
+        let expected = answer_text(70_000, |variable| is_true.contains(&variable));
+        assert!(line == expected, "{way:?}");
     }
 }
 

@@ -15,12 +15,14 @@ static const char G[] =
     "p cnf 10 8\n8 -7 0\n9 -8 0\n10 -9 0\n-7 6 0\n7 -8 6 0\n8 -9 6 0\n9 -10 -6 0\n10 -6 0\n";
 static const char H_ANSWER[] = "s SATISFIABLE\nv 1 2 3 4 5 -6 -7 -8 -9 10 0\n";
 static const char H_LINE[] = "v -1 -2 -3 4 -5 -6 0\n";
+static const char PLAN[] = "s SATISFIABLE\nv -1 -2 -3 4 -5 -6 0\n";
+static const char FORWARD[] = "v -1 -2 -3 4 -5 -6 -7 -8 -9 10 0\n";
 
 enum {
     F_WORK = SIRGHOLYN_WORK(17, 7, 6),
     LOG_ROOM = 1200,
     FORMULA_ROOM = 100,
-    LINE_ROOM = 30,
+    LINE_ROOM = 40,
     TABLE_ROOM = 3,
     PATTERN = 0xA5
 };
@@ -103,6 +105,26 @@ static uint32_t walk_back(
         line, line_len, tally, SIRGHOLYN_WALK_BACK_COUNTS);
 }
 
+/* carries forward over that log */
+static uint32_t carry_forward(
+    size_t log_len, size_t kept, const char *plan, size_t entries, size_t line_len)
+{
+    memset(line, PATTERN, sizeof line);
+    memset(tally, PATTERN, sizeof tally);
+    return sirgholyn_carry_forward(
+        bytes(F), strlen(F), new_log, log_len, kept, bytes(plan), strlen(plan), work, entries,
+        line, line_len, tally, SIRGHOLYN_CARRY_FORWARD_COUNTS);
+}
+
+/* whether the line, and nothing past it, has been written */
+static int is_line(const char *expected, uint64_t length)
+{
+    size_t size = strlen(expected);
+    return length == size && memcmp(line, expected, size) == 0
+        && all(line, size, sizeof line, PATTERN)
+        && all(tally, sizeof *tally, sizeof tally, PATTERN);
+}
+
 static uint32_t read_back(const char *text, size_t entries)
 {
     memset(work, PATTERN, 64 * sizeof *work);
@@ -128,10 +150,11 @@ static void sessions(void)
     EXPECT(log_len < LOG_ROOM && all(new_log, log_len, sizeof new_log, PATTERN));
 
     EXPECT(walk_back(log_len, 41, H_ANSWER, work_len, LINE_ROOM) == SIRGHOLYN_DONE);
-    EXPECT(tally[SIRGHOLYN_WALK_BACK_BYTES] == strlen(H_LINE));
-    EXPECT(memcmp(line, H_LINE, strlen(H_LINE)) == 0);
-    EXPECT(all(line, strlen(H_LINE), sizeof line, PATTERN));
-    EXPECT(all(tally, sizeof *tally, sizeof tally, PATTERN));
+    EXPECT(is_line(H_LINE, tally[SIRGHOLYN_WALK_BACK_BYTES]));
+    EXPECT(carry_forward(log_len, 41, PLAN, work_len, LINE_ROOM) == SIRGHOLYN_DONE);
+    EXPECT(is_line(FORWARD, tally[SIRGHOLYN_CARRY_FORWARD_BYTES]));
+    EXPECT(carry_forward(log_len, 0, PLAN, work_len, LINE_ROOM) == SIRGHOLYN_DONE);
+    EXPECT(is_line(H_LINE, tally[SIRGHOLYN_CARRY_FORWARD_BYTES]));
 
     EXPECT(read_back(G, work_len) == SIRGHOLYN_DONE);
     EXPECT(tally[SIRGHOLYN_READ_BACK_VARIABLES] == 10);
@@ -257,6 +280,19 @@ static void zero_after_refusals(void)
     EXPECT(walk_back(log_len, 41, H_ANSWER, work_len, 9) == SIRGHOLYN_LINE_SHORT);
     EXPECT(all(line, 0, 9, 0) && all(line, 9, sizeof line, PATTERN));
 
+    EXPECT(carry_forward(log_len, 41, "s SATISFIABLE\nv 1 0\n", work_len, LINE_ROOM)
+           == SIRGHOLYN_PLAN_FAILS);
+    EXPECT(all(line, 0, sizeof line, 0) && tally[0] == 0);
+    EXPECT(carry_forward(log_len, 41, "s SATISFIABLE\nv 4 7 0\n", work_len, LINE_ROOM)
+           == SIRGHOLYN_VARIABLE_ABOVE_X);
+    EXPECT(all(line, 0, sizeof line, 0) && tally[0] == 0);
+    EXPECT(carry_forward(log_len, 42, PLAN, work_len, LINE_ROOM) == SIRGHOLYN_FEWER_LINES);
+    EXPECT(carry_forward(log_len, 41, PLAN, work_len, 9) == SIRGHOLYN_LINE_SHORT);
+    EXPECT(all(line, 0, 9, 0) && all(line, 9, sizeof line, PATTERN));
+    memcpy(new_log, "-4 0\n", 5);
+    EXPECT(carry_forward(5, 1, PLAN, work_len, LINE_ROOM) == SIRGHOLYN_LOG_NOT_OWN);
+    EXPECT(all(line, 0, sizeof line, 0) && tally[0] == 0);
+
     EXPECT(read_back("p cnf 1 1\n2 0\n", 64) == SIRGHOLYN_VARIABLE_ABOVE_V);
     EXPECT(all(work, 0, 64 * sizeof *work, 0) && all(tally, 0, 3 * sizeof *tally, 0));
 }
@@ -272,6 +308,8 @@ static void workspace_rules(void)
     enough = SIRGHOLYN_WALK_BACK_WORK(17 + 7, numbers(new_log, log_len), 10);
     EXPECT(walk_back(log_len, 41, H_ANSWER, enough - 1, LINE_ROOM) == SIRGHOLYN_WORK_SHORT);
     EXPECT(walk_back(log_len, 41, H_ANSWER, enough, LINE_ROOM) == SIRGHOLYN_DONE);
+    EXPECT(carry_forward(log_len, 41, PLAN, enough - 1, LINE_ROOM) == SIRGHOLYN_WORK_SHORT);
+    EXPECT(carry_forward(log_len, 41, PLAN, enough, LINE_ROOM) == SIRGHOLYN_DONE);
     enough = SIRGHOLYN_WORK(19, 8, 10);
     EXPECT(read_back(G, enough - 1) == SIRGHOLYN_WORK_SHORT);
     EXPECT(read_back(G, enough) == SIRGHOLYN_DONE);

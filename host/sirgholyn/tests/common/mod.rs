@@ -10,7 +10,7 @@ use model::encoding::Encoding;
 use model::generator::text_of;
 use model::reading::Formula;
 use model::texts::log_text;
-use sirgholyn::{calls, Arrangement, ChoiceRecord, Form, Refusal, Settings};
+use sirgholyn::{calls, Arrangement, ChoiceRecord, Error, Form, Refusal, Settings, WalkBackRoom};
 use std::collections::BTreeMap;
 use std::ops::Range;
 use std::thread;
@@ -36,8 +36,8 @@ pub fn way_of(seed: u64) -> Settings {
 }
 
 /// The numbers of refusals.
-pub const LISTED: [u32; 22] = [
-    1, 2, 3, 4, 7, 8, 9, 11, 12, 13, 14, 15, 16, 17, 31, 32, 33, 34, 41, 42, 43, 44,
+pub const LISTED: [u32; 24] = [
+    1, 2, 3, 4, 7, 8, 9, 11, 12, 13, 14, 15, 16, 17, 31, 32, 33, 34, 41, 42, 43, 44, 45, 46,
 ];
 
 /// The listed numbers that someone can mend, as in `1 to 4, 7 to 9`.
@@ -45,7 +45,10 @@ pub fn numbers_of(mender: &str) -> String {
     let is_own = |&number: &u32| Refusal(number).mender() == mender;
     let numbers: Vec<u32> = LISTED.into_iter().filter(is_own).collect();
     let runs = numbers.chunk_by(|one, next| one + 1 == *next);
-    let words = runs.map(|run| format!("{} to {}", run[0], run[run.len() - 1]));
+    let words = runs.map(|run| match run {
+        [first, .., last] => format!("{first} to {last}"),
+        _ => run[0].to_string(),
+    });
     words.collect::<Vec<_>>().join(", ")
 }
 
@@ -197,39 +200,89 @@ pub fn expect_reencoded(
     }
 }
 
-/// Walks back by library and model, and compares number and every byte; the answer is the number.
-pub fn compare_walk_back(
-    formula: &[u8],
-    log: &[u8],
-    kept: usize,
-    answer: &[u8],
-    work: usize,
-    room: usize,
-) -> u32 {
-    let expected = model::walk_back(formula, log, kept, answer, work as u64, room);
-    let mut work = vec![-7; work];
-    let mut line = vec![0xA5; room];
-    let found = calls::walk_back(formula, log, kept, answer, &mut work, &mut line);
-    let seen = || {
-        format!(
-            "{}\n{}\nkept {kept}\n{}",
-            shown(formula),
-            shown(log),
-            shown(answer)
-        )
-    };
-    match (&expected, found) {
-        (Ok(expected), Ok(bytes)) => {
-            assert_eq!(bytes, expected.len(), "{}", seen());
-            assert_written(&line, expected, 0xA5, &seen);
-            0
+/// Which way an assignment is carried over the kept lines of a log: an answer back, or a plan forward.
+#[derive(Debug, Clone, Copy, PartialEq, Eq)]
+pub enum Carrying {
+    Back,
+    Forward,
+}
+
+pub const CARRYING: [Carrying; 2] = [Carrying::Back, Carrying::Forward];
+
+impl Carrying {
+    pub fn name(self) -> &'static str {
+        match self {
+            Carrying::Back => "walk-back",
+            Carrying::Forward => "carry-forward",
         }
-        (Err(expected), Err(number)) => {
-            assert_eq!(u32::from(*expected), number, "{}", seen());
-            assert!(line.iter().all(|&byte| byte == 0), "{}", seen());
-            number
+    }
+
+    /// The library's call with buffers of its own.
+    pub fn call(
+        self,
+        formula: &[u8],
+        log: &[u8],
+        kept: usize,
+        assignment: &[u8],
+        room: WalkBackRoom,
+    ) -> Result<Vec<u8>, Error> {
+        let call = match self {
+            Carrying::Back => sirgholyn::walk_back,
+            Carrying::Forward => sirgholyn::carry_forward,
+        };
+        call(formula, log, kept, assignment, room)
+    }
+
+    /// The line by library and model, number and every byte compared.
+    pub fn line(
+        self,
+        formula: &[u8],
+        log: &[u8],
+        kept: usize,
+        assignment: &[u8],
+        work: usize,
+        room: usize,
+    ) -> Result<Vec<u8>, u32> {
+        let expected = match self {
+            Carrying::Back => model::walk_back,
+            Carrying::Forward => model::carry_forward,
+        }(formula, log, kept, assignment, work as u64, room);
+        let mut work = vec![-7; work];
+        let mut line = vec![0xA5; room];
+        let found = match self {
+            Carrying::Back => calls::walk_back,
+            Carrying::Forward => calls::carry_forward,
+        }(formula, log, kept, assignment, &mut work, &mut line);
+        let seen = || {
+            let texts = [formula, log, assignment].map(shown).join("\n");
+            format!("{self:?}, kept {kept}\n{texts}")
+        };
+        match (&expected, found) {
+            (Ok(expected), Ok(bytes)) => {
+                assert_eq!(bytes, expected.len(), "{}", seen());
+                assert_written(&line, expected, 0xA5, &seen);
+            }
+            (Err(expected), Err(number)) => {
+                assert_eq!(u32::from(*expected), number, "{}", seen());
+                assert!(line.iter().all(|&byte| byte == 0), "{}", seen());
+            }
+            _ => panic!("{expected:?}, found {found:?}: {}", seen()),
         }
-        _ => panic!("{expected:?}, found {found:?}: {}", seen()),
+        expected.map_err(u32::from)
+    }
+
+    /// Carries by library and model, and compares number and every byte; the answer is the number.
+    pub fn compare(
+        self,
+        formula: &[u8],
+        log: &[u8],
+        kept: usize,
+        assignment: &[u8],
+        work: usize,
+        room: usize,
+    ) -> u32 {
+        let line = self.line(formula, log, kept, assignment, work, room);
+        line.err().unwrap_or(0)
     }
 }
 
@@ -294,8 +347,8 @@ pub fn work_for(formula: &Formula) -> usize {
     formula.workspace_needed() as usize
 }
 
-/// The workspace that walk-back asks for, for a formula and a log that are in order.
-pub fn walk_back_work(formula: &Formula, log: &[u8], kept: usize) -> usize {
+/// The workspace that walk-back and carrying forward ask for, for a formula and a log that are in order.
+pub fn carrying_work(formula: &Formula, log: &[u8], kept: usize) -> usize {
     let lines = model::log_reading::read_kept_lines(log, kept).unwrap_or_default();
     model::walk_back::workspace_needed(formula, &lines) as usize
 }

@@ -5,7 +5,7 @@ use crate::failure::Failure;
 use crate::files::{self, say};
 use crate::outputs::{self, Output, Taken};
 use sirgholyn::limits::Limits;
-use sirgholyn::location;
+use sirgholyn::location::{self, Location};
 use sirgholyn::{Arrangement, ChoiceRecord, Error, Form, ReencodeRoom, Tally, WalkBackRoom};
 use std::io::Cursor;
 
@@ -79,17 +79,31 @@ fn tell(tally: &Tally, on_error: bool) -> Result<(), Failure> {
 }
 
 pub fn walk_back(args: &Args) -> Result<u8, Failure> {
+    carry(args, sirgholyn::walk_back, refused_walk_back)
+}
+
+pub fn carry_forward(args: &Args) -> Result<u8, Failure> {
+    carry(args, sirgholyn::carry_forward, refused_carry_forward)
+}
+
+/// Prints the line of an assignment that a call carries over the kept lines.
+fn carry(
+    args: &Args,
+    call: fn(&[u8], &[u8], usize, &[u8], WalkBackRoom) -> Result<Vec<u8>, Error>,
+    refused: fn(Error, &[u8], &[u8], usize, &[u8]) -> Failure,
+) -> Result<u8, Failure> {
     let room = WalkBackRoom {
         work: args.number("--work"),
         line: args.number("--room"),
     };
     let formula = files::read(args.file(0))?;
     let log = files::read(args.file(1))?;
-    let answer = files::read(args.file(2))?;
-    Taken::new(&[&formula, &log, &answer])?;
+    let assignment = files::read(args.file(2))?;
+    Taken::new(&[&formula, &log, &assignment])?;
     let kept = args.number("--keep").unwrap_or_else(|| lines(&log.text));
-    let line = sirgholyn::walk_back(&formula.text, &log.text, kept, &answer.text, room)
-        .map_err(|error| refused_walk_back(error, &formula.text, &log.text, kept, &answer.text))?;
+    let (formula, log, assignment) = (&formula.text, &log.text, &assignment.text);
+    let line = call(formula, log, kept, assignment, room)
+        .map_err(|error| refused(error, formula, log, kept, assignment))?;
     files::print(&line)?;
     Ok(0)
 }
@@ -130,11 +144,36 @@ pub fn refused_walk_back(
     kept: usize,
     answer: &[u8],
 ) -> Failure {
+    refused_over_log(error, formula, log, kept, |number| {
+        location::in_answer(formula, log, kept, answer, number)
+    })
+}
+
+/// The same for carrying forward.
+fn refused_carry_forward(
+    error: Error,
+    formula: &[u8],
+    log: &[u8],
+    kept: usize,
+    plan: &[u8],
+) -> Failure {
+    refused_over_log(error, formula, log, kept, |number| {
+        location::in_plan(formula, log, kept, plan, number)
+    })
+}
+
+fn refused_over_log(
+    error: Error,
+    formula: &[u8],
+    log: &[u8],
+    kept: usize,
+    in_assignment: impl Fn(u32) -> Option<Location>,
+) -> Failure {
     let found = match error {
         Error::Refused(refusal) => match refusal.0 {
             1..=4 | 7..=9 => location::in_formula(formula, &Limits::INPUT, refusal.0),
             31 | 32 | 34 => location::in_log(formula, log, kept, refusal.0),
-            41..=43 => location::in_answer(formula, log, kept, answer, refusal.0),
+            41..=43 => in_assignment(refusal.0),
             _ => None,
         },
         Error::NoMemory(_) => None,

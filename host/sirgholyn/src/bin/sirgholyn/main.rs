@@ -1,4 +1,4 @@
-//! The command: `reencode`, `walk-back`, `read-back` and `solve` over files.
+//! The command: `reencode`, `walk-back`, `carry-forward`, `read-back` and `solve` over files.
 
 mod args;
 mod cleanup;
@@ -61,6 +61,7 @@ fn run(words: &[OsString]) -> Result<u8, Failure> {
         "solve" => solve::solve(&args),
         "reencode" => commands::reencode(&args),
         "walk-back" => commands::walk_back(&args),
+        "carry-forward" => commands::carry_forward(&args),
         _ => commands::read_back(&args),
     }
 }

@@ -62,6 +62,7 @@ fn help_of(command: &str) -> Option<&'static str> {
         "solve" => Some(include_str!("../../../words/solve.txt")),
         "reencode" => Some(include_str!("../../../words/reencode.txt")),
         "walk-back" => Some(include_str!("../../../words/walk-back.txt")),
+        "carry-forward" => Some(include_str!("../../../words/carry-forward.txt")),
         "read-back" => Some(include_str!("../../../words/read-back.txt")),
         _ => None,
     }

@@ -12,8 +12,8 @@ use Rattle.definition.specs.Reading.{Input}
 use Rattle.definition.specs.Calls.{Reencoded, Tally}
 use Rattle.call_read_back.specs.declared.ReadBack.the-variants as ReadBack
 use Rattle.call_read_back.specs.Outcome.{read-back-of}
-use Rattle.call_walk_back.specs.declared.WalkedBack.the-variants as WalkedBack
-use Rattle.call_walk_back.specs.Outcome.{walked-back-of}
+use Rattle.carry.specs.declared.Carried.the-variants as Carried
+use Rattle.carry.specs.Carried.{carried-of}
 use Rattle.run.specs.declared.Form as Code-form
 use Rattle.run.specs.declared.Arrangement as Code-arrangement
 use Rattle.run.specs.declared.Settings as Code-settings
@@ -24,7 +24,7 @@ use Rattle.call_reencode.specs.Outcome.{outcome, outcome-of}
 use Rattle.exports.specs.Numbers.{form-number, arrangement-number, settings-number, number-of, reencoding}
 use Rattle.counts.specs.Counts.{overwritten}
 use Rattle.counts.proofs.Laws.{one-count}
-use Rattle.exports.specs.Counts.{tally-after, walk-back-counts, read-back-counts, reencoding-counts, done-counts}
+use Rattle.exports.specs.Counts.{tally-after, line-counts, read-back-counts, reencoding-counts, done-counts}
 
 pub read-counted : (o : Checked Input) (v c l : ℕ) (before after : List ℕ) → read-back-of o ≡ ReadBack.Read v c l → after ≡ overwritten (v ∷ c ∷ l ∷ []) before → (0 ≡ number-of o) × (after ≡ tally-after o read-back-counts before)
 unfolding number-of tally-after
@@ -40,17 +40,17 @@ unfolding number-of tally-after
 read-refused (fault m) n before after e w = (cc, w)
 read-refused (value i) n before after e w = let z : _≡_ {A = ℕ} 0 1 = cc in absurd (omega arith)
 
-pub walk-counted : (o : Checked Bytes) (n : ℕ) (before after : List ℕ) → walked-back-of o ≡ WalkedBack.Line n → after ≡ set before 0 n → (0 ≡ number-of o) × (after ≡ tally-after o walk-back-counts before)
+pub line-counted : (o : Checked Bytes) (n : ℕ) (before after : List ℕ) → carried-of o ≡ Carried.Line n → after ≡ set before 0 n → (0 ≡ number-of o) × (after ≡ tally-after o line-counts before)
 unfolding number-of tally-after
-walk-counted (fault m) n before after e w = let z : _≡_ {A = ℕ} 0 1 = cc in absurd (omega arith)
-walk-counted (value t) n before after e w =
+line-counted (fault m) n before after e w = let z : _≡_ {A = ℕ} 0 1 = cc in absurd (omega arith)
+line-counted (value t) n before after e w =
     let el : length t ≡ n = cc in
     (refl, rw el (w ∙ one-count before n))
 
-pub walk-refused : (o : Checked Bytes) (n : ℕ) (before after : List ℕ) → walked-back-of o ≡ WalkedBack.Refused n → after ≡ replicate (length before) 0 → (n ≡ number-of o) × (after ≡ tally-after o walk-back-counts before)
+pub line-refused : (o : Checked Bytes) (n : ℕ) (before after : List ℕ) → carried-of o ≡ Carried.Refused n → after ≡ replicate (length before) 0 → (n ≡ number-of o) × (after ≡ tally-after o line-counts before)
 unfolding number-of tally-after
-walk-refused (fault m) n before after e w = (cc, w)
-walk-refused (value t) n before after e w = let z : _≡_ {A = ℕ} 0 1 = cc in absurd (omega arith)
+line-refused (fault m) n before after e w = (cc, w)
+line-refused (value t) n before after e w = let z : _≡_ {A = ℕ} 0 1 = cc in absurd (omega arith)
 
 -- the code's record of a result
 abbrev result-tally : Tally → Code.Tally

@@ -93,7 +93,25 @@ fn print_carry_forward(formula: &[u8], log: &[u8], work: &mut [i32], out: &mut [
     print_carried(b"carry_forward", r, out);
 }
 
-// Session F: 8,972 entries, 371 bytes and 77 bytes; session H: 740 entries, and 21 bytes back or 33 forward.
+// Session H: 740 entries and 21 bytes back.
+fn print_walk_backs(text: &[u8], log: &[u8], work: &mut [i32], short_work: &mut [i32]) {
+    let mut line = [0u8; 21];
+    let mut short_line = [0u8; 20];
+    print_walk_back(text, log, short_work, &mut line);
+    print_walk_back(text, log, work, &mut short_line);
+    print_walk_back(text, log, work, &mut line);
+}
+
+// Its plan forward: as many entries, and 33 bytes.
+fn print_carries_forward(text: &[u8], log: &[u8], work: &mut [i32], short_work: &mut [i32]) {
+    let mut line = [0u8; 33];
+    let mut short_line = [0u8; 32];
+    print_carry_forward(text, log, short_work, &mut line);
+    print_carry_forward(text, log, work, &mut short_line);
+    print_carry_forward(text, log, work, &mut line);
+}
+
+// Session F: 8,972 entries, 371 bytes and 77 bytes.
 fn main() {
     let text = b"p cnf 6 7\n1 2 3 4 5 0\n-1 -2 0\n-1 6 0\n-2 6 0\n-3 6 0\n-4 -6 0\n-5 -6 0\n";
     let mut work = [0i32; 8972];
@@ -108,14 +126,6 @@ fn main() {
     print_reencoding(text, &mut work, &mut log, &mut formula);
     let mut table = [0i32; 740];
     let mut short_table = [0i32; 739];
-    let mut line = [0u8; 21];
-    let mut short_line = [0u8; 20];
-    print_walk_back(text, &log, &mut short_table, &mut line);
-    print_walk_back(text, &log, &mut table, &mut short_line);
-    print_walk_back(text, &log, &mut table, &mut line);
-    let mut long_line = [0u8; 33];
-    let mut short_long_line = [0u8; 32];
-    print_carry_forward(text, &log, &mut short_table, &mut long_line);
-    print_carry_forward(text, &log, &mut table, &mut short_long_line);
-    print_carry_forward(text, &log, &mut table, &mut long_line);
+    print_walk_backs(text, &log, &mut table, &mut short_table);
+    print_carries_forward(text, &log, &mut table, &mut short_table);
 }

@@ -161,7 +161,7 @@ def _library() -> ctypes.CDLL:
     return library
 
 
-# The library holds its tables on the stack, up to 2.0 MB, and does not ask whether they fit.
+# The library holds its tables on the stack, up to 1.5 MB, and does not ask whether they fit.
 _STACK_BYTES = 32 << 20
 
 # Python has one stack size for all threads that are started: it is changed for the start of ours alone.

@@ -49,7 +49,7 @@ pub const MOST_BUFFER_BYTES: usize = 16 << 30;
 /// A solver that prints more is stopped.
 pub const MOST_PRINTED_BYTES: usize = 256 << 20;
 
-/// The library holds its tables on the stack, up to 2.0 MB, and does not ask whether they fit.
+/// The library holds its tables on the stack, up to 1.5 MB, and does not ask whether they fit.
 pub const STACK_BYTES: usize = 32 << 20;
 
 /// Work that takes longer is told of on standard error.

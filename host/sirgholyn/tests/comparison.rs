@@ -15,6 +15,7 @@ use model::generator::{
 };
 use model::reading::{read_formula, Formula, INPUT_LIMITS};
 use model::texts::{log_text, Line};
+use model::walk_back::highest_allowed;
 use model::ChoiceRecord;
 use sirgholyn::{Form, Settings};
 
@@ -306,6 +307,8 @@ fn carry_in_order(
         random.below(longest)
     };
     let line = carrying.line(text, &log, kept, &assignment, work, room);
+    // the formula's own log
+    assert!(![Err(32), Err(33), Err(46)].contains(&line));
     let changed =
         |line: &Vec<u8>| true_variables(line, formula) != true_variables(&assignment, formula);
     Carried {
@@ -377,13 +380,10 @@ fn carry_changed(
     let work = carrying_work(formula, &log, kept) + 1_000;
     let room = match carrying {
         Carrying::Back => 20 + 5 * formula.variables as usize,
-        Carrying::Forward => LONGEST_LINE,
+        Carrying::Forward => 20 + 6 * highest_allowed(formula, &lines) as usize,
     };
     carrying.compare(text, &log, kept, &assignment, work, room)
 }
-
-/// As many bytes as a line for 70,000 variables has at most.
-const LONGEST_LINE: usize = 4 + 7 * 70_000;
 
 #[test]
 fn library_and_model_agree() {

@@ -1,4 +1,4 @@
-//! Carrying forward: zeros after each refusal, logs of other formulas, and a large valley.
+//! Carrying forward: zeros after each refusal, what each line changes, logs of other formulas, and a large valley.
 
 mod common;
 
@@ -105,6 +105,39 @@ fn zeros_after_each_refusal() {
         assert_eq!(found, number);
         assert_eq!(line, vec![0; given.room], "{number}");
         assert_eq!(tally, [0; 3], "{number}");
+    }
+}
+
+// ---- lines
+
+/// What each kind of line changes, from a plan with 1 and 2 true.
+#[test]
+fn lines() {
+    let (formula, plan) = (b"p cnf 3 1\n1 2 0\n", b"s SATISFIABLE\nv 1 2 0\n");
+    for (log, expected) in [
+        ("", Ok("v 1 2 -3 0\n")),
+        // the first literal of an added clause that is false becomes true
+        ("4 -1 0\n", Ok("v 1 2 -3 4 0\n")),
+        ("-1 4 0\n", Ok("v -1 2 -3 -4 0\n")),
+        ("5 3 0\n4 -5 0\n", Ok("v 1 2 -3 4 5 0\n")),
+        // of one that is true, none
+        ("3 1 0\n", Ok("v 1 2 -3 0\n")),
+        ("3 -4 0\n", Ok("v 1 2 -3 -4 0\n")),
+        // a deletion changes nothing, even of a clause that is false
+        ("d 2 1 0\n", Ok("v 1 2 -3 0\n")),
+        ("4 0\n-4 0\nd 4 0\n", Ok("v 1 2 -3 -4 0\n")),
+        // nor does a line without literals, whose clause no values satisfy
+        ("0\nd 0\n", Ok("v 1 2 -3 0\n")),
+        ("0\n", Err(46)),
+        // what is tested is what stands in the end
+        ("4 0\n-4 0\n", Err(46)),
+        ("-1 0\n-2 0\n", Err(46)),
+        ("-1 0\n-2 0\nd 1 2 0\n", Ok("v -1 -2 -3 0\n")),
+    ] {
+        let kept = log.lines().count();
+        let line = Carrying::Forward.line(formula, log.as_bytes(), kept, plan, 1_000, 100);
+        let expected = expected.map(|line| line.as_bytes().to_vec());
+        assert_eq!(line, expected, "{log:?}");
     }
 }
 

@@ -86,12 +86,14 @@ pub fn carry_forward(args: &Args) -> Result<u8, Failure> {
     carry(args, sirgholyn::carry_forward, refused_carry_forward)
 }
 
+/// A call that carries an assignment over the kept lines of a log.
+type Carrying = fn(&[u8], &[u8], usize, &[u8], WalkBackRoom) -> Result<Vec<u8>, Error>;
+
+/// What is told of its refusal.
+type Refused = fn(Error, &[u8], &[u8], usize, &[u8]) -> Failure;
+
 /// Prints the line of an assignment that a call carries over the kept lines.
-fn carry(
-    args: &Args,
-    call: fn(&[u8], &[u8], usize, &[u8], WalkBackRoom) -> Result<Vec<u8>, Error>,
-    refused: fn(Error, &[u8], &[u8], usize, &[u8]) -> Failure,
-) -> Result<u8, Failure> {
+fn carry(args: &Args, call: Carrying, refused: Refused) -> Result<u8, Failure> {
     let room = WalkBackRoom {
         work: args.number("--work"),
         line: args.number("--room"),

@@ -5,8 +5,8 @@ r"""Verified reencoding of formulas for SAT solvers.
 >>> solve("p cnf 2 2\n1 2 0\n-1 0\n")
 [-1, 2]
 
-`reencode`, `walk_back`, `carry_forward` and `read_back` are the calls of the proved library, with buffers of their
-own:
+`sizes`, `reencode`, `walk_back`, `carry_forward` and `read_back` are the calls of the proved library, with buffers of
+their own:
 
 >>> formula = b"p cnf 3 2\n1 2 0\n-1 3 0\n"
 >>> new = reencode(formula)
@@ -48,12 +48,14 @@ __all__ = [
     "ReadBack",
     "Reencoding",
     "Refused",
+    "Sizes",
     "SolverFailed",
     "Undecided",
     "carry_forward",
     "plan",
     "read_back",
     "reencode",
+    "sizes",
     "solve",
     "walk_back",
 ]
@@ -136,11 +138,13 @@ _BYTES = [ctypes.POINTER(ctypes.c_uint8), ctypes.c_size_t]
 _ENTRIES = [ctypes.POINTER(ctypes.c_int32), ctypes.c_size_t]
 _COUNTS = [ctypes.POINTER(ctypes.c_uint64), ctypes.c_size_t]
 _TABLE = [ctypes.POINTER(_Choice), ctypes.c_size_t]
+_ASKED = _TEXT + 3 * [ctypes.c_uint32] + _ENTRIES
 _CARRYING = _TEXT + _TEXT + [ctypes.c_size_t] + _TEXT + _ENTRIES + _BYTES + _COUNTS
 
 # The arguments of host/include/sirgholyn.h; each call returns a uint32_t.
 _DECLARED: Dict[str, List[Any]] = {
-    "sirgholyn_reencode": _TEXT + 3 * [ctypes.c_uint32] + _ENTRIES + _BYTES + _BYTES + _TABLE + _COUNTS,
+    "sirgholyn_reencode": _ASKED + _BYTES + _BYTES + _TABLE + _COUNTS,
+    "sirgholyn_sizes": _ASKED + _COUNTS,
     "sirgholyn_walk_back": _CARRYING,
     "sirgholyn_carry_forward": _CARRYING,
     "sirgholyn_read_back": _TEXT + _ENTRIES + _COUNTS,
@@ -198,41 +202,29 @@ def _on_large_stack(call: Callable[[], int]) -> int:
     return outcome.result()
 
 
-# ---- buffers
+def _call(name: str, counts: int, *given: Any) -> List[int]:
+    """The counts of the call of this name. A text or a buffer is passed with its length."""
+    tally = _zeros(ctypes.c_uint64, counts)
+    passed: List[Any] = []
+    for each in (*given, tally):
+        passed += [each] if isinstance(each, int) else [each, len(each)]
+    function: Callable[..., int] = getattr(_library(), name)
+    number = _on_large_stack(lambda: function(*passed))
+    if number != 0:
+        raise Refused(number)
+    return list(tally)
 
-# No buffer grows beyond this; a call that wants more is refused.
-_MOST_BYTES = 16 << 30
+
+# ---- buffers
 
 # No accepted formula has more variables, and no log a higher one.
 _MOST_VARIABLES = 8_000
 _MOST_LOG_VARIABLES = 70_000
 
-# No accepted formula has more choices: each has 5 literals or more, and no variable stands in two.
-_MOST_CHOICES = _MOST_VARIABLES // 5
 
-
-class _Buffer:
-    """Elements lent to a call: exactly so many, or at first a guess."""
-
-    def __init__(self, element: Any, exact: Optional[int], guess: int) -> None:
-        self._element = element
-        self._exact = exact is not None
-        self.elements = _zeros(element, guess if exact is None else _count(exact))
-
-    def __len__(self) -> int:
-        return len(self.elements)
-
-    def grow(self) -> bool:
-        """Takes four times the room, unless the size is exact or there is no more to have."""
-        larger = len(self) * 4
-        if self._exact or larger * ctypes.sizeof(self._element) > _MOST_BYTES:
-            return False
-        self.elements = None
-        self.elements = _zeros(self._element, larger)
-        return True
-
-    def first_bytes(self, count: int) -> bytes:
-        return ctypes.string_at(self.elements, count)
+def _lent(element: Any, exact: Optional[int], enough: int) -> Any:
+    """Elements for a call: exactly so many where that is set, else as many as are enough."""
+    return _zeros(element, enough if exact is None else _count(exact))
 
 
 def _zeros(element: Any, count: int) -> Any:
@@ -241,16 +233,6 @@ def _zeros(element: Any, count: int) -> Any:
     except (MemoryError, OverflowError):
         size = count * ctypes.sizeof(element)
         raise MemoryError(f"no memory for a buffer of {size} bytes") from None
-
-
-def _call_until_it_fits(call: Callable[[], int], growing: Dict[int, _Buffer]) -> None:
-    """Calls again with a larger buffer, as long as the number is one that a larger buffer mends."""
-    while True:
-        number = _on_large_stack(call)
-        if number == 0:
-            return
-        if number not in growing or not growing[number].grow():
-            raise Refused(number)
 
 
 # ---- arguments
@@ -315,6 +297,53 @@ class Reencoding(NamedTuple):
     table: List[Choice]
 
 
+class Sizes(NamedTuple):
+    """The counts of a reencoding, and the bytes of its two texts."""
+
+    choices: int
+    highest: int
+    clauses: int
+    lines: int
+    log_bytes: int
+    formula_bytes: int
+
+
+def sizes(
+    text: Text,
+    *,
+    form: str = "counter",
+    align: bool = False,
+    step: int = 1,
+    work: Optional[int] = None,
+) -> Sizes:
+    r"""What `reencode` with these arguments will count; no text is written.
+
+    Its `log_room` wants `log_bytes`, its `formula_room` `formula_bytes` and its `table_room` `choices`: so much is
+    accepted, and one less refused.
+
+    Raises Refused with 15, 1 to 4, 7 to 9, 16; with 11 only where `work` is set.
+
+    >>> text = b"p cnf 8 3\n1 2 3 0\n-3 4 5 0\n-5 6 7 8 0\n"
+    >>> sizes(text, step=10)
+    Sizes(choices=1, highest=15, clauses=20, lines=27, log_bytes=266, formula_bytes=192)
+    >>> len(reencode(text, step=10).log)
+    266
+    """
+    return _counted("sirgholyn_sizes", *_asked(text, form, align, step, work))
+
+
+def _asked(text: Text, form: str, align: bool, step: int, work: Optional[int]) -> Tuple[Any, ...]:
+    """What both calls for a reencoding are given first: text, settings and workspace."""
+    text = _bytes(text)
+    settings = _form_number(form), int(bool(align)), _step_number(step)
+    workspace = _lent(ctypes.c_int32, work, _reading_workspace(text, 60_000, 20_000, _MOST_VARIABLES))
+    return (text, *settings, workspace)
+
+
+def _counted(name: str, *given: Any) -> Sizes:
+    return Sizes(*_call(name, len(Sizes._fields), *given))
+
+
 def reencode(
     text: Text,
     *,
@@ -331,7 +360,7 @@ def reencode(
     `form` is the form of the choices, 'counter' or 'order'; with `align` the literals of linked choices are put into
     the same order. A choice's first new variable is 1 more than a multiple of `step`, 1 to 100; the numbers that are
     skipped stand in no clause. `work` (32-bit entries), `log_room` and `formula_room` (bytes) and `table_room`
-    (records) set the size of a buffer exactly.
+    (records) set the size of a buffer exactly. Texts and table have the room that `sizes` tells where none is set.
 
     Raises Refused with 15, 1 to 4, 7 to 9, 16; with 11, 12, 13 and 17 only where the size of that buffer is set.
 
@@ -343,41 +372,24 @@ def reencode(
     >>> reencode(b"p cnf 8 3\n1 2 3 0\n-3 4 5 0\n-5 6 7 8 0\n", step=10).table
     [Choice(first=11, length=6, clauses=3)]
     """
-    text = _bytes(text)
-    form_number = _form_number(form)
-    arrangement = int(bool(align))
-    step_number = _step_number(step)
-    call: Callable[..., int] = _library().sirgholyn_reencode
-    workspace = _Buffer(ctypes.c_int32, work, _reading_workspace(text, 60_000, 20_000, _MOST_VARIABLES))
-    guess = min(len(text), 1 << 20)
-    log = _Buffer(ctypes.c_uint8, log_room, guess * 16 + (1 << 20))
-    formula = _Buffer(ctypes.c_uint8, formula_room, guess * 4 + (1 << 18))
-    table = _Buffer(_Choice, table_room, _MOST_CHOICES)
-    tally = _zeros(ctypes.c_uint64, 6)
-    _call_until_it_fits(
-        lambda: call(
-            text,
-            len(text),
-            form_number,
-            arrangement,
-            step_number,
-            workspace.elements,
-            len(workspace),
-            log.elements,
-            len(log),
-            formula.elements,
-            len(formula),
-            table.elements,
-            len(table),
-            tally,
-            len(tally),
-        ),
-        {11: workspace, 12: log, 13: formula, 17: table},
+    asked = _asked(text, form, align, step, work)
+    for room in (log_room, formula_room, table_room):
+        # one that is no count is told before the text is looked at
+        _count(0 if room is None else room)
+    needed = _counted("sirgholyn_sizes", *asked)
+    log = _lent(ctypes.c_uint8, log_room, needed.log_bytes)
+    new_formula = _lent(ctypes.c_uint8, formula_room, needed.formula_bytes)
+    table = _lent(_Choice, table_room, needed.choices)
+    done = _counted("sirgholyn_reencode", *asked, log, new_formula, table)
+    return Reencoding(
+        ctypes.string_at(log, done.log_bytes),
+        ctypes.string_at(new_formula, done.formula_bytes),
+        done.choices,
+        done.highest,
+        done.clauses,
+        done.lines,
+        [Choice(each.first, each.length, each.clauses) for each in table[: done.choices]],
     )
-    choices, highest, clauses, lines, log_bytes, formula_bytes = tally
-    records = [Choice(each.first, each.length, each.clauses) for each in table.elements[:choices]]
-    texts = log.first_bytes(log_bytes), formula.first_bytes(formula_bytes)
-    return Reencoding(*texts, choices, highest, clauses, lines, records)
 
 
 def walk_back(
@@ -442,29 +454,10 @@ def _carry(
     formula, log, assignment = _bytes(formula), _bytes(log), _bytes(assignment)
     # no log has more lines than Python's sizes count, and a larger number would not pass as it is
     lines = _lines(log) if kept is None else min(_count(kept), sys.maxsize)
-    call: Callable[..., int] = getattr(_library(), name)
-    workspace = _Buffer(ctypes.c_int32, work, 4 * (_words(formula) + _words(log)) + 4 * _MOST_LOG_VARIABLES + 64)
-    line = _Buffer(ctypes.c_uint8, room, _longest_line(most_variables))
-    tally = _zeros(ctypes.c_uint64, 1)
-    _call_until_it_fits(
-        lambda: call(
-            formula,
-            len(formula),
-            log,
-            len(log),
-            lines,
-            assignment,
-            len(assignment),
-            workspace.elements,
-            len(workspace),
-            line.elements,
-            len(line),
-            tally,
-            len(tally),
-        ),
-        {11: workspace, 14: line},
-    )
-    return line.first_bytes(tally[0])
+    workspace = _lent(ctypes.c_int32, work, 4 * (_words(formula) + _words(log)) + 4 * _MOST_LOG_VARIABLES + 64)
+    line = _lent(ctypes.c_uint8, room, _longest_line(most_variables))
+    [length] = _call(name, 1, formula, log, lines, assignment, workspace, line)
+    return ctypes.string_at(line, length)
 
 
 def _longest_line(variables: int) -> int:
@@ -506,16 +499,9 @@ def read_back(text: Text, *, work: Optional[int] = None) -> ReadBack:
     ReadBack(clauses=[[1, -2], []], variables=3, literals=2)
     """
     text = _bytes(text)
-    call: Callable[..., int] = _library().sirgholyn_read_back
-    store = _Buffer(ctypes.c_int32, work, _reading_workspace(text, 1_000_000, 300_000, 70_000))
-    tally = _zeros(ctypes.c_uint64, 3)
-    _call_until_it_fits(
-        lambda: call(text, len(text), store.elements, len(store), tally, len(tally)),
-        {11: store},
-    )
-    variables, clauses, literals = tally
-    entries = store.elements[: clauses + literals]
-    return ReadBack(_split(entries, clauses), variables, literals)
+    store = _lent(ctypes.c_int32, work, _reading_workspace(text, 1_000_000, 300_000, 70_000))
+    variables, clauses, literals = _call("sirgholyn_read_back", 3, text, store)
+    return ReadBack(_split(store[: clauses + literals], clauses), variables, literals)
 
 
 def _split(entries: List[int], count: int) -> List[List[int]]:

@@ -6,6 +6,7 @@ import contextlib
 import ctypes
 import doctest
 import io
+import itertools
 import os
 import pickle
 import re
@@ -22,7 +23,7 @@ from unittest import mock
 
 import sirgholyn
 from sirgholyn import Choice, Refused, SolverFailed, Undecided
-from sirgholyn import carry_forward, plan, read_back, reencode, solve, walk_back
+from sirgholyn import carry_forward, plan, read_back, reencode, sizes, solve, walk_back
 
 HERE = Path(__file__).resolve().parent
 ROOT = HERE.parent.parent
@@ -51,10 +52,22 @@ ALL_FALSE = b"s SATISFIABLE\nv 0\n"
 # the calls that carry an assignment over a log
 CARRYING = (walk_back, carry_forward)
 
+# the sizes of a reencoding's texts and table
+ROOMS = ("log_room", "formula_room", "table_room")
+
+# each form, with and without alignment
+WAYS = [dict(form=form, align=align) for form in ("counter", "order") for align in (False, True)]
+
 
 def cnf(variables, clauses):
     lines = [" ".join(map(str, [*clause, 0])) for clause in clauses]
     return "\n".join([f"p cnf {variables} {len(clauses)}", *lines, ""]).encode()
+
+
+def linked(*links):
+    """Two choices of five, and links between their literals."""
+    negated = [[-literal] for literal in range(1, 11) for _ in range(2)]
+    return cnf(10, [[1, 2, 3, 4, 5], [6, 7, 8, 9, 10], *links, *negated])
 
 
 def clash_chain(clashes):
@@ -71,6 +84,16 @@ def clash_chain(clashes):
     return cnf(clashes + 2 * own, clauses)
 
 
+def counted(new):
+    """What `sizes` says of a reencoding."""
+    return (new.choices, new.highest, new.clauses, new.lines, len(new.log), len(new.formula))
+
+
+def rooms(counts):
+    """The buffers that are just large enough for a reencoding with these counts."""
+    return dict(log_room=counts.log_bytes, formula_room=counts.formula_bytes, table_room=counts.choices)
+
+
 class Case(unittest.TestCase):
     def assert_refused(self, number, call, *args, **named):
         with self.assertRaises(Refused) as caught:
@@ -81,16 +104,16 @@ class Case(unittest.TestCase):
 
 class Sessions(Case):
     def expect(self, text, log, formula):
-        for form in ("counter", "order"):
-            for align in (False, True):
-                new = reencode(text, form=form, align=align)
-                self.assertEqual((new.log, new.formula), (log, formula))
-                self.assertEqual(new.lines, log.count(b"\n"))
-                header = f"p cnf {new.highest} {new.clauses}\n".encode()
-                self.assertTrue(formula.startswith(header))
-                self.assertEqual((new.choices, new.table), (0, []))
-                back = read_back(new.formula)
-                self.assertEqual((back.variables, len(back.clauses)), (new.highest, new.clauses))
+        for way in WAYS:
+            new = reencode(text, **way)
+            self.assertEqual((new.log, new.formula), (log, formula))
+            self.assertEqual(new.lines, log.count(b"\n"))
+            header = f"p cnf {new.highest} {new.clauses}\n".encode()
+            self.assertTrue(formula.startswith(header))
+            self.assertEqual((new.choices, new.table), (0, []))
+            back = read_back(new.formula)
+            self.assertEqual((back.variables, len(back.clauses)), (new.highest, new.clauses))
+            self.assertEqual(sizes(text, **way), counted(new))
 
     def test_a(self):
         self.expect(A, b"", b"p cnf 0 0\n")
@@ -123,10 +146,12 @@ class Sessions(Case):
         new = reencode(F)
         self.assertEqual(new[2:], (1, 10, 21, 18, [(7, 5, 1)]))
         self.assertEqual(len(read_back(new.formula).clauses), 21)
+        self.assertEqual(sizes(F), (1, 10, 21, 18, len(new.log), len(new.formula)))
 
     def test_g_and_h(self):
         new = reencode(F, form="order")
         self.assertEqual(new[1:], (G, 1, 10, 8, 41, [(7, 5, 1)]))
+        self.assertEqual(sizes(F, form="order"), (1, 10, 8, 41, len(new.log), len(G)))
         self.assertEqual(read_back(G).clauses[4], [7, -8, 6])
         self.assertEqual(read_back(G)[1:], (10, 19))
         self.assertEqual(walk_back(F, new.log, H_ANSWER), H_LINE)
@@ -184,8 +209,7 @@ class Sessions(Case):
         self.assertEqual(len(reencode(cnf(8000, [range(v, v + 5) for v in range(1, 8000, 5)])).table), 1600)
 
     def test_alignment(self):
-        negated = [[-literal] for literal in range(1, 11) for _ in range(2)]
-        text = cnf(10, [[1, 2, 3, 4, 5], [6, 7, 8, 9, 10], [-1, -8], [-2, -6], *negated])
+        text = linked([-1, -8], [-2, -6])
         for form in ("counter", "order"):
             self.assertIn(b"\nd 6 7 8 9 10 0\n", reencode(text, form=form).log)
             self.assertIn(b"\nd 8 6 7 9 10 0\n", reencode(text, form=form, align=True).log)
@@ -207,11 +231,59 @@ class Sessions(Case):
         self.assertEqual(walk_back(JOINED_F, new.log, H_ANSWER), H_LINE)
 
     def test_results_are_plain(self):
+        self.assertEqual([type(part) for part in sizes(F)], 6 * [int])
         new = reencode(F)
         self.assertEqual([type(part) for part in new], [bytes, bytes, int, int, int, int, list])
         self.assertEqual([type(part) for part in new.table[0]], [int, int, int])
         for carry in CARRYING:
             self.assertIs(type(carry(A, b"", ALL_FALSE)), bytes)
+
+
+class Beforehand(Case):
+    """The sizes of a reencoding before it is run."""
+
+    def test_sizes_are_those_of_the_run(self):
+        valley = (ROOT / "examples" / "valley.cnf").read_bytes()
+        for text in (F, JOINED_F, COPIES, CHAIN, clash_chain(60), valley):
+            for way, step in itertools.product(WAYS, (1, 7, 100)):
+                self.assertEqual(sizes(text, **way, step=step), counted(reencode(text, **way, step=step)))
+
+    def test_every_setting_counts(self):
+        text = linked([-1, -8], [-2, -10])
+        told = [sizes(text, **way, step=step) for way in WAYS for step in (1, 7, 100)]
+        self.assertEqual(told, [counted(reencode(text, **way, step=step)) for way in WAYS for step in (1, 7, 100)])
+        self.assertEqual(len(set(told)), 12)
+
+    def test_exact_rooms(self):
+        two = cnf(11, [range(1, 6), range(6, 12)])
+        for text, way in itertools.product((F, COPIES, CHAIN, two), WAYS):
+            new = reencode(text, **way, step=7)
+            exact = rooms(sizes(text, **way, step=7))
+            self.assertEqual(reencode(text, **way, step=7, **exact), new)
+            for number, name in ((12, "log_room"), (13, "formula_room"), (17, "table_room")):
+                for room in (exact[name] - 1, 0):
+                    short = dict(exact, **{name: room})
+                    self.assert_refused(number, reencode, text, **way, step=7, **short)
+
+    def test_nothing_to_write(self):
+        self.assertEqual(sizes(A), (0, 0, 0, 0, 0, len(b"p cnf 0 0\n")))
+        self.assertEqual(reencode(A, **rooms(sizes(A))), reencode(A))
+
+    def test_work(self):
+        """By the literals that are kept, and the header's clauses and variables."""
+        for text, clauses in ((F, 7), (JOINED_F, 9)):
+            work = 40 * 17 + 4 * clauses + 12 * 6 + 8_192
+            for call, way in itertools.product((sizes, reencode), WAYS):
+                self.assertEqual(call(text, **way, work=work), call(text, **way))
+                self.assert_refused(11, call, text, **way, work=work - 1)
+                self.assert_refused(11, call, text, **way, work=0)
+
+    def test_many_choices(self):
+        many = cnf(8000, [range(v, v + 5) for v in range(1, 8000, 5)])
+        self.assertEqual(sizes(many, step=38)[:2], (1600, 68_784))
+        for call in (sizes, reencode):
+            self.assert_refused(16, call, many, step=39)
+            self.assert_refused(11, call, many, step=39, work=0)
 
 
 class Refusals(Case):
@@ -222,7 +294,11 @@ class Refusals(Case):
         texts[2] = b"p cnf 8001 0\n"
         texts[9] = cnf(2000, [list(range(1, 2001))] * 30 + [[1]])
         for number, text in texts.items():
-            self.assert_refused(number, reencode, text)
+            for call in (sizes, reencode):
+                self.assert_refused(number, call, text)
+                # which comes before the workspace, and the step before it
+                self.assert_refused(number, call, text, work=0)
+                self.assert_refused(15, call, text, work=0, step=0)
             for carry in CARRYING:
                 self.assert_refused(number, carry, text, b"", ALL_FALSE)
             if number not in (2, 9):
@@ -231,14 +307,6 @@ class Refusals(Case):
         self.assert_refused(9, read_back, cnf(2000, [list(range(1, 2001))] * 500 + [[1]]))
 
     def test_caller(self):
-        new = reencode(F)
-        work = 40 * 17 + 4 * 7 + 12 * 6 + 8_192
-        exact = dict(work=work, log_room=len(new.log), formula_room=len(new.formula), table_room=1)
-        self.assertEqual(reencode(F, **exact), new)
-        for number, name in ((11, "work"), (12, "log_room"), (13, "formula_room"), (17, "table_room")):
-            self.assert_refused(number, reencode, F, **dict(exact, **{name: exact[name] - 1}))
-            self.assert_refused(number, reencode, F, **dict(exact, **{name: 0}))
-
         new = reencode(F, form="order")
         numbers = len(new.log.replace(b"d ", b"").split())
         for carry, given, line in ((walk_back, H_ANSWER, H_LINE), (carry_forward, H_PLAN, FORWARD)):
@@ -252,13 +320,27 @@ class Refusals(Case):
         self.assertEqual(read_back(G, work=work), read_back(G))
         self.assert_refused(11, read_back, G, work=work - 1)
 
+    def test_order_of_the_rooms(self):
+        """Of the buffers that are short the first is told, whichever of the others are set."""
+        new = reencode(F)
+        exact = dict(
+            work=40 * 17 + 4 * 7 + 12 * 6 + 8_192, table_room=1, log_room=len(new.log), formula_room=len(new.formula)
+        )
+        for less in itertools.product((None, 0, 1), repeat=4):
+            given = {name: exact[name] - by for name, by in zip(exact, less) if by is not None}
+            short = [number for number, by in zip((11, 17, 12, 13), less) if by == 1]
+            if short:
+                self.assert_refused(short[0], reencode, F, **given)
+            else:
+                self.assertEqual(reencode(F, **given), new)
+
     def test_step(self):
         for step in (0, 101, 2**32, 2**32 + 1, 10**30):
-            self.assert_refused(15, reencode, F, step=step)
-            self.assert_refused(15, reencode, b"", step=step)
+            for call in (sizes, reencode):
+                self.assert_refused(15, call, F, step=step)
+                self.assert_refused(15, call, b"", step=step)
         many = cnf(8000, [range(v, v + 5) for v in range(1, 8000, 5)])
         self.assertEqual(reencode(many, step=38).highest, 68_784)
-        self.assert_refused(16, reencode, many, step=39)
         self.assert_refused(16, reencode, many, step=39, table_room=0)
         self.assert_refused(17, reencode, many, step=38, table_room=1599, log_room=0)
 
@@ -300,11 +382,14 @@ class Refusals(Case):
         numbers = set()
         for place in range(len(JOINED_F)):
             for put in (b"", JOINED_F[place : place + 1] * 2, b"0", b"9", b"-", b" ", b"\n", b"\x00", b"\xff"):
+                text = JOINED_F[:place] + put + JOINED_F[place + 1 :]
                 try:
-                    new = reencode(JOINED_F[:place] + put + JOINED_F[place + 1 :], form="order")
+                    new = reencode(text, form="order")
                     self.assertTrue(new.formula.startswith(b"p cnf "))
+                    self.assertEqual(sizes(text, form="order"), counted(new))
                 except Refused as refused:
                     numbers.add(refused.number)
+                    self.assert_refused(refused.number, sizes, text, form="order")
         self.assertEqual(numbers, {1, 3, 4, 7, 8})
 
     def test_damaged_logs_and_answers(self):
@@ -342,7 +427,8 @@ class Refusals(Case):
 
 class Arguments(Case):
     def test_str_is_its_utf8(self):
-        self.assertEqual(reencode(F.decode()), reencode(F))
+        for call in (sizes, reencode):
+            self.assertEqual(call(F.decode()), call(F))
         for carry in CARRYING:
             self.assertEqual(carry(A.decode(), "", ALL_FALSE.decode()), b"v 0\n")
         self.assertEqual(read_back(G.decode()), read_back(G))
@@ -365,27 +451,36 @@ class Arguments(Case):
 
     def test_wrong_types(self):
         for text in (None, 1, bytearray(F), memoryview(F), [F], F.split()):
-            for call in (reencode, read_back, plan, solve):
+            for call in (sizes, reencode, read_back, plan, solve):
                 self.assertRaises(TypeError, call, text)
             for carry in CARRYING:
                 for given in ((text, b"", ALL_FALSE), (A, text, ALL_FALSE), (A, b"", text)):
                     self.assertRaises(TypeError, carry, *given)
         for size in ("1", 1.5, b"1", [1]):
-            self.assertRaises(TypeError, reencode, A, work=size)
-            self.assertRaises(TypeError, reencode, A, step=size)
-            self.assertRaises(TypeError, solve, A, step=size)
+            for call in (sizes, reencode):
+                self.assertRaises(TypeError, call, A, work=size)
+            for call in (sizes, reencode, solve):
+                self.assertRaises(TypeError, call, A, step=size)
+            for room in ROOMS:
+                self.assertRaises(TypeError, reencode, b"", **{room: size})
             for carry in CARRYING:
                 self.assertRaises(TypeError, carry, A, b"", ALL_FALSE, kept=size)
-        self.assertRaises(TypeError, reencode, A, "order")
+        for call in (sizes, reencode):
+            self.assertRaises(TypeError, call, A, "order")
         self.assertRaises(TypeError, solve, A, timeout="1")
         self.assertRaises(TypeError, solve, A, proof=1)
 
     def test_wrong_values(self):
         for form in ("Order", "", None, 1):
-            self.assertRaises(ValueError, reencode, A, form=form)
-            self.assertRaises(ValueError, solve, A, form=form)
-        self.assertRaises(ValueError, reencode, A, work=-1)
-        self.assertRaises(ValueError, reencode, A, step=-1)
+            for call in (sizes, reencode, solve):
+                self.assertRaises(ValueError, call, A, form=form)
+        for call in (sizes, reencode):
+            self.assertRaises(ValueError, call, A, work=-1)
+            self.assertRaises(ValueError, call, A, step=-1)
+        for room in ROOMS:
+            # told before the text is looked at, which would be refused
+            with self.assertRaisesRegex(ValueError, "wanted a count"):
+                reencode(b"", **{room: -1})
         for carry in CARRYING:
             self.assertRaises(ValueError, carry, A, b"", ALL_FALSE, kept=-1)
         for line in (b"", b"v", b"v 1", b"1 0", b"v x 0"):
@@ -393,7 +488,17 @@ class Arguments(Case):
 
 
 class Buffers(Case):
-    def test_growth(self):
+    def lent(self, call, *args, **named):
+        """The elements of each buffer that a function makes, and how many; how often it calls the library."""
+        watched = {name: mock.DEFAULT for name in ("_zeros", "_on_large_stack")}
+        whole = {name: getattr(sirgholyn, name) for name in watched}
+        with mock.patch.multiple(sirgholyn, **watched) as mocks:
+            for name, watching in mocks.items():
+                watching.side_effect = whole[name]
+            call(*args, **named)
+        return [made.args for made in mocks["_zeros"].call_args_list], mocks["_on_large_stack"].call_count
+
+    def test_long_log(self):
         text = clash_chain(400)
         new = reencode(text)
         self.assertGreater(len(new.log), 100 * len(text) // 2)
@@ -401,37 +506,52 @@ class Buffers(Case):
         self.assertEqual(reencode(text, log_room=len(new.log)), new)
         self.assert_refused(44, walk_back, text, new.log, ALL_FALSE)
 
-    def test_each_buffer_grows(self):
-        new = reencode(F, form="order")
-        back = read_back(G)
-        two = cnf(10, [range(1, 6), range(6, 11)])
-        table = reencode(two).table
-        start = sirgholyn._Buffer.__init__
+    def test_each_buffer_is_made_once(self):
+        counts = sizes(F, form="order")
+        work, tally = (ctypes.c_int32, 10_000), (ctypes.c_uint64, 6)
+        texts = [(ctypes.c_uint8, counts.log_bytes), (ctypes.c_uint8, counts.formula_bytes)]
+        made = [work, tally, *texts, (sirgholyn._Choice, 1), tally]
+        self.assertEqual(self.lent(reencode, F, form="order", work=10_000), (made, 2))
+        made[2:5] = [(ctypes.c_uint8, 5_000), (ctypes.c_uint8, 500), (sirgholyn._Choice, 50)]
+        set_rooms = dict(log_room=5_000, formula_room=500, table_room=50)
+        self.assertEqual(self.lent(reencode, F, form="order", work=10_000, **set_rooms), (made, 2))
+        self.assertEqual(self.lent(sizes, F, work=10_000), ([work, tally], 1))
+        self.assertEqual(self.lent(read_back, G, work=10_000), ([work, (ctypes.c_uint64, 3)], 1))
+        log = reencode(F, form="order").log
+        for carry, given in ((walk_back, H_ANSWER), (carry_forward, H_PLAN)):
+            made = [work, (ctypes.c_uint8, 500), (ctypes.c_uint64, 1)]
+            self.assertEqual(self.lent(carry, F, log, given, work=10_000, room=500), (made, 1))
 
-        def small(self, element, exact, guess):
-            start(self, element, exact, 1)
+    def test_longest_workspaces(self):
+        """As many literals, clauses and variables as a formula has at most."""
+        most = cnf(8_000, 10 * [range(v, v + 3) for v in range(1, 6_001, 3)])
+        self.assertEqual(sizes(most)[:4], (0, 8_000, 20_000, 0))
+        self.assert_refused(11, sizes, most, work=40 * 60_000 + 4 * 20_000 + 12 * 8_000 + 8_191)
+        most = cnf(70_000, 100_000 * [[1, 2, 3, 4], [5, 6, 7, 8], [9, 10]])
+        self.assertEqual(read_back(most)[1:], (70_000, 1_000_000))
 
-        with mock.patch.object(sirgholyn._Buffer, "__init__", small):
-            self.assertEqual(reencode(F, form="order"), new)
-            self.assertEqual(reencode(two).table, table)
-            self.assertEqual(walk_back(F, new.log, H_ANSWER), H_LINE)
-            self.assertEqual(carry_forward(F, new.log, H_PLAN), FORWARD)
-            self.assertEqual(read_back(G), back)
-            with mock.patch.object(sirgholyn, "_MOST_BYTES", 500):
-                self.assert_refused(11, reencode, F)
-                self.assert_refused(12, reencode, F, form="order", work=10_000)
+    def test_words_of_a_workspace(self):
+        """They are counted whatever stands between them; here only they say how much is enough."""
+        words = [b"%d" % number for number in (*range(1, 8_001), 0)] * 7
+        for separator in (b" ", b"\t", b"\r", b"\n"):
+            text = b"p cnf 8000 7\n" + separator.join(words)
+            self.assertEqual(sizes(text).clauses, 7)
+            self.assertEqual(read_back(text).literals, 56_000)
+            for carry in CARRYING:
+                line = carry(text, 7_000 * b"-70000 0\n", b"s SATISFIABLE\nv 1 0\n")
+                self.assertTrue(line.startswith(b"v 1 -2 "))
 
     def test_longest_line(self):
         line = carry_forward(A, b"-70000 0\n", ALL_FALSE)
         # not shown where they differ, which would take very long
         self.assertTrue(plan(line) == list(range(-1, -70_001, -1)))
-        with mock.patch.object(sirgholyn._Buffer, "grow", lambda self: False):
-            self.assertTrue(carry_forward(A, b"-70000 0\n", ALL_FALSE) == line)
 
     def test_no_memory(self):
         for size in (2**60, 2**62, 2**64, 10**30):
-            self.assertRaises(MemoryError, reencode, A, work=size)
-            self.assertRaises(MemoryError, reencode, A, table_room=size)
+            for call in (sizes, reencode):
+                self.assertRaises(MemoryError, call, A, work=size)
+            for room in ROOMS:
+                self.assertRaises(MemoryError, reencode, A, **{room: size})
             for carry in CARRYING:
                 self.assertRaises(MemoryError, carry, A, b"", ALL_FALSE, room=size)
             self.assertRaises(MemoryError, read_back, A, work=size)
@@ -439,13 +559,11 @@ class Buffers(Case):
 
 class Threads(Case):
     def test_four_at_once(self):
-        ways = [(form, align) for form in ("counter", "order") for align in (False, True)]
-        expected = [reencode(F, form=form, align=align) for form, align in ways]
+        expected = [reencode(F, **way) for way in WAYS]
 
         def work(own):
-            form, align = ways[own]
             for _ in range(50):
-                self.assertEqual(reencode(F, form=form, align=align), expected[own])
+                self.assertEqual(reencode(F, **WAYS[own]), expected[own])
                 self.assert_refused(4, reencode, b"p cnf 1 1\n2 0\n")
             return own
 
@@ -467,6 +585,7 @@ class Threads(Case):
         log = reencode(F, form="order").log
 
         def carry():
+            lines.append(sizes(F).lines)
             lines.append(walk_back(F, log, H_ANSWER))
             lines.append(carry_forward(F, log, H_PLAN))
 
@@ -478,7 +597,7 @@ class Threads(Case):
             self.assertEqual(threading.stack_size(), 256 << 10)
         finally:
             threading.stack_size(before)
-        self.assertEqual(lines, [H_LINE, FORWARD])
+        self.assertEqual(lines, [18, H_LINE, FORWARD])
 
     def test_a_call_that_raises(self):
         def call():
@@ -504,14 +623,13 @@ class Library(Case):
             name: [known[re.sub(r"\w+$", "", parameter.strip())] for parameter in parameters.split(",")]
             for name, parameters in re.findall(r"^uint32_t (sirgholyn_\w+)\(([^)]*)\);", header, re.MULTILINE)
         }
-        self.assertEqual(len(declared), 4)
+        self.assertEqual(len(declared), 5)
         self.assertEqual(declared, sirgholyn._DECLARED)
         body = re.search(r"struct sirgholyn_choice \{([^}]*)\}", header).group(1)
         fields = [(name, ctypes.c_uint32) for name in re.findall(r"^    uint32_t (\w+);", body, re.MULTILINE)]
         self.assertEqual(fields, sirgholyn._Choice._fields_)
         self.assertEqual([name for name, _ in fields], list(Choice._fields))
         self.assertEqual(ctypes.sizeof(sirgholyn._Choice), 12)
-        self.assertIn(f"#define SIRGHOLYN_MOST_CHOICES {sirgholyn._MOST_CHOICES}\n", header)
 
     def test_missing(self):
         with tempfile.TemporaryDirectory() as folder:
@@ -680,7 +798,7 @@ class Texts(Case):
         self.assertGreater(tried, 8)
 
     def test_every_function_has_an_example(self):
-        for name in ("carry_forward", "plan", "read_back", "reencode", "solve", "walk_back"):
+        for name in ("carry_forward", "plan", "read_back", "reencode", "sizes", "solve", "walk_back"):
             self.assertIn(">>> ", getattr(sirgholyn, name).__doc__)
 
     def test_readme(self):

@@ -147,7 +147,8 @@ struct sirgholyn_choice {
     uint32_t clauses;                     /* input clauses resolved into it; 1: it is one itself */
 };
 
-/* A table of so many records is long enough for any formula. */
+/* A table of so many records is long enough for any formula. How many records and bytes a formula
+ * wants, sirgholyn_sizes tells beforehand. */
 #define SIRGHOLYN_MOST_CHOICES 1600
 
 /* The 32-bit entries of workspace that are enough, with one fewer number 11; for reading back too.
@@ -155,7 +156,7 @@ struct sirgholyn_choice {
 #define SIRGHOLYN_WORK(L, C, V) \
     ((size_t)40 * (L) + (size_t)4 * (C) + (size_t)12 * (V) + (size_t)8192)
 
-/* The counts of a reencoding by their index in the tally, and how many there are. */
+/* The counts of a reencoding and its sizes by their index in the tally, and how many there are. */
 enum sirgholyn_reencode_count {
     SIRGHOLYN_REENCODE_CHOICES = 0,
     SIRGHOLYN_REENCODE_HIGHEST = 1,       /* H, the highest variable used */
@@ -186,6 +187,22 @@ uint32_t sirgholyn_reencode(
     uint8_t *log, size_t log_len,
     uint8_t *formula, size_t formula_len,
     struct sirgholyn_choice *table, size_t table_len,
+    uint64_t *tally, size_t tally_len);
+
+/* Tells the counts of a reencoding before it is run, and so the sizes of its buffers. No text is
+ * written.
+ *   text, form, arrangement, step, work
+ *                those of sirgholyn_reencode
+ *   tally        written: the counts, of enum sirgholyn_reencode_count
+ * Returns 0, or 15, 1 to 4, 7 to 9, 11, 16, in this order. With 0, sirgholyn_reencode over as many
+ * entries of workspace is not refused where log, formula and table have exactly as many bytes and
+ * records as the tally says; where one of them has one less, it is, with 12, 13 or 17. */
+uint32_t sirgholyn_sizes(
+    const uint8_t *text, size_t text_len,
+    uint32_t form,
+    uint32_t arrangement,
+    uint32_t step,
+    int32_t *work, size_t work_len,
     uint64_t *tally, size_t tally_len);
 
 /* ---- walk-back */

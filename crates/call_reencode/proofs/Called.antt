@@ -39,11 +39,12 @@ use Rattle.run.specs.declared.Settings.{Settings}
 use Rattle.run.specs.Run.{row-numbers}
 use Rattle.run.proofs.Settings as S
 use Rattle.run.proofs.Settings.Laws as S′
-use Rattle.call_reencode.specs.declared.Reencoding.{Reencoding}
+use Rattle.formula_run.specs.declared.Tallied.{Tallied}
+use Rattle.formula_run.specs.Outcome.{outcome-of}
+use Rattle.formula_run.proofs.Tallied as E
+use Rattle.formula_run.proofs.Tallied.Laws as E′
 use Rattle.call_reencode.specs.declared.Made.{Made}
-use Rattle.call_reencode.specs.Outcome.{outcome-of, outcome, shown-table}
-use Rattle.call_reencode.proofs.Reencoding as E
-use Rattle.call_reencode.proofs.Reencoding.Laws as E′
+use Rattle.call_reencode.specs.Outcome.{outcome, shown-table}
 use Rattle.call_reencode.proofs.Made as R
 use Rattle.call_reencode.proofs.Made.Laws as R′
 use Rattle.call_reencode.proofs.reencode_rows as reencode-rows
@@ -56,7 +57,7 @@ made-val r = LL.val R.the-type R′.the-laws r
 abbrev pub settings-val : Settings → Val
 settings-val s = LL.val S.the-type S′.the-laws s
 
-abbrev pub answer-val : Reencoding → Val
+abbrev pub answer-val : Tallied → Val
 answer-val a = EL.val E.the-type E′.the-laws a
 
 -- both buffers and the table after an outcome
@@ -192,7 +193,7 @@ module _ {M : Type 1} (𝓤 : URA M) (H : Heap 𝓤) (A : Atoms 𝓤) (W : Given
     pub gives-reencode : (w : Val) → ent 𝓤 (Reencode 𝓤 H A mem run .post to-reencode w) (H .⇛ (ex 𝓤 (λ (us : List ℤ). Promised₁ w us)))
     gives-reencode w =
         qed W (raw (Reencode 𝓤 H A mem run .post to-reencode w) ∷ []) ∵ updating ! $
-        use1 W (later (some (λ (r : Reencoding). (raw (toks 𝓤 A 5 κs qs) ⊛ ‵ (E.the-row .own r (w ∷ [])))
+        use1 W (later (some (λ (r : Tallied). (raw (toks 𝓤 A 5 κs qs) ⊛ ‵ (E.the-row .own r (w ∷ [])))
         ⊛ raw (ensured 𝓤 H A reencode.ended (reencode.clauses 𝓤 H A mem run) κs arg₁ tt r)))) (id⊢ 𝓤 _) $ await ! tt $ pick ! (λ r.
         split ! $ move ! (1 ∷ []) $ use1 W (some (λ (ls : Unit {0} × (Unit {0} × (List ℤ × (List ℕ × (List ℕ × (List ChoiceRecord × Unit {0})))))). ‵ (lasts reencode.ended κs arg₁ ls)
         ⊛ (raw (fact 𝓤 (r ≡ outcome-of o₁)) ⊛ (raw (fact 𝓤 (ls .1 .1 .1 .0 ≡ log-after o₁ (log .now))) ⊛ (raw (fact 𝓤 (ls .1 .1 .1 .1 .0 ≡ formula-after o₁ (formula .now))) ⊛ raw (fact 𝓤 (ls .1 .1 .1 .1 .1 .0 ≡ table-after o₁ (table .now)))))))) (id⊢ 𝓤 _) $ pick ! (λ ls.
@@ -203,7 +204,7 @@ module _ {M : Type 1} (𝓤 : URA M) (H : Heap 𝓤) (A : Atoms 𝓤) (W : Given
         move ! (1 ∷ []) $ fsplit ! $ fsplit ! $ rewrite ! 0 (λ (l : List ℕ). ‵ (finally u8 (formula .name) l)) formed refl $ move ! (1 ∷ []) $ feqL ! (λ long₂.
         move ! (1 ∷ []) $ fsplit ! $ fsplit ! $ rewrite ! 0 (λ (l : List ChoiceRecord). ‵ (finally T.the-row (table .name) l)) tabled refl $ move ! (1 ∷ []) $ feqL ! (λ long₃.
         -- [table; true; formula; log; work; the tokens and the result]
-        move ! (5 ∷ []) $ split ! $ move ! (1 ∷ []) $ rewrite ! 0 (λ (v : Reencoding). ‵ (E.the-row .own v (w ∷ []))) answered refl $ peeks ! E.the-row (Is E.the-row) (shows 𝓤 H A E.the-row) (outcome-of o₁) (w ∷ []) (λ is.
+        move ! (5 ∷ []) $ split ! $ move ! (1 ∷ []) $ rewrite ! 0 (λ (v : Tallied). ‵ (E.the-row .own v (w ∷ []))) answered refl $ peeks ! E.the-row (Is E.the-row) (shows 𝓤 H A E.the-row) (outcome-of o₁) (w ∷ []) (λ is.
         move ! (1 ∷ []) $ tokens-apart ! 5 κs qs $
         -- [[text]; [work]; [log]; [formula]; [table]; the result; table; true; formula; log; work]
         let told = EL.tells E.the-type E′.the-laws (outcome-of o₁) (w ∷ []) is in

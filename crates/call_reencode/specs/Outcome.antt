@@ -1,17 +1,15 @@
--- What the call answers: the definition's outcome, and number and values of each case.
+-- What the call answers: the definition's outcome. Number and values of each case are `formula_run`'s `outcome-of`.
 use mathlib.Core.List.{List, map}
 use Prim.Native.Nat.{ℕ}
 use lib.IntN.{ℤ}
 use lib.ListN.{length}
-use Rattle.definition.specs.Checked.{Checked, fault, value}
+use Rattle.definition.specs.Checked.{Checked}
 use Rattle.definition.specs.Text.{Bytes}
 use Rattle.definition.specs.Calls.{Reencoded, reencode}
 use Rattle.records.specs.declared.ChoiceRecord.{ChoiceRecord}
 use Rattle.records.specs.Rows.{shown-record}
 use Rattle.run.specs.declared.Settings.{Settings}
 use Rattle.run.specs.Settings.{settings-of}
-use Rattle.call_reencode.specs.declared.Reencoding as Code
-use Rattle.call_reencode.specs.declared.Reencoding.the-variants as Reencoding
 
 -- the outcome of a call: settings, text, workspace, both buffers and the number of the table's records
 abbrev pub outcome : Settings → Bytes → List ℤ → Bytes → Bytes → ℕ → Checked Reencoded
@@ -24,17 +22,3 @@ most-choices = 1600
 -- the records that are written
 abbrev pub shown-table : Reencoded → List ChoiceRecord
 shown-table r = map shown-record (r .table)
-
--- a refusal is its number; the result carries choices, H, M, log lines and both byte lengths
-abbrev pub outcome-of : Checked Reencoded → Code.Reencoding
-outcome-of (fault n) = Reencoding.Refused n
-outcome-of (value r) =
-    Reencoding.Done
-    (record {
-      choices = r .tally .choices;
-      highest = r .tally .highest;
-      clauses = r .tally .clauses;
-      lines = r .tally .lines;
-      «log_bytes» = r .tally .log-bytes;
-      «formula_bytes» = r .tally .formula-bytes;
-    })

@@ -1,4 +1,4 @@
--- The outcome of each call, and the buffers after it ("Log and new formula", "Walk-back", "Who can be turned back", M-121).
+-- The outcome of each call, and the buffers after it ("Log and new formula", "Walk-back", "Who can be turned back", M-121, M-126).
 use mathlib.Core.Bool.{Bool, not, _&&_, cond}
 use mathlib.Core.List.{List, _++_}
 use Prim.Native.Nat.{ℕ, _+_, _*_, max}
@@ -69,22 +69,33 @@ workspace-need i = 40 * literals-of (i .formula) + 4 * i .clauses + 12 * i .high
 unfoldable pub step-allowed : ℕ → Bool
 step-allowed g = leb 1 g && leb g 100
 
--- 16 (H would pass 70,000), 17 (table shorter than the choices), 12, 13, by the records of the table and the bytes of the two buffers
-unfoldable pub fitted : ℕ → ℕ → ℕ → Reencoded → Checked Reencoded
-fitted table-room log-room formula-room r =
-    refuse-if (ltb 70_000 (r .tally .highest)) 16
-    (refuse-if (ltb table-room (r .tally .choices)) 17
-    (refuse-if (ltb log-room (length (r .log))) 12
-    (refuse-if (ltb formula-room (length (r .formula))) 13
-    (value r))))
+-- 16: H would pass 70,000
+unfoldable pub limited : Reencoded → Checked Reencoded
+limited r = refuse-if (ltb 70_000 (r .tally .highest)) 16 (value r)
 
--- 15, tested first of all; 1 to 4, 7 to 9, 11, 16, 17, 12, 13; the four numbers are the entries of workspace, the bytes of the two buffers and the records of the table
-unfoldable pub reencode : Settings → ℕ → ℕ → ℕ → ℕ → Bytes → Checked Reencoded
-reencode s workspace log-room formula-room table-room t =
+-- the run that reencoding and M-126's sizes share: 15, tested first of all; 1 to 4, 7 to 9, 11, 16; the number is the entries of workspace
+unfoldable pub run : Settings → ℕ → Bytes → Checked Reencoded
+run s workspace t =
     refuse-if (not (step-allowed (s .step))) 15
     (read-input t >>= λ i.
     refuse-if (ltb workspace (workspace-need i)) 11
-    (fitted table-room log-room formula-room (reencoded s i)))
+    (limited (reencoded s i)))
+
+-- 17 (table shorter than the choices), 12, 13, by the records of the table and the bytes of the two buffers
+unfoldable pub fitted : ℕ → ℕ → ℕ → Reencoded → Checked Reencoded
+fitted table-room log-room formula-room r =
+    refuse-if (ltb table-room (r .tally .choices)) 17
+    (refuse-if (ltb log-room (length (r .log))) 12
+    (refuse-if (ltb formula-room (length (r .formula))) 13
+    (value r)))
+
+-- the run, then 17, 12, 13; the four numbers are the entries of workspace, the bytes of the two buffers and the records of the table
+unfoldable pub reencode : Settings → ℕ → ℕ → ℕ → ℕ → Bytes → Checked Reencoded
+reencode s workspace log-room formula-room table-room t = run s workspace t >>= fitted table-room log-room formula-room
+
+-- M-126, size before the run: its result alone, "and the refusals are the run's, save 12, 13 and 17"
+unfoldable pub sizes : Settings → ℕ → Bytes → Checked Tally
+sizes s workspace t = run s workspace t >>= λ r. value (r .tally)
 
 -- ---- the new formula read back: 1 to 4, 7 to 9, then 11
 unfoldable pub read-back : ℕ → Bytes → Checked Input
@@ -175,5 +186,5 @@ buffer-after nought (value a) written before = written a ++ drop (length (writte
 
 -- all of this file, for a proof that computes: `unfolding computing` opens every name of the next line
 unfoldable pub computing : Unit {0}
-unfolding read-input reencoded workspace-need step-allowed fitted reencode read-back assigned answer-text fitting-line numbers-of log-workspace-need highest-allowed read-texts carry-answer walk-back carry-plan carry-forward buffer-after
+unfolding read-input reencoded workspace-need step-allowed limited run fitted reencode sizes read-back assigned answer-text fitting-line numbers-of log-workspace-need highest-allowed read-texts carry-answer walk-back carry-plan carry-forward buffer-after
 computing = tt

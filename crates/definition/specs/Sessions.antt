@@ -9,7 +9,7 @@ use lib.Dec.{T, eqb}
 use Rattle.definition.specs.Lists
 use Rattle.definition.specs.Lists.{all, for-each, for-from}
 use Rattle.definition.specs.Checked
-use Rattle.definition.specs.Checked.{Checked, fault, value}
+use Rattle.definition.specs.Checked.{Checked, fault, value, _>>=_}
 use Rattle.definition.specs.Literals
 use Rattle.definition.specs.Literals.{Clause}
 use Rattle.definition.specs.Text
@@ -32,7 +32,7 @@ use Rattle.definition.specs.Log.{clause-text, formula-text}
 use Rattle.definition.specs.LogReading
 use Rattle.definition.specs.Answer
 use Rattle.definition.specs.Calls
-use Rattle.definition.specs.Calls.{Reencoded, fitted, reencode, read-back, walk-back, carry-forward}
+use Rattle.definition.specs.Calls.{Tally, Reencoded, limited, fitted, reencode, sizes, read-back, walk-back, carry-forward}
 
 unfoldable pub counter : Settings
 counter = record { form = Reencoding.counter-form; arrangement = as-listed; step = 1 }
@@ -72,6 +72,10 @@ pub data Session : Type 0 where
   short : Settings → String → ℕ → ℕ → ℕ → ℕ → ℕ → Session
   -- the table: first new variable, length and input clauses of each choice
   tabled : Settings → String → List (ℕ × ℕ × ℕ) → Session
+  -- M-126: choices, H, M, log lines and both byte lengths, told beforehand in so many entries of workspace
+  sized : Settings → String → ℕ → (ℕ × ℕ × ℕ × ℕ × ℕ × ℕ) → Session
+  -- the number that sizes are refused with there
+  not-sized : Settings → String → ℕ → ℕ → Session
   -- the number that a result with such an H and so many choices is refused with, given a table of so many records and no buffers; both texts are one byte long
   unfit : ℕ → ℕ → ℕ → ℕ → Session
   -- the number that the walk-back of a formula, a log, a number of kept lines and an answer is refused with
@@ -116,6 +120,9 @@ same-rows [] (x ∷ xs) = false
 same-rows (r ∷ rs) [] = false
 same-rows (r ∷ rs) (x ∷ xs) = eqb (r .first) (x .0) && eqb (r .length) (x .1) && eqb (r .clauses) (x .2) && same-rows rs xs
 
+unfoldable pub same-sizes : ℕ × ℕ × ℕ × ℕ × ℕ × ℕ → Tally → Bool
+same-sizes x r = eqb (r .choices) (x .0) && eqb (r .highest) (x .1) && eqb (r .clauses) (x .2) && eqb (r .lines) (x .3) && eqb (r .log-bytes) (x .4) && eqb (r .formula-bytes) (x .5)
+
 unfoldable pub result-with : ℕ → ℕ → Reencoded
 result-with h n =
     record {
@@ -151,7 +158,9 @@ passes (refused t n) = is-fault (run counter t) n
 passes (short s t workspace log-room formula-room table-room n) =
     is-fault (reencode s workspace log-room formula-room table-room (bytes t)) n
 passes (tabled s t rows) = good (run s t) (λ r. same-rows (r .table) rows)
-passes (unfit h n table-room m) = is-fault (fitted table-room 0 0 (result-with h n)) m
+passes (sized s t workspace x) = good (sizes s workspace (bytes t)) (same-sizes x)
+passes (not-sized s t workspace n) = is-fault (sizes s workspace (bytes t)) n
+passes (unfit h n table-room m) = is-fault (limited (result-with h n) >>= fitted table-room 0 0) m
 passes (not-walked t log kept answer n) = is-fault (walk-back 100_000 1_000 kept (bytes t) (bytes log) (bytes answer)) n
 passes (forwards s t plan kept line) =
     good (run s t) (λ r. good (forth t (r .log) kept plan) (λ u. same-bytes u (bytes line)))
@@ -277,6 +286,19 @@ sessions =
     ∷ unfit 70_001 2 1 16
     ∷ unfit 70_000 2 1 17
     ∷ unfit 70_000 2 2 12
+    -- M-126: sizes, with no table and no buffers; H is that of the run, also where no variable is written; the numbers in their order
+    ∷ sized counter "p cnf 0 0\n" 8_192 (0, 0, 0, 0, 0, 10)
+    ∷ sized counter "p cnf 9 1\n1 -2 0\n" 8_384 (0, 9, 0, 1, 9, 10)
+    ∷ sized counter e-text 8_396 (0, 3, 0, 4, 31, 10)
+    ∷ sized counter free-text 8_508 (1, 11, 20, 21, 179, 175)
+    ∷ sized counter two-text 8_816 (2, 19, 32, 37, 360, 303)
+    ∷ sized (stepped 100) two-text 8_816 (2, 204, 32, 37, 404, 348)
+    ∷ sized order f-text 8_972 (1, 10, 8, 41, 371, 77)
+    ∷ not-sized (stepped 0) "" 0 15
+    ∷ not-sized (stepped 101) "" 0 15
+    ∷ not-sized (stepped 100) "" 0 1
+    ∷ not-sized counter "p cnf 1 1\n1" 0 7
+    ∷ not-sized counter two-text 8_815 11
     -- the log's writer, then the solver
     ∷ not-walked "p cnf 2 1\n1 2 0\n" "d 1 2 0" 1 "" 31
     ∷ not-walked "p cnf 2 1\n1 2 0\n" "1 1 0\n" 1 "" 31
@@ -321,5 +343,5 @@ sessions =
     ∷ []
 
 pub sessions-hold : T (all passes sessions)
-unfolding sessions passes same-rows result-with tallied one-to run read-within forth good is-fault Lists.computing Checked.computing Literals.computing Text.computing Reading.computing Standing.computing Assignments.computing Clearing.computing Counter.computing Order.computing Alignment.computing Reencoding.computing Log.computing LogReading.computing Answer.computing Calls.computing
+unfolding sessions passes same-rows same-sizes result-with tallied one-to run read-within forth good is-fault Lists.computing Checked.computing Literals.computing Text.computing Reading.computing Standing.computing Assignments.computing Clearing.computing Counter.computing Order.computing Alignment.computing Reencoding.computing Log.computing LogReading.computing Answer.computing Calls.computing
 sessions-hold = tt

@@ -33,9 +33,9 @@ use Rattle.run.specs.declared.Settings.{Settings}
 use Rattle.run.specs.Settings.{settings-of}
 use Rattle.run.proofs.Settings as S
 use Rattle.run.proofs.Settings.Laws as S′
-use Rattle.call_reencode.specs.Outcome.{outcome-of}
-use Rattle.call_reencode.proofs.Reencoding as E
-use Rattle.call_reencode.proofs.Reencoding.Laws as E′
+use Rattle.formula_run.specs.Outcome.{outcome-of}
+use Rattle.formula_run.proofs.Tallied as E
+use Rattle.formula_run.proofs.Tallied.Laws as E′
 use Rattle.call_reencode.proofs.Called.{settings-val, answer-val}
 use Rattle.exports.specs.Numbers.{settings-number, number-of}
 use Rattle.exports.specs.Counts.{tally-after, reencoding-counts}

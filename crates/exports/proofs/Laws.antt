@@ -18,9 +18,10 @@ use Rattle.run.specs.declared.Form as Code-form
 use Rattle.run.specs.declared.Arrangement as Code-arrangement
 use Rattle.run.specs.declared.Settings as Code-settings
 use Rattle.run.specs.Settings.{named-form, named-arrangement, settings-of}
-use Rattle.call_reencode.specs.declared.Tally as Code
-use Rattle.call_reencode.specs.declared.Reencoding.the-variants as Reencoding
-use Rattle.call_reencode.specs.Outcome.{outcome, outcome-of}
+use Rattle.formula_run.specs.declared.Tally as Code
+use Rattle.formula_run.specs.declared.Tallied.the-variants as Tallied
+use Rattle.formula_run.specs.Outcome.{outcome-of}
+use Rattle.call_reencode.specs.Outcome.{outcome}
 use Rattle.exports.specs.Numbers.{form-number, arrangement-number, settings-number, number-of, reencoding}
 use Rattle.counts.specs.Counts.{overwritten}
 use Rattle.counts.proofs.Laws.{one-count}
@@ -64,14 +65,14 @@ result-tally r =
       «formula_bytes» = r .formula-bytes;
     }
 
-pub reencoding-counted : (o : Checked Reencoded) (t : Code.Tally) (before after : List ℕ) → outcome-of o ≡ Reencoding.Done t → after ≡ overwritten (done-counts t) before → (0 ≡ number-of o) × (after ≡ tally-after o reencoding-counts before)
+pub reencoding-counted : (o : Checked Reencoded) (t : Code.Tally) (before after : List ℕ) → outcome-of o ≡ Tallied.Done t → after ≡ overwritten (done-counts t) before → (0 ≡ number-of o) × (after ≡ tally-after o reencoding-counts before)
 unfolding number-of tally-after
 reencoding-counted (fault m) t before after e w = let z : _≡_ {A = ℕ} 0 1 = cc in absurd (omega arith)
 reencoding-counted (value r) t before after e w =
     let et : result-tally (r .tally) ≡ t = cc in
     (refl, w ∙ ap (λ (x : Code.Tally). overwritten (done-counts x) before) (sym et))
 
-pub reencoding-refused : (o : Checked Reencoded) (n : ℕ) (before after : List ℕ) → outcome-of o ≡ Reencoding.Refused n → after ≡ replicate (length before) 0 → (n ≡ number-of o) × (after ≡ tally-after o reencoding-counts before)
+pub reencoding-refused : (o : Checked Reencoded) (n : ℕ) (before after : List ℕ) → outcome-of o ≡ Tallied.Refused n → after ≡ replicate (length before) 0 → (n ≡ number-of o) × (after ≡ tally-after o reencoding-counts before)
 unfolding number-of tally-after
 reencoding-refused (fault m) n before after e w = (cc, w)
 reencoding-refused (value r) n before after e w = let z : _≡_ {A = ℕ} 0 1 = cc in absurd (omega arith)

@@ -7,7 +7,7 @@ use Rattle.definition.specs.Literals.{literals-of}
 use Rattle.definition.specs.Text.{Bytes}
 use Rattle.definition.specs.Reading.{Input}
 use Rattle.definition.specs.Calls.{Reencoded, Tally}
-use Rattle.call_reencode.specs.declared.Tally as Code
+use Rattle.formula_run.specs.declared.Tally as Code
 use Rattle.counts.specs.Counts.{overwritten}
 
 -- a tally after a call: all zero at a fault, else the counts

@@ -10,7 +10,8 @@ ghost use Rattle.definition.specs.Calls.{Reencoded, buffer-after};
 ghost use Rattle.dimacs.specs.Entries.{entries-of};
 ghost use Rattle.run.specs.Settings.{named-form, named-arrangement, settings-of};
 ghost use Rattle.records.specs.Rows.{no-record};
-ghost use Rattle.call_reencode.specs.Outcome.{outcome-of, shown-table};
+ghost use Rattle.formula_run.specs.Outcome.{outcome-of};
+ghost use Rattle.call_reencode.specs.Outcome.{shown-table};
 ghost use Rattle.carry.specs.Carried.{carried-of};
 ghost use Rattle.call_walk_back.specs.Outcome.{outcome as walk-back-outcome};
 ghost use Rattle.call_carry_forward.specs.Outcome.{outcome as carry-forward-outcome};
@@ -18,9 +19,9 @@ ghost use Rattle.call_read_back.specs.Outcome.{outcome as read-back-outcome};
 ghost use Rattle.exports.specs.Numbers.{form-number, arrangement-number, settings-number, number-of, reencoding};
 ghost use Rattle.counts.specs.Counts.{overwritten};
 ghost use Rattle.exports.specs.Counts.{tally-after, reencoding-counts, done-counts, line-counts, read-back-counts};
-use call_reencode::Reencoding;
-use call_reencode::Tally;
 use carry::Carried;
+use formula_run::Tallied;
+use formula_run::Tally;
 use records::ChoiceRecord;
 use run::Arrangement;
 use run::Form;
@@ -77,15 +78,15 @@ fn put_done(tally: &mut [u64], t: Tally)
 }
 
 // The number of an outcome; its counts go into the tally.
-fn answered(tally: &mut [u64], r: Reencoding) -> u32
+fn answered(tally: &mut [u64], r: Tallied) -> u32
     ensures { λ n. ⌜ ((o : Checked Reencoded) → r ≡ outcome-of o → (n ≡ number-of o) × (now (tally .exit) ≡ tally-after o reencoding-counts (now (tally .entry)))) ⌝ }
 {
     match r {
-        Reencoding::Done(t) => {
+        Tallied::Done(t) => {
             put_done(tally, t);
             0
         }
-        Reencoding::Refused(n) => {
+        Tallied::Refused(n) => {
             counts::zero_counts(tally);
             n as u32
         }

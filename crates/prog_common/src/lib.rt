@@ -1,6 +1,6 @@
 // What the programs share: arguments, files, and the line of a refusal.
 ghost use Rattle.io.specs.Counts.{Counts};
-use call_reencode::Reencoding;
+use formula_run::Tallied;
 use libc::STDOUT_FILENO;
 use run::Arrangement;
 use run::Form;
@@ -102,8 +102,8 @@ fn print_reencoded(
     }
     let settings = named_settings();
     match call_reencode::reencode_texts(&text[..n], settings, work, log, formula) {
-        Reencoding::Refused(k) => print_refusal(k),
-        Reencoding::Done(t) => {
+        Tallied::Refused(k) => print_refusal(k),
+        Tallied::Done(t) => {
             if is_log {
                 print_start(log, t.log_bytes);
             } else {

@@ -1,8 +1,8 @@
 // Runs the listed sessions that are not shown by proof, a line for each.
 mod texts;
 
-use call_reencode::Reencoding;
-use call_reencode::Tally;
+use formula_run::Tallied;
+use formula_run::Tally;
 use libc::STDOUT_FILENO;
 use run::Arrangement;
 use run::Form;
@@ -46,12 +46,12 @@ fn print_outcome(text: &[u8], step: u32) {
     let mut formula = [0u8; 1024];
     let s = counter(Arrangement::AsListed, step);
     match call_reencode::reencode_texts(text, s, &mut work, &mut log, &mut formula) {
-        Reencoding::Done(t) => {
+        Tallied::Done(t) => {
             io::write_all(STDOUT_FILENO, b"accepted");
             print_tally(t);
             print_end();
         }
-        Reencoding::Refused(k) => prog_common::print_refusal(k),
+        Tallied::Refused(k) => prog_common::print_refusal(k),
     }
 }
 
@@ -86,8 +86,8 @@ fn print_size(size: u8) {
     if n <= text.len() {
         let s = counter(Arrangement::AsListed, 1);
         match call_reencode::reencode_texts(&text[..n], s, &mut work, &mut log, &mut formula) {
-            Reencoding::Done(t) => print_tally(t),
-            Reencoding::Refused(k) => prog_common::print_refusal(k),
+            Tallied::Done(t) => print_tally(t),
+            Tallied::Refused(k) => prog_common::print_refusal(k),
         }
     }
     print_end();
@@ -102,12 +102,12 @@ fn print_alignment(arrangement: Arrangement) {
     let mut formula = [0u8; 1024];
     let s = counter(arrangement, 1);
     match call_reencode::reencode_texts(text, s, &mut work, &mut log, &mut formula) {
-        Reencoding::Done(_) => {
+        Tallied::Done(_) => {
             let a = texts::past_lines(&log, 33);
             let b = texts::past_lines(&log, 34);
             texts::print_part(&log, a, b);
         }
-        Reencoding::Refused(k) => prog_common::print_refusal(k),
+        Tallied::Refused(k) => prog_common::print_refusal(k),
     }
 }
 

@@ -1,6 +1,6 @@
 // Buffers and workspaces of just the length that is asked for, and one short: the refusal, and its buffers all zero.
-use call_reencode::Reencoding;
 use carry::Carried;
+use formula_run::Tallied;
 use libc::STDOUT_FILENO;
 use run::Arrangement;
 use run::Form;
@@ -59,8 +59,8 @@ fn print_reencoding(text: &[u8], work: &mut [i32], log: &mut [u8], formula: &mut
     fill(log);
     fill(formula);
     match call_reencode::reencode_texts(text, order(), work, log, formula) {
-        Reencoding::Done(_) => print_outcome(b"reencode", 0),
-        Reencoding::Refused(n) => print_outcome(b"reencode", n),
+        Tallied::Done(_) => print_outcome(b"reencode", 0),
+        Tallied::Refused(n) => print_outcome(b"reencode", n),
     }
     print_zero(is_zero(log));
     print_zero(is_zero(formula));

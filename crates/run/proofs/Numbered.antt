@@ -1,4 +1,4 @@
--- The choices numbered: refused with 16 or 17, or taken.
+-- The choices numbered: refused with 16, or taken.
 use mathlib.Core.Path.{refl}
 use mathlib.Core.List.{List}
 use Prim.Native.Nat.{ℕ, _≤_, _<_}
@@ -15,32 +15,13 @@ use Rattle.run.specs.declared.Reached.{Reached}
 use Rattle.run.specs.declared.Ran.the-variants as Ran
 use Rattle.run.specs.Choices.{All-ready, Taken-all, Take-ready, Took-all}
 
-module _ {form : Form} {g : ℕ} {work : List ℤ} {log : Bytes} {p : Progress} {ls : List Clause} {n : ℕ} {w rows : List ℕ} {room : ℕ} {new-work : List ℤ} {new-log : Bytes} {fresh : List ℕ} {m : Numbered}
+module _ {form : Form} {g : ℕ} {work : List ℤ} {log : Bytes} {p : Progress} {ls : List Clause} {n : ℕ} {w rows : List ℕ} {new-work : List ℤ} {new-log : Bytes} {fresh : List ℕ} {m : Numbered}
     (u : Numbers g ls w rows n 0 fresh m) where
-  pub took-high : 70_000 < m .highest → Took-all form g work log p ls n w rows room new-work new-log fresh (Ran.Refused 16)
-  took-high h = record {
-    high = λ _. refl;
-    short = λ k. absurd (omega (arith, u .highest));
-    taken = λ k. absurd (omega (arith, u .highest));
-    written = u .written;
-  }
+  pub took-high : 70_000 < m .highest → Took-all form g work log p ls n w rows new-work new-log fresh (Ran.Refused 16)
+  took-high h = record { high = λ _. refl; taken = λ k. absurd (omega (arith, u .highest)); written = u .written }
 
-  module _ (h : m .highest ≤ 70_000) where
-    pub took-short : room < m .choices → Took-all form g work log p ls n w rows room new-work new-log fresh (Ran.Refused 17)
-    took-short j = record {
-      high = λ k. absurd (omega (arith, u .highest));
-      short = λ _ _. refl;
-      taken = λ _ k. absurd (omega (arith, u .choices));
-      written = u .written;
-    }
-
-    pub took : {q : Reached} → m .choices ≤ room → Taken-all form g work log p ls n new-work new-log q → Took-all form g work log p ls n w rows room new-work new-log fresh (Ran.Done q)
-    took {q} j t = record {
-      high = λ k. absurd (omega (arith, u .highest));
-      short = λ _ k. absurd (omega (arith, u .choices));
-      taken = λ _ _. (q, refl, t);
-      written = u .written;
-    }
+  pub took : {q : Reached} → m .highest ≤ 70_000 → Taken-all form g work log p ls n new-work new-log q → Took-all form g work log p ls n w rows new-work new-log fresh (Ran.Done q)
+  took {q} h t = record { high = λ k. absurd (omega (arith, u .highest)); taken = λ _. (q, refl, t); written = u .written }
 
 pub take-all-ready : {form : Form} {g step : ℕ} {work : List ℤ} {p : Progress} {chosen : List ℤ} {n : ℕ} {w rows fresh : List ℕ} {m : Numbered} →
     Take-ready form g step work p chosen n w rows → Numbers g (stored chosen) w rows n 0 fresh m → m .highest ≤ 70_000 → All-ready form g step work p chosen n

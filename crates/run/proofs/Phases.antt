@@ -88,12 +88,11 @@ module _ {work : List ℤ} {end h g : ℕ} {rows : List ℕ} (r : Run-ready work
       highest = rw same-input at (a .highest);
     }
 
-    pub ran-same : {s : Settings} {x y : Bytes} {old fresh : List ℕ} {room : ℕ} {new : List ℤ} {q : Code.Ran} →
-        Ran-all s (input-in w end h) w x end old room new y fresh q → Ran-all s (input-in work end h) work x end old room new y fresh q
+    pub ran-same : {s : Settings} {x y : Bytes} {old fresh : List ℕ} {new : List ℤ} {q : Code.Ran} →
+        Ran-all s (input-in w end h) w x end old new y fresh q → Ran-all s (input-in work end h) work x end old new y fresh q
     ran-same {s} a = record {
       high = rw same-input at (a .high);
-      short = rw same-input at (a .short);
-      done = λ p k. let t = a .done (rw same-input p) (rw same-input k) in (t .0, t .1, reaches-same (t .2));
+      done = λ p. let t = a .done (rw same-input p) in (t .0, t .1, reaches-same (t .2));
       written = rw same-input at (a .written);
       row-room = rw same-input at (a .row-room);
     }
@@ -220,12 +219,11 @@ module _ {work : List ℤ} {end h : ℕ} {rows : List ℕ} (s : Settings) (r : R
           highest = t .highest ∙ used-here;
         }
 
-        pub ran-all : {room : ℕ} {w' : List ℤ} {log' : Bytes} {fresh : List ℕ} {q : Code.Ran} →
-            Took-all (s .form) (s .step) w log₁ p (stored (take n full)) h weights rows room w' log' fresh q → Ran-all s i work log₀ end rows room w' log' fresh q
+        pub ran-all : {w' : List ℤ} {log' : Bytes} {fresh : List ℕ} {q : Code.Ran} →
+            Took-all (s .form) (s .step) w log₁ p (stored (take n full)) h weights rows w' log' fresh q → Ran-all s i work log₀ end rows w' log' fresh q
         ran-all t = record {
           high = λ k. t .high (omega (arith, used-here));
-          short = λ k m. t .short (omega (arith, used-here)) (omega (arith, count-here));
-          done = λ k m. let d = t .taken (omega (arith, used-here)) (omega (arith, count-here)) in (d .0, d .1, reaches (d .2));
+          done = λ k. let d = t .taken (omega (arith, used-here)) in (d .0, d .1, reaches (d .2));
           written = t .written ∙ ap (λ (rs : List Choice-record). sets rows 0 (rows-of rs)) table-here;
           row-room = omega (arith, bounds .chosen-count, r .row-room);
         }

@@ -125,9 +125,8 @@ pub record Take-ready (form : Form) (g step : ℕ) (work : List ℤ) (p : Progre
   pub takeable : All-takeable form g (length work) step n (standing work p) (stored chosen)
   pub number-ready : Numbering.All-ready g chosen w rows n
 
--- 16 where H would pass 70,000; 17 where the table is shorter than the choices; else they are taken, and their rows written
-pub record Took-all (form : Form) (g : ℕ) (work : List ℤ) (log : Bytes) (p : Progress) (ls : List Clause) (n : ℕ) (w rows : List ℕ) (room : ℕ) (new-work : List ℤ) (new-log : Bytes) (new-rows : List ℕ) (r : Code.Ran) : Type 0 where
+-- 16 where H would pass 70,000; else they are taken; and their rows are written
+pub record Took-all (form : Form) (g : ℕ) (work : List ℤ) (log : Bytes) (p : Progress) (ls : List Clause) (n : ℕ) (w rows : List ℕ) (new-work : List ℤ) (new-log : Bytes) (new-rows : List ℕ) (r : Code.Ran) : Type 0 where
   pub high : 70_000 < used-after g (λ l. l) n ls → r ≡ Ran.Refused 16
-  pub short : used-after g (λ l. l) n ls ≤ 70_000 → room < length ls → r ≡ Ran.Refused 17
-  pub taken : used-after g (λ l. l) n ls ≤ 70_000 → length ls ≤ room → (q : Reached) × (r ≡ Ran.Done q) × Taken-all form g work log p ls n new-work new-log q
+  pub taken : used-after g (λ l. l) n ls ≤ 70_000 → (q : Reached) × (r ≡ Ran.Done q) × Taken-all form g work log p ls n new-work new-log q
   pub written : new-rows ≡ sets rows 0 (rows-of (taken-records g (λ l. l) (weighed w) n ls))

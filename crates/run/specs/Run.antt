@@ -61,10 +61,9 @@ pub record Reaches (s : Settings) (i : Input) (work : List ℤ) (log : Bytes) (e
   pub choices : r .choices ≡ length (chosen s i)
   pub highest : r .highest ≡ highest-used s i
 
--- 16 where H would pass 70,000; 17 where the table, of `room` records, is shorter than the choices; else the whole run, and the rows of its table
-pub record Ran-all (s : Settings) (i : Input) (work : List ℤ) (log : Bytes) (end : ℕ) (rows : List ℕ) (room : ℕ) (new-work : List ℤ) (new-log : Bytes) (new-rows : List ℕ) (r : Code.Ran) : Type 0 where
+-- 16 where H would pass 70,000; else the whole run; and the rows of its table
+pub record Ran-all (s : Settings) (i : Input) (work : List ℤ) (log : Bytes) (end : ℕ) (rows : List ℕ) (new-work : List ℤ) (new-log : Bytes) (new-rows : List ℕ) (r : Code.Ran) : Type 0 where
   pub high : 70_000 < highest-used s i → r ≡ Ran.Refused 16
-  pub short : highest-used s i ≤ 70_000 → room < length (chosen s i) → r ≡ Ran.Refused 17
-  pub done : highest-used s i ≤ 70_000 → length (chosen s i) ≤ room → (q : Reached) × (r ≡ Ran.Done q) × Reaches s i work log end new-work new-log q
+  pub done : highest-used s i ≤ 70_000 → (q : Reached) × (r ≡ Ran.Done q) × Reaches s i work log end new-work new-log q
   pub written : new-rows ≡ sets rows 0 (rows-of (table s i))
   pub row-room : 3 * length (chosen s i) ≤ length rows

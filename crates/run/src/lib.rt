@@ -288,7 +288,7 @@ fn step_of(newest: &[u32], end: usize) -> usize
     5 * index::nodes(newest) + end + 2520
 }
 
-// Takes the choices, if their variables stay within 70,000 and the table has a record for each; their rows are written.
+// Takes the choices, if their variables stay within 70,000; their rows are written.
 fn take_all(
     work: &mut [i32],
     newest: &mut [u32],
@@ -296,7 +296,6 @@ fn take_all(
     weights: &[u32],
     log: &mut [u8],
     rows: &mut [u32],
-    room: usize,
     p: Progress,
     form: Form,
     g: u32,
@@ -305,14 +304,11 @@ fn take_all(
     step: usize,
 ) -> Ran
     requires { ⌜ Take-ready (named-form form) g step (now work) p (now chosen) highest (now weights) (now rows) × Indexed (now work) (p .end) (now newest) × (now places ≡ replicate input-size 0) ⌝ }
-    ensures { λ r. ⌜ Took-all (named-form form) g (now (work .entry)) (now (log .entry)) p (stored (now (chosen .entry))) highest (now (weights .entry)) (now (rows .entry)) room (now (work .exit)) (now (log .exit)) (now (rows .exit)) r ⌝ }
+    ensures { λ r. ⌜ Took-all (named-form form) g (now (work .entry)) (now (log .entry)) p (stored (now (chosen .entry))) highest (now (weights .entry)) (now (rows .entry)) (now (work .exit)) (now (log .exit)) (now (rows .exit)) r ⌝ }
 {
     let m = pass_number::number(chosen, weights, rows, highest, g);
     if 70000 < m.highest {
         return Ran::Refused(16);
-    }
-    if room < m.choices {
-        return Ran::Refused(17);
     }
     Ran::Done(take(work, newest, places, log, p, form, g, chosen, highest, step))
 }
@@ -323,13 +319,12 @@ fn run_indexed(
     newest: &mut [u32],
     log: &mut [u8],
     rows: &mut [u32],
-    room: usize,
     end: usize,
     highest: u32,
     settings: Settings,
 ) -> Ran
     requires { ⌜ Run-ready (now work) end highest (settings .step) (now rows) × Indexed (now work) end (now newest) ⌝ }
-    ensures { λ r. ⌜ Ran-all (settings-of settings) (input-in (now (work .entry)) end highest) (now (work .entry)) (now (log .entry)) end (now (rows .entry)) room (now (work .exit)) (now (log .exit)) (now (rows .exit)) r ⌝ }
+    ensures { λ r. ⌜ Ran-all (settings-of settings) (input-in (now (work .entry)) end highest) (now (work .entry)) (now (log .entry)) end (now (rows .entry)) (now (work .exit)) (now (log .exit)) (now (rows .exit)) r ⌝ }
 {
     let start = Progress {
         end,
@@ -352,7 +347,6 @@ fn run_indexed(
         &weights,
         log,
         rows,
-        room,
         p,
         form,
         g,
@@ -362,20 +356,19 @@ fn run_indexed(
     )
 }
 
-// Enters the clauses of the store in an index, then runs over both. The rows are of 1,600 choices at most; there is a record for so many choices as `room` says.
+// Enters the clauses of the store in an index, then runs over both. The rows are of 1,600 choices at most.
 pub fn run(
     work: &mut [i32],
     log: &mut [u8],
     rows: &mut [u32],
-    room: usize,
     end: usize,
     highest: u32,
     settings: Settings,
 ) -> Ran
     requires { ⌜ Run-ready (now work) end highest (settings .step) (now rows) ⌝ }
-    ensures { λ r. ⌜ Ran-all (settings-of settings) (input-in (now (work .entry)) end highest) (now (work .entry)) (now (log .entry)) end (now (rows .entry)) room (now (work .exit)) (now (log .exit)) (now (rows .exit)) r ⌝ }
+    ensures { λ r. ⌜ Ran-all (settings-of settings) (input-in (now (work .entry)) end highest) (now (work .entry)) (now (log .entry)) end (now (rows .entry)) (now (work .exit)) (now (log .exit)) (now (rows .exit)) r ⌝ }
 {
     let mut newest = [0u32; tables::LOG_SIZE];
     index::enter_all(work, &mut newest, end);
-    run_indexed(work, &mut newest, log, rows, room, end, highest, settings)
+    run_indexed(work, &mut newest, log, rows, end, highest, settings)
 }

@@ -13,7 +13,7 @@ use Rattle.theory_base.proofs.Tests.{differ}
 use Rattle.literals.specs.Literal.{negative}
 use mathlib.Core.Bool.{true, false}
 use Rattle.text.specs.Output.{Put}
-use Rattle.theory_base.proofs.Slices.{sets-then, sets-first, sets-rest}
+use Rattle.theory_base.proofs.Slices.{sets-then, sets-first, sets-past, sets-rest}
 use Rattle.theory_base.proofs.Digits.{digits-one, digits-more, count-one, count-more, digits-within}
 
 -- ---- nothing, one byte, one text after another
@@ -26,6 +26,10 @@ put-then {l} {m} {n} {at} {r} {q} {xs} {ys} p s = record {
   next = omega (arith, length-append xs ys);
   kept = s .kept ∙ ap (λ (x : Bytes). sets x r ys) (p .kept) ∙ ap (λ (k : ℕ). sets (sets l at xs) k ys) (p .next) ∙ sets-then xs ys l at;
 }
+
+-- past the buffer's end nothing is stored
+pub put-past : (l : Bytes) (at : ℕ) (xs : Bytes) {r : ℕ} → length l ≤ at → r ≡ at + length xs → Put l at xs r l
+put-past l at xs h e = record { next = e; kept = sym (sets-past xs l at h) }
 
 -- the bytes are the same
 pub put-same : {l n : Bytes} {at r : ℕ} {xs ys : Bytes} → Put l at xs r n → xs ≡ ys → Put l at ys r n

@@ -4,20 +4,22 @@ use mathlib.Core.List.{[], _∷_, _++_, append-nil, append-assoc}
 use Prim.Native.Nat.{ℕ, _+_, _*_, _≤_, _<_}
 use native.Mathlib.Omega.{arith}
 use native.Mathlib.Numerals.{add-one}
-use lib.IntN.{ℤ, pos}
-use lib.ListN.{length, getD, take}
+use lib.IntN.{ℤ, pos, natAbs}
+use lib.ListN.{length, getD, take, length-append}
 use lib.Seq.{take-suc, take-all}
 use mir.Syntax.{w32}
 use mir.Val.{SFits, ofZ, toZ}
 use Rattle.definition.specs.Lists.{for-each}
 use Rattle.definition.specs.Literals.{Clause}
-use Rattle.definition.specs.Text.{Bytes, bytes, literal-text}
+use Rattle.definition.specs.Text.{Bytes, bytes, digits, literal-text}
 use Rattle.definition.specs.Log.{clause-text}
 use Rattle.theory_base.proofs.Loops.{for-each-++}
+use mathlib.Core.Bool.{true, false}
+use Rattle.literals.specs.Literal.{negative}
 use Rattle.literals.proofs.Laws.{at-arg}
 use Rattle.theory_text.specs.ClauseText.{literals-text}
 use Rattle.text.specs.Output.{Put}
-use Rattle.text.proofs.Output.{put-none, put-then, put-same, put-length}
+use Rattle.text.proofs.Output.{put-none, put-then, put-past, put-same, put-length, negative-text, positive-text, literal-length}
 
 -- ---- bytes
 
@@ -50,6 +52,24 @@ item-argument l f = at-arg (λ (z : ℤ). literal-text z ++ bytes " ") l f
 pub item-put : {x y z : Bytes} {at a r : ℕ} (l : ℤ) → SFits w32 l → Put x at (literal-text (toZ w32 (ofZ w32 l))) a y → Put y a (32 ∷ []) r z → Put x at (literal-text l ++ bytes " ") r z
 unfolding bytes
 item-put l f p q = put-same (put-then p q) (item-argument l f)
+
+-- how long they are, by the number of digits
+module _ (l : ℤ) where
+  pub item-negative : negative l ≡ true → length (digits (natAbs l)) + 1 + 1 ≡ length (literal-text l ++ bytes " ")
+  unfolding bytes
+  item-negative e = omega (arith, length-append (literal-text l) (32 ∷ []), ap length (negative-text l e), length-append (45 ∷ []) (digits (natAbs l)))
+
+  pub item-positive : negative l ≡ false → length (digits (natAbs l)) + 1 ≡ length (literal-text l ++ bytes " ")
+  unfolding bytes
+  item-positive e = omega (arith, length-append (literal-text l) (32 ∷ []), ap length (positive-text l e))
+
+  -- past the buffer's end they are counted
+  pub item-past : SFits w32 l → (b : Bytes) (at : ℕ) {n : ℕ} → length b ≤ at → n ≡ length (literal-text (toZ w32 (ofZ w32 l)) ++ bytes " ") → Put b at (literal-text l ++ bytes " ") (at + n) b
+  item-past f b at h e = put-past b at (literal-text l ++ bytes " ") h (ap (λ (k : ℕ). at + k) (e ∙ ap length (item-argument l f)))
+
+  pub item-few : SFits w32 l → {n : ℕ} → n ≡ length (literal-text (toZ w32 (ofZ w32 l)) ++ bytes " ") → n ≤ 12
+  unfolding bytes
+  item-few f e = omega (arith, ap length (item-argument l f), length-append (literal-text l) (32 ∷ []), literal-length l f)
 
 -- ---- the literals of a clause
 

@@ -393,12 +393,51 @@ pub fn put_text(buf: &mut [u8], at: usize, text: &[u8]) -> usize
 
 // ---- clauses
 
-// Writes a literal and a blank.
+// How many digits a number of at most five has, found by comparing.
+fn few_digits(n: u32) -> usize
+    requires { ⌜ n < 100000 ⌝ }
+    ensures { λ r. ⌜ r ≡ length (digits n) ⌝ }
+{
+    if n < 1000 {
+        if n < 10 {
+            return 1;
+        }
+        if n < 100 {
+            return 2;
+        }
+        return 3;
+    }
+    if n < 10000 { 4 } else { 5 }
+}
+
+// How many digits a variable has; those of a log have at most five.
+fn variable_length(v: u32) -> usize
+    ensures { λ r. ⌜ r ≡ length (digits v) ⌝ }
+{
+    if v < 100000 {
+        few_digits(v)
+    } else {
+        digit_count(v)
+    }
+}
+
+// How many bytes a literal and a blank take.
+fn item_length(l: i32) -> usize
+    ensures { λ r. ⌜ r ≡ length (literal-text l ++ bytes " ") ⌝ }
+{
+    let n = variable_length(literals::variable(l)) + 1;
+    if literals::is_negative(l) { n + 1 } else { n }
+}
+
+// Writes a literal and a blank; past the buffer's end they are only counted.
 pub fn put_item(buf: &mut [u8], at: usize, l: i32) -> usize
     requires { ⌜ at + 12 < 2 ^ 64 ⌝ }
     ensures written { λ r. ⌜ Put (now (buf .entry)) at (literal-text l ++ bytes " ") r (now (buf .exit)) ⌝ }
     ensures within { λ r. ⌜ r ≤ at + 12 ⌝ }
 {
+    if buf.len() <= at {
+        return at + item_length(l);
+    }
     let a = put_literal(buf, at, l);
     put_byte(buf, a, 32)
 }

@@ -16,10 +16,10 @@ use Rattle.definition.specs.Assignments.{Assignment}
 use Rattle.definition.specs.LogReading.{read-line-clause, allowed-clause, read-line-fields, read-line, read-log}
 use Rattle.definition.specs.Answer.{Answer, begins-with, read-answer-word, read-answer-line, read-answer}
 use Rattle.definition.specs.Reencoding.{Settings}
-use Rattle.definition.specs.Calls.{fitted, reencode, fitting-line, highest-allowed, read-back, read-texts, carry-answer, walk-back, carry-plan, carry-forward, buffer-after, read-input}
+use Rattle.definition.specs.Calls.{limited, run, fitted, reencode, sizes, fitting-line, highest-allowed, read-back, read-texts, carry-answer, walk-back, carry-plan, carry-forward, buffer-after, read-input}
 use Rattle.theory_base.proofs.Members.{any-mem, all-at}
 use Rattle.theory_text.proofs.Accepted.{input-read}
-use Rattle.theorems.specs.Refusals.{formula-numbers, log-numbers, answer-numbers, reencode-numbers, read-back-numbers, walk-back-numbers, carry-forward-numbers, Listed, accepted, refused, Demand-1}
+use Rattle.theorems.specs.Refusals.{formula-numbers, log-numbers, answer-numbers, sizes-numbers, reencode-numbers, read-back-numbers, walk-back-numbers, carry-forward-numbers, Listed, accepted, refused, Demand-1}
 
 -- the test that a number is in a list, which computes for a list written out
 abbrev among : List ℕ → ℕ → Bool
@@ -172,12 +172,20 @@ module _ (x : ℕ) where
 input-listed : (t : Bytes) → Listed formula-numbers (read-input t)
 input-listed t = subst (Listed formula-numbers) (sym (input-read t)) (formula-listed input-limits t)
 
-reencode-listed : (s : Settings) (workspace log-room formula-room table-room : ℕ) (t : Bytes) → Listed reencode-numbers (reencode s workspace log-room formula-room table-room t)
-unfolding reencode fitted formula-numbers reencode-numbers any all
-reencode-listed s workspace log-room formula-room table-room t =
+run-listed : (s : Settings) (workspace : ℕ) (t : Bytes) → Listed sizes-numbers (run s workspace t)
+unfolding run limited formula-numbers sizes-numbers any all
+run-listed s workspace t =
     refuse-listed 15 _ tt
-    (bind-listed (listed-among tt (input-listed t)) (λ i.
-    refuse-listed 11 _ tt (refuse-listed 16 _ tt (refuse-listed 17 _ tt (refuse-listed 12 _ tt (refuse-listed 13 _ tt accepted))))))
+    (bind-listed (listed-among tt (input-listed t)) (λ i. refuse-listed 11 _ tt (refuse-listed 16 _ tt accepted)))
+
+reencode-listed : (s : Settings) (workspace log-room formula-room table-room : ℕ) (t : Bytes) → Listed reencode-numbers (reencode s workspace log-room formula-room table-room t)
+unfolding reencode fitted formula-numbers sizes-numbers reencode-numbers any all
+reencode-listed s workspace log-room formula-room table-room t =
+    bind-listed (listed-among tt (run-listed s workspace t)) (λ r. refuse-listed 17 _ tt (refuse-listed 12 _ tt (refuse-listed 13 _ tt accepted)))
+
+sizes-listed : (s : Settings) (workspace : ℕ) (t : Bytes) → Listed sizes-numbers (sizes s workspace t)
+unfolding sizes
+sizes-listed s workspace t = bind-listed (run-listed s workspace t) (λ r. accepted)
 
 read-back-listed : (workspace : ℕ) (t : Bytes) → Listed read-back-numbers (read-back workspace t)
 unfolding read-back formula-numbers read-back-numbers any all
@@ -231,6 +239,7 @@ demand-1 = record {
   log = log-listed;
   answer = answer-listed;
   reencoding = reencode-listed;
+  sizing = sizes-listed;
   reading-back = read-back-listed;
   walking-back = walk-back-listed;
   carrying-forward = carry-forward-listed;

@@ -9,7 +9,7 @@ use Rattle.definition.specs.Text.{Bytes}
 use Rattle.definition.specs.LogReading.{read-log}
 use Rattle.definition.specs.Answer.{read-answer}
 use Rattle.definition.specs.Reencoding.{Settings}
-use Rattle.definition.specs.Calls.{reencode, read-back, walk-back, carry-forward, buffer-after}
+use Rattle.definition.specs.Calls.{reencode, sizes, read-back, walk-back, carry-forward, buffer-after}
 
 -- ---- the listed numbers
 
@@ -27,9 +27,13 @@ log-numbers = 31 ∷ 34 ∷ []
 unfoldable pub answer-numbers : List ℕ
 answer-numbers = 41 ∷ 42 ∷ 43 ∷ []
 
--- reencoding: M-118's 15, "tested first of all"; 1 to 4, 7 to 9, 11, M-118's 16 and 17, 12, 13
+-- sizes before the run: M-118's 15, "tested first of all"; 1 to 4, 7 to 9, 11, M-118's 16. M-126: "the refusals are the run's, save 12, 13 and 17"
+unfoldable pub sizes-numbers : List ℕ
+sizes-numbers = 15 ∷ formula-numbers ++ (11 ∷ 16 ∷ [])
+
+-- reencoding: those, then M-118's 17, 12, 13
 unfoldable pub reencode-numbers : List ℕ
-reencode-numbers = 15 ∷ formula-numbers ++ (11 ∷ 16 ∷ 17 ∷ 12 ∷ 13 ∷ [])
+reencode-numbers = sizes-numbers ++ (17 ∷ 12 ∷ 13 ∷ [])
 
 -- the new formula read back: 1 to 4, 7 to 9, with 2 and 9 at the read-back limits, and 11
 unfoldable pub read-back-numbers : List ℕ
@@ -58,6 +62,7 @@ pub record Demand-1 : Type 1 where
   pub answer : (x : ℕ) (t : Bytes) → Listed answer-numbers (read-answer x t)
   -- each call, whatever the sizes of the workspace and the buffers
   pub reencoding : (s : Settings) (workspace log-room formula-room table-room : ℕ) (t : Bytes) → Listed reencode-numbers (reencode s workspace log-room formula-room table-room t)
+  pub sizing : (s : Settings) (workspace : ℕ) (t : Bytes) → Listed sizes-numbers (sizes s workspace t)
   pub reading-back : (workspace : ℕ) (t : Bytes) → Listed read-back-numbers (read-back workspace t)
   pub walking-back : (workspace room kept : ℕ) (t log answer : Bytes) → Listed walk-back-numbers (walk-back workspace room kept t log answer)
   pub carrying-forward : (workspace room kept : ℕ) (t log plan : Bytes) → Listed carry-forward-numbers (carry-forward workspace room kept t log plan)

@@ -45,6 +45,13 @@ count-one n h = ap length (digits-one n h)
 pub count-more : (n : ℕ) → 10 ≤ n → length (digits n) ≡ length (digits (n / 10)) + 1
 count-more n h = ap length (digits-more n h) ∙ length-append (digits (n / 10)) _
 
+tenth-above : (x n : ℕ) → x * 10 ≤ n → x ≤ n / 10
+tenth-above x n h = omega arith
+
+one-least : (k : ℕ) → 1 ≤ 10 ^ k
+one-least zero = omega arith
+one-least (suc k) = let h = one-least k in rw (pow-suc 10 k) (omega arith)
+
 tenth-below : (x n : ℕ) → n < x * 10 → n / 10 < x
 tenth-below x n h = omega arith
 
@@ -53,3 +60,10 @@ digits-within zero n h = omega (arith, count-one n h)
 digits-within (suc k) n h = by-test (ltb n 10)
     (λ e. omega (arith, count-one n (ltb-true n 10 e)))
     (λ e. omega (arith, count-more n (ltb-false n 10 e), digits-within k (n / 10) (tenth-below (10 ^ suc k) n (rw (pow-suc 10 (suc k)) at h))))
+
+pub count-exact : (k n : ℕ) → 10 ^ k ≤ n → n < 10 ^ suc k → length (digits n) ≡ suc k
+count-exact zero n l h = count-one n h
+count-exact (suc k) n l h =
+    let low = rw (pow-suc 10 k) at l in
+    let rest = count-exact k (n / 10) (tenth-above (10 ^ k) n low) (tenth-below (10 ^ suc k) n (rw (pow-suc 10 (suc k)) at h)) in
+    omega (arith, count-more n (omega (arith, low, one-least k)), rest)

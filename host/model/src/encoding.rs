@@ -3,8 +3,9 @@
 use crate::alignment::{align, Outcome};
 use crate::clearing::{clear_clashes, delete_pure};
 use crate::counter::{choice_places, take_choice};
+use crate::log_reading::HIGHEST_VARIABLE;
 use crate::order::put_in_order;
-use crate::reading::Formula;
+use crate::reading::{read_formula, Formula, INPUT_LIMITS};
 use crate::standing::Standing;
 use crate::texts::Line;
 use crate::{Arrangement, ChoiceRecord, Form, Settings};
@@ -86,6 +87,22 @@ pub struct Encoding {
 fn first_above(used: i32, step: u32) -> i32 {
     let is_wanted = |number: &i32| (number - 1) % step as i32 == 0;
     (used + 1..).find(is_wanted).expect("numbers do not end")
+}
+
+/// The run over the formula of a text. Refuses with 15, then 1 to 4 or 7 to 9, then 11, 16.
+pub fn encode(text: &[u8], settings: Settings, workspace: u64) -> Result<Encoding, u8> {
+    if !(1..=100).contains(&settings.step) {
+        return Err(15);
+    }
+    let formula = read_formula(text, &INPUT_LIMITS)?;
+    if workspace < formula.workspace_needed() {
+        return Err(11);
+    }
+    let encoding = Encoding::run(&formula, settings);
+    if i64::from(encoding.highest) > HIGHEST_VARIABLE {
+        return Err(16);
+    }
+    Ok(encoding)
 }
 
 impl Encoding {

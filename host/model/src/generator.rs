@@ -314,6 +314,15 @@ pub fn clauses_apart(size: usize, count: usize) -> Formula {
     Formula::new((size * count) as i32, clauses)
 }
 
+/// 626 choices of 5 and a last one of the size, over V variables.
+pub fn many_choices(variables: i32, last: usize) -> Vec<u8> {
+    let mut formula = clauses_apart(5, 626);
+    let literals = (3_131..).take(last);
+    formula.clauses.push(literals.collect());
+    formula.variables = variables;
+    text_of(&formula)
+}
+
 /// 1 and further literals, -1 and further literals: a and b of them. The resolvent has a + b - 2.
 pub fn clashing_at_1(a: i32, b: i32) -> [Vec<i32>; 2] {
     [

@@ -1,7 +1,7 @@
 //! A plain model of document 01 (choice clauses, counters and the way back) and of M-100, M-112, M-118, M-121,
-//! M-130 and M-152 in document 02.
+//! M-126, M-130 and M-152 in document 02.
 //!
-//! Four calls: [`reencode`], [`read_back`], [`walk_back`] and [`carry_forward`].
+//! Five calls: [`reencode`], [`sizes`], [`read_back`], [`walk_back`] and [`carry_forward`].
 //! Each gives its result or the number of its refusal.
 
 #![forbid(unsafe_code)]
@@ -17,17 +17,18 @@ pub mod log_reading;
 pub mod order;
 pub mod reading;
 pub mod sessions;
+pub mod sizes;
 pub mod standing;
 pub mod texts;
 pub mod valleys;
 pub mod walk_back;
 
 pub use carry_forward::carry_forward;
+pub use sizes::{sizes, Sizes};
 pub use walk_back::walk_back;
 
-use encoding::Encoding;
-use log_reading::HIGHEST_VARIABLE;
-use reading::{read_formula, INPUT_LIMITS, READ_BACK_LIMITS};
+use encoding::encode;
+use reading::{read_formula, READ_BACK_LIMITS};
 use texts::{formula_text, log_text};
 
 #[derive(Debug, Clone, Copy, PartialEq, Eq)]
@@ -113,19 +114,23 @@ pub struct Reencoded {
     pub table: Vec<ChoiceRecord>,
 }
 
+impl Reencoded {
+    /// The numbers that the result carries.
+    pub fn sizes(&self) -> Sizes {
+        Sizes {
+            choices: self.choices,
+            highest: self.highest,
+            clauses: self.clauses,
+            lines: self.lines,
+            log_bytes: self.log.len(),
+            formula_bytes: self.formula.len(),
+        }
+    }
+}
+
 /// Refuses with 15, then 1 to 4 or 7 to 9, then 11, 16, 17, 12, 13.
 pub fn reencode(text: &[u8], settings: Settings, room: Room) -> Result<Reencoded, u8> {
-    if !(1..=100).contains(&settings.step) {
-        return Err(15);
-    }
-    let formula = read_formula(text, &INPUT_LIMITS)?;
-    if room.workspace < formula.workspace_needed() {
-        return Err(11);
-    }
-    let encoding = Encoding::run(&formula, settings);
-    if i64::from(encoding.highest) > HIGHEST_VARIABLE {
-        return Err(16);
-    }
+    let encoding = encode(text, settings, room.workspace)?;
     if encoding.table.len() > room.table {
         return Err(17);
     }

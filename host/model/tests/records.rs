@@ -1,7 +1,7 @@
 //! M-118: the table of records, the step, and the numbers 15, 16 and 17.
 
 use model::generator::{
-    clashing_at_1, clauses_apart, forbidding, planned, text_of, varied, Random,
+    clashing_at_1, clauses_apart, forbidding, many_choices, planned, text_of, varied, Random,
 };
 use model::log_reading::read_kept_lines;
 use model::reading::{read_formula, Formula, INPUT_LIMITS};
@@ -362,15 +362,6 @@ fn steps_out_of_range() {
     }
     assert_eq!(encode(b"", Form::Counter, 100), Err(1));
     assert!(encode(b"p cnf 0 0", Form::Counter, 100).is_ok());
-}
-
-/// 626 choices of 5 and a last one of the size, over V variables.
-fn many_choices(variables: i32, last: usize) -> Vec<u8> {
-    let mut formula = clauses_apart(5, 626);
-    let literals = (3_131..).take(last);
-    formula.clauses.push(literals.collect());
-    formula.variables = variables;
-    text_of(&formula)
 }
 
 /// With V 8,000 and step 99 the first choice has 8,020 and the last 69,994: one of 8 literals ends at 70,000.

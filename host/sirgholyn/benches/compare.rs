@@ -1,9 +1,10 @@
 //! The library beside an ordinary implementation with vectors and cadical's and minisat's preprocessing, in one run:
-//! instructions, seconds, peak memory, and growth from size to size; and what carrying a plan over a log takes. Prints
-//! the tables of docs/BENCHMARKS.md.
+//! instructions, seconds, peak memory, and growth from size to size; what carrying a plan over a log takes; what telling
+//! the sizes beforehand takes; and the memory of the whole command. Prints the tables of docs/BENCHMARKS.md.
 //!
-//! `cargo bench --offline --bench compare [-- --short | -- --long | -- --carrying]`. Instructions are counted by valgrind's callgrind
-//! where it is installed, for runs of at most a second; they are those of the whole process.
+//! `cargo bench --offline --bench compare [-- --short | -- --long | -- --carrying | -- --sizes]`. Instructions are counted
+//! by valgrind's callgrind where it is installed, for runs of at most a second; they are those of the whole process.
+//! `-- --memory [--long] [COMMAND]` takes the memory of the command, or of another build of it that is named.
 
 #[path = "../tests/common/formulas.rs"]
 #[allow(dead_code)]
@@ -21,6 +22,7 @@ use sirgholyn::{
     calls, plan, Arrangement, ChoiceRecord, Form, ReencodeRoom, Settings, WalkBackRoom,
 };
 use std::hint::black_box;
+use std::io::{self, Read};
 use std::path::Path;
 use std::process::{Command, Stdio};
 use std::{env, fs};
@@ -40,16 +42,26 @@ fn main() {
         ["--carry", call, formula, log, given, sizes @ ..] => {
             carry_once(call, [formula, log, given], sizes)
         }
+        ["--size", file, form, work] => size_once(file, form, work),
         ["--measure", printed, command @ ..] => measure_once(printed, command),
         ["--short"] => compare(&valleys(&[75, 150])),
         ["--long"] => compare_long(),
         ["--carrying"] => compare_carrying(&valleys(&SIZES)),
+        ["--sizes"] => compare_sizes(&[valleys(&SIZES), at_the_limits()].concat()),
+        ["--memory"] => compare_memory(OWN_COMMAND, false),
+        ["--memory", "--long"] => compare_memory(OWN_COMMAND, true),
+        ["--memory", "--long", command] => compare_memory(command, true),
+        ["--memory", command] => compare_memory(command, false),
         [] => {
-            compare(&[valleys(&SIZES), others()].concat());
+            compare(&[valleys(&SIZES), at_the_limits(), clashes()].concat());
             println!();
             compare_carrying(&valleys(&SIZES));
+            println!();
+            compare_sizes(&[valleys(&SIZES), at_the_limits()].concat());
+            println!();
+            compare_memory(OWN_COMMAND, false);
         }
-        _ => eprintln!("wanted: nothing, --short, --long or --carrying"),
+        _ => eprintln!("wanted: nothing, --short, --long, --carrying, --sizes or --memory"),
     }
 }
 
@@ -79,6 +91,14 @@ fn reencode_once(who: &str, file: &str, form: &str, sizes: &[&str]) {
     } else {
         black_box(vectors::reencode(&text, form, wish).ok().unwrap());
     }
+}
+
+/// The sizes of a file's reencoding, on a workspace of this size.
+fn size_once(file: &str, form: &str, work: &str) {
+    let text = fs::read(file).unwrap();
+    let settings = Settings::new(named(form), Arrangement::Alignment);
+    let mut work = vec![0; work.parse().unwrap()];
+    calls::sizes(&text, settings, &mut work).unwrap();
 }
 
 /// One assignment carried over the log, on buffers of these sizes.
@@ -172,15 +192,20 @@ fn valleys(sizes: &[usize]) -> Vec<Input> {
     sizes.iter().map(valley).collect()
 }
 
-fn others() -> Vec<Input> {
+/// A valley with free lures, and the largest formulas.
+fn at_the_limits() -> Vec<Input> {
     let mut valley = Valley::random(&mut Random::new(1), 300, 12, 780);
     valley.free = (0..300).map(|trap| (trap, 11)).collect();
     let name = "valley, 300 traps, a free lure each".into();
-    let mut inputs = vec![
+    vec![
         input("free lures", name, text_of(&valley.formula())),
         input("k = 5", "largest, k = 5".into(), largest_with(5)),
         input("k = 64", "largest, k = 64".into(), largest_with(64)),
-    ];
+    ]
+}
+
+fn clashes() -> Vec<Input> {
+    let mut inputs = Vec::new();
     for clashes in [650, 1_300, 2_600] {
         let name = format!("{clashes} clashes in a chain");
         let text = formulas::clash_chain(clashes);
@@ -212,18 +237,19 @@ fn compare(inputs: &[Input]) {
 /// all of the wide clauses. They take some gigabytes, and seconds only are told.
 fn compare_long() {
     let chain = formulas::unit_chain(8_000);
-    let wide = formulas::wide_over_choices(5, 1_600, 52_000);
+    let chain = input("long", "unit chain of 8,000".into(), chain);
     let mut rows = Vec::new();
     in_folder(|folder| {
-        for (name, text, form) in [
-            ("unit chain of 8,000", chain, "counter"),
-            ("1,600 choices of 5 under wide clauses", wide, "order"),
-        ] {
-            let input = input("long", name.into(), text);
+        for (input, form) in [(chain, "counter"), (wide(), "order")] {
             rows.push(measure_row(folder, &input, form, false));
         }
     });
     print_seconds(&rows);
+}
+
+fn wide() -> Input {
+    let text = formulas::wide_over_choices(5, 1_600, 52_000);
+    input("long", "1,600 choices of 5 under wide clauses".into(), text)
 }
 
 fn in_folder(work: impl FnOnce(&Path)) {
@@ -263,15 +289,25 @@ fn least_sizes(text: &[u8], form: Form) -> [usize; 4] {
     sizes
 }
 
+/// Writes a file into the folder, and gives its whole name.
+fn write(folder: &Path, name: &str, bytes: &[u8]) -> String {
+    let path = folder.join(name).to_string_lossy().into_owned();
+    fs::write(&path, bytes).unwrap();
+    path
+}
+
+fn own_program() -> String {
+    env::current_exe().unwrap().to_string_lossy().into_owned()
+}
+
 fn measure_row(folder: &Path, input: &Input, form: &'static str, counted: bool) -> Row {
     let name = &input.name;
     eprintln!("{name}, {form} form");
     let path = |name: &str| folder.join(name).to_string_lossy().into_owned();
-    let file = path("formula.cnf");
-    fs::write(&file, &input.text).unwrap();
+    let file = write(folder, "formula.cnf", &input.text);
     let sizes = least_sizes(&input.text, named(form));
     let sizes_in_words = sizes.map(|size| size.to_string());
-    let own = env::current_exe().unwrap().to_string_lossy().into_owned();
+    let own = own_program();
     let words = |who| match who {
         "cadical" => words(&[
             "cadical",
@@ -337,11 +373,7 @@ fn compare_carrying(inputs: &[Input]) {
 
 fn measure_carrying(folder: &Path, input: &Input, form: &'static str) -> CarryingRow {
     eprintln!("{}, {form} form, carried", input.name);
-    let write = |name: &str, bytes: &[u8]| {
-        let path = folder.join(name).to_string_lossy().into_owned();
-        fs::write(&path, bytes).unwrap();
-        path
-    };
+    let write = |name: &str, bytes: &[u8]| write(folder, name, bytes);
     let text = &input.text;
     let settings = Settings::new(named(form), Arrangement::Alignment);
     let new = sirgholyn::reencode(text, settings, ReencodeRoom::default()).unwrap();
@@ -357,7 +389,7 @@ fn measure_carrying(folder: &Path, input: &Input, form: &'static str) -> Carryin
     let read = read_formula(text, &INPUT_LIMITS).unwrap();
     let kept = read_kept_lines(&new.log, lines).unwrap();
     let work = workspace_needed(&read, &kept);
-    let own = env::current_exe().unwrap().to_string_lossy().into_owned();
+    let own = own_program();
     let files = [write("formula.cnf", text), write("log.drat", &new.log)];
     let command = |call: &str, given: &[u8], line: &[u8]| {
         let given = write(call, given);
@@ -385,7 +417,125 @@ fn answer_of(file: &str) -> Vec<u8> {
     output.stdout
 }
 
+// ---- sizes before the run
+
+/// The calls of a row, in the order of its columns.
+const SIZING: [&str; 2] = ["sizes", "reencode"];
+
+struct SizesRow {
+    name: String,
+    form: &'static str,
+    log_megabytes: f64,
+    by: [Measured; SIZING.len()],
+}
+
+/// The sizes told, and the reencoding on buffers of these sizes: each reads the file and lends the same workspace.
+fn compare_sizes(inputs: &[Input]) {
+    let mut rows = Vec::new();
+    in_folder(|folder| {
+        for form in ["counter", "order"] {
+            for input in inputs {
+                rows.push(measure_sizes(folder, input, form));
+            }
+        }
+    });
+    print_sizes(&rows);
+}
+
+fn measure_sizes(folder: &Path, input: &Input, form: &'static str) -> SizesRow {
+    eprintln!("{}, {form} form, sizes", input.name);
+    let file = write(folder, "formula.cnf", &input.text);
+    let sizes = least_sizes(&input.text, named(form));
+    let settings = Settings::new(named(form), Arrangement::Alignment);
+    let told = sirgholyn::sizes(&input.text, settings, Some(sizes[0])).unwrap();
+    let told = [told.log_bytes, told.formula_bytes, told.choices as usize];
+    assert_eq!(told, sizes[1..]);
+
+    let (own, lent) = (own_program(), sizes.map(|size| size.to_string()));
+    let sizing = words(&[&own, "--size", &file, form, &lent[0]]);
+    let reencoding = words(&[&own, "--reencode", "sirgholyn", &file, form]);
+    let commands = [sizing, [&reencoding[..], &lent].concat()];
+    SizesRow {
+        name: input.name.clone(),
+        form,
+        log_megabytes: sizes[1] as f64 / 1e6,
+        by: commands.map(|command| measure(folder, &command, true)),
+    }
+}
+
+// ---- the memory of the command
+
+const OWN_COMMAND: &str = env!("CARGO_BIN_EXE_sirgholyn");
+
+/// The whole command `reencode` in order form, on a valley, and on the formula with the longest log.
+fn compare_memory(command: &str, is_long: bool) {
+    let mut inputs = valleys(&[600]);
+    inputs.extend(is_long.then(wide));
+    println!("The whole command in order form: peak memory in MB, resident and of addresses; median processor seconds.");
+    println!();
+    print_head(&["formula", "log MB", "resident", "addresses", "seconds"]);
+    in_folder(|folder| {
+        for input in &inputs {
+            let file = write(folder, "formula.cnf", &input.text);
+            let command = words(&[command, "reencode", &file, "--form", "order", "--align"]);
+            let [resident, addresses, log] = peaks(&command);
+            let seconds = measure(folder, &command, false).seconds;
+            let name = &input.name;
+            println!("| {name} | {log:.2} | {resident:.1} | {addresses:.1} | {seconds:.3} |");
+        }
+    });
+}
+
+/// The peaks of a run that writes its log, resident and of addresses in MB, and the log's millions of bytes. They are
+/// read while the run waits for someone to take the log, and so has made all its buffers. It has one arena only: the
+/// addresses that the allocator sets aside for another would hide the buffers.
+fn peaks(command: &[String]) -> [f64; 3] {
+    let mut run = Command::new(&command[0])
+        .args(&command[1..])
+        .args(["--log", "-"])
+        .env("MALLOC_ARENA_MAX", "1")
+        .stdout(Stdio::piped())
+        .stderr(Stdio::null())
+        .spawn()
+        .unwrap();
+    let mut log = run.stdout.take().unwrap();
+    log.read_exact(&mut [0]).unwrap();
+    let status = fs::read_to_string(format!("/proc/{}/status", run.id())).unwrap();
+    let rest = io::copy(&mut log, &mut io::sink()).unwrap();
+    assert!(run.wait().unwrap().success());
+    let megabytes = |name: &str| {
+        let line = status.lines().find_map(|line| line.strip_prefix(name));
+        let kilobytes = line.unwrap().trim().trim_end_matches(" kB");
+        kilobytes.parse::<f64>().unwrap() / 1024.0
+    };
+    let log = (1 + rest) as f64 / 1e6;
+    [megabytes("VmHWM:"), megabytes("VmPeak:"), log]
+}
+
 // ---- the tables
+
+fn print_sizes(rows: &[SizesRow]) {
+    println!(
+        "Sizes before the run: instructions of the whole process, the ratio of the two, seconds."
+    );
+    println!();
+    let columns = ["formula", "form", "log MB"];
+    print_head(&[&columns[..], &SIZING, &["ratio", "seconds", "seconds"]].concat());
+    for row in rows {
+        let [sizes, reencode] = &row.by;
+        println!(
+            "| {} | {} | {:.2} | {} | {} | {} | {:.3} | {:.3} |",
+            row.name,
+            row.form,
+            row.log_megabytes,
+            in_millions(sizes),
+            in_millions(reencode),
+            ratio(sizes, reencode),
+            sizes.seconds,
+            reencode.seconds,
+        );
+    }
+}
 
 fn print_carrying(rows: &[CarryingRow]) {
     println!("Carrying over the whole log: instructions of the whole process, growth to the row before, seconds.");

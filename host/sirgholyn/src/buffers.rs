@@ -1,7 +1,9 @@
-//! The calls with buffers of their own: made by the size of the texts, and larger until they fit.
+//! The calls with buffers of their own, each made once. Log, new formula and table get just the sizes that `sizes`
+//! tells; a workspace or a line gets as much as any texts with so many words can ask for, so that a call is never
+//! repeated.
 
 use crate::calls::{self, ChoiceRecord, Counts, Settings, Tally};
-use crate::limits::{Limits, MOST_BUFFER_BYTES, MOST_CHOICES, MOST_LOG_VARIABLES};
+use crate::limits::{Limits, MOST_LOG_VARIABLES};
 use crate::refusals::Refusal;
 use std::alloc::{alloc_zeroed, Layout};
 use std::fmt;
@@ -26,7 +28,8 @@ impl fmt::Display for Error {
 
 impl std::error::Error for Error {}
 
-/// Exact sizes of a reencoding's buffers; those left open are made large enough.
+/// Exact sizes of a reencoding's buffers; of those left open, the workspace is made large enough, and the others just so
+/// large.
 #[derive(Debug, Clone, Copy, Default, PartialEq, Eq)]
 pub struct ReencodeRoom {
     /// 32-bit entries.
@@ -101,35 +104,52 @@ impl ReadBack {
 /// assert_eq!(new.table, [ChoiceRecord { first: 11, length: 6, clauses: 3 }]);
 /// ```
 pub fn reencode(text: &[u8], settings: Settings, room: ReencodeRoom) -> Result<Reencoded, Error> {
-    let mut work = Buffer::new(room.work, reading_workspace(text, &Limits::INPUT))?;
-    let guess = text.len().min(1 << 20);
-    let mut log = Buffer::new(room.log, guess * 16 + (1 << 20))?;
-    let mut formula = Buffer::new(room.formula, guess * 4 + (1 << 18))?;
-    let mut table = Buffer::new(room.table, MOST_CHOICES)?;
-    loop {
-        let outcome = calls::reencode(
-            text,
-            settings,
-            &mut work.entries,
-            &mut log.entries,
-            &mut formula.entries,
-            &mut table.entries,
-        );
-        match outcome {
-            Ok(tally) => {
-                return Ok(Reencoded {
-                    tally,
-                    log: log.into_first(tally.log_bytes),
-                    formula: formula.into_first(tally.formula_bytes),
-                    table: table.into_first(tally.choices as usize),
-                });
-            }
-            Err(11) if work.grow()? => {}
-            Err(12) if log.grow()? => {}
-            Err(13) if formula.grow()? => {}
-            Err(number) => return Err(Error::Refused(Refusal(number))),
-        }
-    }
+    let mut work = input_workspace(text, room.work)?;
+    let told = calls::sizes(text, settings, &mut work).map_err(refused)?;
+    let mut log = zeroed(room.log.unwrap_or(told.log_bytes))?;
+    let mut formula = zeroed(room.formula.unwrap_or(told.formula_bytes))?;
+    let mut table = zeroed(room.table.unwrap_or(told.choices as usize))?;
+    let tally = calls::reencode(
+        text,
+        settings,
+        &mut work,
+        &mut log,
+        &mut formula,
+        &mut table,
+    )
+    .map_err(refused)?;
+    log.truncate(tally.log_bytes);
+    formula.truncate(tally.formula_bytes);
+    table.truncate(tally.choices as usize);
+    Ok(Reencoded {
+        tally,
+        log,
+        formula,
+        table,
+    })
+}
+
+/// Tells what `reencode` would of a formula, without its texts and its table, and so the sizes of their buffers.
+///
+/// Refuses with 15, 1 to 4, 7 to 9, 16; with 11 only where `work` is set.
+///
+/// ```
+/// use sirgholyn::{reencode, sizes, Arrangement, Form, ReencodeRoom, Settings};
+/// let settings = Settings::new(Form::Order, Arrangement::AsListed);
+/// let text = b"p cnf 5 1\n1 2 3 4 5 0\n";
+/// let tally = sizes(text, settings, None).unwrap();
+/// assert_eq!((tally.choices, tally.highest, tally.clauses), (1, 9, 3));
+/// let room = ReencodeRoom {
+///     log: Some(tally.log_bytes),
+///     formula: Some(tally.formula_bytes),
+///     table: Some(1),
+///     work: None,
+/// };
+/// assert_eq!(reencode(text, settings, room).unwrap().tally, tally);
+/// ```
+pub fn sizes(text: &[u8], settings: Settings, work: Option<usize>) -> Result<Tally, Error> {
+    let mut work = input_workspace(text, work)?;
+    calls::sizes(text, settings, &mut work).map_err(refused)
 }
 
 /// Carries a solver's answer back over the first `kept` lines of a log, to a line for the formula.
@@ -193,26 +213,11 @@ fn carry(
     assignment: &[u8],
     room: WalkBackRoom,
 ) -> Result<Vec<u8>, Error> {
-    let mut work = Buffer::new(
-        room.work,
-        4 * (words(formula) + words(log)) + 4 * MOST_LOG_VARIABLES + 64,
-    )?;
-    let mut line = Buffer::new(room.line, longest_line(most_variables))?;
-    loop {
-        match call(
-            formula,
-            log,
-            kept,
-            assignment,
-            &mut work.entries,
-            &mut line.entries,
-        ) {
-            Ok(bytes) => return Ok(line.into_first(bytes)),
-            Err(11) if work.grow()? => {}
-            Err(14) if line.grow()? => {}
-            Err(number) => return Err(Error::Refused(Refusal(number))),
-        }
-    }
+    let mut work = zeroed(room.work.unwrap_or(carrying_workspace(formula, log)))?;
+    let mut line = zeroed(room.line.unwrap_or(longest_line(most_variables)))?;
+    let bytes = call(formula, log, kept, assignment, &mut work, &mut line).map_err(refused)?;
+    line.truncate(bytes);
+    Ok(line)
 }
 
 /// Reads a new formula back. Refuses with 1 to 4, 7 to 9; with 11 only where `store` is set.
@@ -222,26 +227,36 @@ fn carry(
 /// assert_eq!(new.clauses().collect::<Vec<_>>(), [&[1, -2][..], &[]]);
 /// ```
 pub fn read_back(text: &[u8], store: Option<usize>) -> Result<ReadBack, Error> {
-    let mut store = Buffer::new(store, reading_workspace(text, &Limits::NEW_FORMULA))?;
-    loop {
-        match calls::read_back(text, &mut store.entries) {
-            Ok(counts) => {
-                let store = store.into_first((counts.clauses + counts.literals) as usize);
-                return Ok(ReadBack { counts, store });
-            }
-            Err(11) if store.grow()? => {}
-            Err(number) => return Err(Error::Refused(Refusal(number))),
-        }
-    }
+    let mut store = zeroed(store.unwrap_or(reading_workspace(text, &Limits::NEW_FORMULA)))?;
+    let counts = calls::read_back(text, &mut store).map_err(refused)?;
+    store.truncate((counts.clauses + counts.literals) as usize);
+    Ok(ReadBack { counts, store })
 }
 
-/// At least as many entries as the rule for reading asks for.
+fn refused(number: u32) -> Error {
+    Error::Refused(Refusal(number))
+}
+
+/// The workspace for a formula that is handed in: as many entries as are set, or else enough.
+fn input_workspace(text: &[u8], set: Option<usize>) -> Result<Vec<i32>, Error> {
+    zeroed(set.unwrap_or(reading_workspace(text, &Limits::INPUT)))
+}
+
+/// At least as many entries as the rule for reading asks for, so that 11 cannot come: it asks by literals that are kept,
+/// clauses and variables, and a text that passes one of their limits is refused before.
 fn reading_workspace(text: &[u8], limits: &Limits) -> usize {
     let literals = words(text).min(limits.literals);
     40 * literals + 4 * limits.clauses + 12 * limits.variables + 8_192
 }
 
-/// At least as many bytes as the line for so many variables has: each may have a sign, and has a blank.
+/// At least as many entries as the rule for carrying asks for: it asks by the numbers of formula and kept lines and by
+/// their highest variable, and no log has a higher one.
+fn carrying_workspace(formula: &[u8], log: &[u8]) -> usize {
+    4 * (words(formula) + words(log)) + 4 * MOST_LOG_VARIABLES + 64
+}
+
+/// At least as many bytes as the line for so many variables has, so that 14 cannot come: each may have a sign, and has a
+/// blank.
 fn longest_line(variables: usize) -> usize {
     let digits = variables.to_string().len();
     (1 + digits + 1) * variables + "v 0\n".len()
@@ -260,44 +275,13 @@ fn words(text: &[u8]) -> usize {
     count
 }
 
-/// Entries lent to a call.
-struct Buffer<T> {
-    entries: Vec<T>,
-    exact: bool,
-}
-
-impl<T: Number> Buffer<T> {
-    fn new(exact: Option<usize>, guess: usize) -> Result<Self, Error> {
-        Ok(Buffer {
-            entries: zeroed(exact.unwrap_or(guess))?,
-            exact: exact.is_some(),
-        })
-    }
-
-    /// Takes four times the room, unless the size is exact or there is no more to have.
-    fn grow(&mut self) -> Result<bool, Error> {
-        let larger = self.entries.len() * 4;
-        if self.exact || larger * size_of::<T>() > MOST_BUFFER_BYTES {
-            return Ok(false);
-        }
-        self.entries = Vec::new();
-        self.entries = zeroed(larger)?;
-        Ok(true)
-    }
-
-    fn into_first(mut self, count: usize) -> Vec<T> {
-        self.entries.truncate(count);
-        self.entries
-    }
-}
-
 /// Numbers, or records of them, whose bytes may all be zero.
 trait Number: Copy {}
 impl Number for u8 {}
 impl Number for i32 {}
 impl Number for ChoiceRecord {}
 
-/// Zeros. The system hands their memory out as they are first written, so a guess may be generous.
+/// Zeros. The system hands their memory out as they are first written, so a bound may be generous.
 fn zeroed<T: Number>(count: usize) -> Result<Vec<T>, Error> {
     let none = Error::NoMemory(count.saturating_mul(size_of::<T>()));
     let layout = Layout::array::<T>(count).map_err(|_| none)?;

@@ -52,6 +52,19 @@ impl Settings {
     pub const fn with_step(self, step: u32) -> Settings {
         Settings { step, ..self }
     }
+
+    /// Form, arrangement and step as the C functions take them.
+    fn numbers(self) -> [u32; 3] {
+        let form = match self.form {
+            Form::Counter => 0,
+            Form::Order => 1,
+        };
+        let arrangement = match self.arrangement {
+            Arrangement::AsListed => 0,
+            Arrangement::Alignment => 1,
+        };
+        [form, arrangement, self.step]
+    }
 }
 
 /// What is written down of a choice.
@@ -66,10 +79,10 @@ pub struct ChoiceRecord {
     pub clauses: u32,
 }
 
-/// What a reencoding tells beside its two texts and its table.
+/// What a reencoding tells beside its two texts and its table, and what `sizes` tells without them.
 #[derive(Debug, Clone, Copy, PartialEq, Eq)]
 pub struct Tally {
-    /// Clauses taken as choices.
+    /// Clauses taken as choices, each with a record in the table.
     pub choices: u64,
     /// H, the highest variable used.
     pub highest: u64,
@@ -81,6 +94,21 @@ pub struct Tally {
     pub log_bytes: usize,
     /// The new formula's length.
     pub formula_bytes: usize,
+}
+
+impl Tally {
+    /// The counts as the C functions write them.
+    fn read(counts: [u64; 6]) -> Tally {
+        let [choices, highest, clauses, lines, log_bytes, formula_bytes] = counts;
+        Tally {
+            choices,
+            highest,
+            clauses,
+            lines,
+            log_bytes: log_bytes as usize,
+            formula_bytes: formula_bytes as usize,
+        }
+    }
 }
 
 /// What reading back tells beside the clauses.
@@ -114,6 +142,18 @@ pub mod library {
             formula_len: usize,
             table: *mut ChoiceRecord,
             table_len: usize,
+            tally: *mut u64,
+            tally_len: usize,
+        ) -> u32;
+
+        pub fn sirgholyn_sizes(
+            text: *const u8,
+            text_len: usize,
+            form: u32,
+            arrangement: u32,
+            step: u32,
+            work: *mut i32,
+            work_len: usize,
             tally: *mut u64,
             tally_len: usize,
         ) -> u32;
@@ -207,14 +247,7 @@ pub fn reencode(
     formula: &mut [u8],
     table: &mut [ChoiceRecord],
 ) -> Result<Tally, u32> {
-    let form = match settings.form {
-        Form::Counter => 0,
-        Form::Order => 1,
-    };
-    let arrangement = match settings.arrangement {
-        Arrangement::AsListed => 0,
-        Arrangement::Alignment => 1,
-    };
+    let [form, arrangement, step] = settings.numbers();
     let mut tally = [0u64; 6];
     let lent = &mut tally;
     // SAFETY: each pointer and length are those of one slice, lent to the call alone while it runs.
@@ -224,7 +257,7 @@ pub fn reencode(
             text.len(),
             form,
             arrangement,
-            settings.step,
+            step,
             work.as_mut_ptr(),
             work.len(),
             log.as_mut_ptr(),
@@ -237,16 +270,31 @@ pub fn reencode(
             lent.len(),
         )
     });
-    let [choices, highest, clauses, lines, log_bytes, formula_bytes] = tally;
-    let tally = Tally {
-        choices,
-        highest,
-        clauses,
-        lines,
-        log_bytes: log_bytes as usize,
-        formula_bytes: formula_bytes as usize,
-    };
-    outcome(number, tally)
+    outcome(number, Tally::read(tally))
+}
+
+/// Tells what `reencode` would, and writes no text: on as much workspace, a log and a new formula of just so many bytes
+/// and a table with a record for each choice are accepted, and each one short is refused. Refuses with 15, 1 to 4,
+/// 7 to 9, 11, 16.
+pub fn sizes(text: &[u8], settings: Settings, work: &mut [i32]) -> Result<Tally, u32> {
+    let [form, arrangement, step] = settings.numbers();
+    let mut tally = [0u64; 6];
+    let lent = &mut tally;
+    // SAFETY: as in `reencode`.
+    let number = on_own_stack(move || unsafe {
+        library::sirgholyn_sizes(
+            text.as_ptr(),
+            text.len(),
+            form,
+            arrangement,
+            step,
+            work.as_mut_ptr(),
+            work.len(),
+            lent.as_mut_ptr(),
+            lent.len(),
+        )
+    });
+    outcome(number, Tally::read(tally))
 }
 
 /// Writes the walked-back line, and gives its length. Refuses with 1 to 4, 7 to 9, 31 or 34, 41 to 43,

@@ -43,9 +43,6 @@ pub const MOST_PROOF_LINE_BYTES: u64 = 16 << 20;
 /// No text that is read is longer; logs of accepted formulas stay well below.
 pub const MOST_TEXT_BYTES: u64 = 4 << 30;
 
-/// No buffer grows beyond this; a call that wants more is refused.
-pub const MOST_BUFFER_BYTES: usize = 16 << 30;
-
 /// A solver that prints more is stopped.
 pub const MOST_PRINTED_BYTES: usize = 256 << 20;
 

@@ -10,6 +10,7 @@ use model::generator::{clauses_apart, text_of, Random};
 use model::sessions::{CHAIN, F};
 use model::valleys::Valley;
 use sirgholyn::plan;
+use std::collections::HashSet;
 use std::fs;
 
 const ANSWER: &str = "s SATISFIABLE\nv 1 2 3 4 5 -6 -7 -8 -9 10 0\n";
@@ -166,6 +167,82 @@ fn steps() {
     assert_eq!(later, turned);
 }
 
+/// The sizes told before the run are the line of the run, with the same options; no file appears.
+#[test]
+fn sizes_before_the_run() {
+    let folder = Folder::new();
+    let input = folder.write("in.cnf", F.as_bytes());
+    let tally = "choices 1 highest 10 clauses 8 lines 41 log-bytes 371 formula-bytes 77\n";
+    expect_printed(&run(&["sizes", &input, "--form", "order"]), tally);
+    let words = ["sizes", "-", "--form=order", "--work", "8980"];
+    expect_printed(&run_with(&words, JOINED_F.as_bytes()), tally);
+    assert_eq!(folder.names(), ["in.cnf"]);
+
+    let valley = example("valley.cnf");
+    let mut lines = HashSet::new();
+    for form in ["counter", "order"] {
+        for options in [&[][..], &["--align"], &["--step", "10"]] {
+            let words = [&[&valley, "--form", form], options].concat();
+            let told = run(&[&["sizes"], &words[..]].concat());
+            expect_printed(&run(&[&["reencode"], &words[..]].concat()), &told.out);
+            lines.insert(told.out);
+        }
+    }
+    // the valley is aligned as it stands
+    assert_eq!(lines.len(), 4);
+    let unnamed = run(&["sizes", &valley]);
+    expect_printed(&run(&["reencode", &valley]), &unnamed.out);
+}
+
+/// With just what `sizes` prints the command reencodes; with one less of anything it does not.
+#[test]
+fn rooms_of_the_sizes_told() {
+    let told = run(&["sizes", &example("valley.cnf"), "--align"]).out;
+    let numbers = told.split_whitespace().filter_map(|word| word.parse().ok());
+    let numbers: Vec<usize> = numbers.collect();
+    let exact = [numbers[0], numbers[4], numbers[5]];
+    let reencode = |[table, log, formula]: [usize; 3]| {
+        let rooms = [table, log, formula].map(|room| room.to_string());
+        run(&[
+            "reencode",
+            &example("valley.cnf"),
+            "--align",
+            "--table-room",
+            &rooms[0],
+            "--log-room",
+            &rooms[1],
+            "--formula-room",
+            &rooms[2],
+        ])
+    };
+    expect_printed(&reencode(exact), &told);
+    for (place, number) in [17, 12, 13].into_iter().enumerate() {
+        let mut short = exact;
+        short[place] -= 1;
+        expect_failure(&reencode(short), number, "the caller can mend it");
+    }
+}
+
+/// Refusals of `sizes`: who can mend them, and where.
+#[test]
+fn refusals_of_sizes() {
+    let folder = Folder::new();
+    let input = folder.write("in.cnf", F.as_bytes());
+    let many = folder.write("many.cnf", &text_of(&clauses_apart(5, 1_600)));
+    let literal = folder.write("literal.cnf", b"p cnf 2 1\n1\n\t3 0\n");
+    let writer = "the formula's writer can mend it";
+    expect_failure(&run(&["sizes", "/dev/null"]), 1, writer);
+    expect_failure(&run(&["sizes", &literal]), 4, writer);
+    expect_failure(&run(&["sizes", &literal]), 4, "(line 3, byte 2: `3`)");
+    let caller = "the caller can mend it";
+    expect_failure(&run(&["sizes", &input, "--work", "8971"]), 11, caller);
+    expect_failure(&run(&["sizes", "/dev/null", "--step", "0"]), 15, caller);
+    expect_failure(&run(&["sizes", &many, "--step", "39"]), 16, caller);
+    assert_eq!(run(&["sizes", &many, "--step", "38"]).status, 0);
+    let room = ["sizes", &input, "--work", "999999999999999999"];
+    expect_failure(&run(&room), 71, "no memory");
+}
+
 #[test]
 fn help_and_version() {
     let ran = run(&["--help"]);
@@ -175,6 +252,7 @@ fn help_and_version() {
     assert_eq!(run(&["help", "nothing"]).out, ran.out);
     for command in [
         "reencode",
+        "sizes",
         "walk-back",
         "carry-forward",
         "read-back",
@@ -221,7 +299,7 @@ fn help_tells_every_option() {
             }
         }
     }
-    assert_eq!(options, 25);
+    assert_eq!(options, 29);
 }
 
 #[test]
@@ -317,6 +395,14 @@ fn wrong_words() {
             &["reencode", "a", "--table-room", "x"],
             "`--table-room` wants a number",
         ),
+        (&["sizes", "a", "b"], "wanted: IN.cnf; found 2 file names"),
+        (&["sizes", "a", "--log", "b"], "no option `--log` here"),
+        (
+            &["sizes", "a", "--table-room", "1"],
+            "no option `--table-room` here",
+        ),
+        (&["sizes", "a", "--no-align"], "no option `--no-align` here"),
+        (&["sizes", "a", "--step", "ten"], "`--step` wants a number"),
         (
             &["walk-back", "a", "b"],
             "wanted: IN.cnf LOG.drat ANSWER; found 2",
@@ -518,7 +604,7 @@ fn refusals_tell_where() {
         (b"p cnf 2 1\n1", 7, "(line 2, byte 2, where the text ends)"),
         (b"p cnf 2 1\n1 0 2 0\n", 8, "(line 2, byte 5: `2`)"),
     ] {
-        for command in ["reencode", "solve"] {
+        for command in ["reencode", "sizes", "solve"] {
             expect_failure(&run_with(&[command, "-"], text), number, place);
         }
     }
@@ -572,6 +658,7 @@ fn inputs_that_cannot_be_read() {
     let missing = folder.path("missing");
     for words in [
         &["reencode", &missing][..],
+        &["sizes", &missing],
         &["solve", &missing],
         &["read-back", &missing],
         &["walk-back", &missing, &missing, &missing],

@@ -5,8 +5,9 @@ mod common;
 use common::formulas::{any_kind_joined, choices_near_the_limit, is_joined};
 use common::lines::lines_of_choices;
 use common::{
-    carrying_work, compare_read_back, compare_reencode, expect_more, new_formula, note, over_seeds,
-    run_model, skipped, sum, work_for, Carrying, Occurred, Room, CARRYING, NO_STEPS, STEPS, WAYS,
+    carrying_work, compare_read_back, compare_reencode, compare_sizes, expect_exact, expect_more,
+    new_formula, note, over_seeds, run_model, skipped, sum, work_for, Carrying, Occurred, Room,
+    CARRYING, NO_STEPS, STEPS, WAYS,
 };
 use model::encoding::{Encoding, Tally, PAIRS};
 use model::generator::{
@@ -196,6 +197,8 @@ fn in_order(seed: u64, occurred: &mut Occurred) {
         let asked = mostly(&mut random, way);
         let number = compare_reencode(&input.text, asked, room);
         read_outcome(occurred, "reencode", number, &input);
+        let told = expect_told(occurred, &input.text, asked, room.work, number);
+        read_outcome(occurred, "sizes", told, &input);
         if number == 0 {
             note_table(occurred, way, &input.formula, &encoding);
             if way.form == Form::Counter {
@@ -207,13 +210,49 @@ fn in_order(seed: u64, occurred: &mut Occurred) {
             let number = compare_read_back(&text.text, store);
             read_outcome(occurred, "read-back", number, text);
         }
-        for (carrying, random) in CARRYING.into_iter().zip([&mut random, forward_random]) {
-            let carried = carry_in_order(random, carrying, &input, &encoding);
-            read_outcome(occurred, carrying.name(), carried.number, &input);
-            if carried.number == 0 {
-                let of = format!("{}, {name}", carrying.name());
-                note_carried(occurred, &of, &encoding, &carried);
+        let randoms = [&mut random, &mut *forward_random];
+        carry_both_ways(occurred, randoms, &name, &input, &encoding);
+    }
+}
+
+fn carry_both_ways(
+    occurred: &mut Occurred,
+    randoms: [&mut Random; 2],
+    way: &str,
+    input: &Joined,
+    encoding: &Encoding,
+) {
+    for (carrying, random) in CARRYING.into_iter().zip(randoms) {
+        let carried = carry_in_order(random, carrying, input, encoding);
+        read_outcome(occurred, carrying.name(), carried.number, input);
+        if carried.number == 0 {
+            let of = format!("{}, {way}", carrying.name());
+            note_carried(occurred, &of, encoding, &carried);
+        }
+    }
+}
+
+/// The sizes by library and model, beside the number of a reencoding on as much workspace: the same number, but where a
+/// buffer is too short. Buffers of just these sizes are accepted, and each one short is refused. The answer is the number.
+fn expect_told(
+    occurred: &mut Occurred,
+    text: &[u8],
+    way: Settings,
+    work: usize,
+    number: u32,
+) -> u32 {
+    match compare_sizes(text, way, work) {
+        Ok(tally) => {
+            assert!([0, 12, 13, 17].contains(&number));
+            note(occurred, "just the sizes told", 1);
+            for short in expect_exact(text, way, work, tally) {
+                note(occurred, format!("one short of the sizes told: {short}"), 1);
             }
+            0
+        }
+        Err(told) => {
+            assert_eq!(told, number);
+            told
         }
     }
 }
@@ -243,8 +282,11 @@ fn near_the_limit(seed: u64, occurred: &mut Occurred) {
         table: around(random, exact.table),
         ..exact
     };
-    let number = compare_reencode(&text_of(&formula), way, room);
+    let text = text_of(&formula);
+    let number = compare_reencode(&text, way, room);
     outcome(occurred, "near the limit", number);
+    let told = expect_told(occurred, &text, way, room.work, number);
+    outcome(occurred, "near the limit, sizes", told);
 }
 
 /// What carrying an assignment over the lines of a log came to.
@@ -334,8 +376,11 @@ fn changed(seed: u64, occurred: &mut Occurred) {
         formula: 20 * text.len() + 4_000,
         table: encoding.table.len() + random.below(5),
     };
-    let number = compare_reencode(&text, mostly(&mut random, way), room);
+    let asked = mostly(&mut random, way);
+    let number = compare_reencode(&text, asked, room);
     outcome(occurred, "reencode", number);
+    let told = expect_told(occurred, &text, asked, room.work, number);
+    outcome(occurred, "sizes", told);
     if number == 0 {
         let read = read_formula(&text, &INPUT_LIMITS).unwrap();
         let encoding = run_model(&read, way);
@@ -401,8 +446,10 @@ fn library_and_model_agree() {
     expect_cases(&occurred);
     expect_choices(&occurred);
     expect_tables(&occurred);
+    expect_sizes(&occurred);
     for (call, numbers) in [
         ("reencode", &[0, 1, 2, 3, 4, 7, 8, 11, 12, 13, 15, 17][..]),
+        ("sizes", &[0, 1, 2, 3, 4, 7, 8, 11, 15]),
         ("read-back", &[0, 1, 2, 3, 4, 7, 8, 11]),
         ("walk-back", &[0, 11, 14, 31, 32, 33, 34, 41, 42, 43, 44]),
         (
@@ -503,6 +550,25 @@ fn expect_tables(occurred: &Occurred) {
     let numbers = [(0, 50), (11, 5), (16, 50), (17, 2)];
     let near = |(number, least)| (format!("near the limit {number:02}"), least);
     expect_more(occurred, numbers.map(near));
+}
+
+/// Just the sizes that were told, each of them one short, and what only the workspace, the step and the highest variable
+/// can raise.
+fn expect_sizes(occurred: &Occurred) {
+    expect_more(
+        occurred,
+        [
+            ("just the sizes told", 40_000),
+            ("one short of the sizes told: 17", 15_000),
+            ("one short of the sizes told: 12", 30_000),
+            ("one short of the sizes told: 13", 40_000),
+            ("sizes 11", 500),
+            ("sizes 15", 500),
+            ("near the limit, sizes 00", 50),
+            ("near the limit, sizes 11", 5),
+            ("near the limit, sizes 16", 50),
+        ],
+    );
 }
 
 /// The call ended with each of these numbers and no other, and accepted texts of both kinds.

@@ -5,8 +5,8 @@ mod common;
 
 use common::formulas::JOINED_F;
 use common::{
-    compare_read_back, compare_reencode, count, expect_numbers, over_seeds, run_model, sum, way_of,
-    Carrying, Numbers, Room, CARRYING, WAYS,
+    compare_read_back, compare_reencode, compare_sizes, count, expect_exact, expect_numbers,
+    over_seeds, run_model, sum, way_of, Carrying, Numbers, Room, CARRYING, WAYS,
 };
 use model::generator::Random;
 use model::reading::{read_formula, INPUT_LIMITS};
@@ -70,6 +70,26 @@ fn formulas() {
     });
     let numbers = sum(counted);
     expect_numbers(&numbers, &[0, 1, 2, 3, 4, 7, 8, 44, 45]);
+}
+
+/// The sizes of each damaged text: what they tell is just enough, and no buffer's number is among the refusals.
+#[test]
+fn sizes_of_formulas() {
+    let counted = over_seeds(0..TEXTS.len() as u64, |index, numbers: &mut Numbers| {
+        for (turn, text) in each_damage(TEXTS[index as usize]).iter().enumerate() {
+            let way = way_of(turn as u64);
+            match compare_sizes(text, way, ROOM.work) {
+                Ok(tally) => {
+                    count(numbers, 0);
+                    expect_exact(text, way, ROOM.work, tally);
+                }
+                Err(number) => count(numbers, number),
+            }
+        }
+    });
+    let numbers = sum(counted);
+    expect_numbers(&numbers, &[0, 1, 2, 3, 4, 7, 8]);
+    assert!(numbers.keys().all(|number| *number < 10) && numbers[&0] > 3_000);
 }
 
 /// Carries an assignment over session F's log, each byte of both damaged in turn.
@@ -139,6 +159,8 @@ fn random_bytes() {
         let answer = bytes(b"s SATISFIABLE\nv ");
         let way = way_of(seed);
         count(numbers, compare_reencode(&text, way, ROOM));
+        let sized = compare_sizes(&text, way, ROOM.work);
+        count(numbers, sized.err().unwrap_or(0));
         count(numbers, compare_read_back(&text, ROOM.work));
         let kept = (seed % 3) as usize;
         for carrying in CARRYING {

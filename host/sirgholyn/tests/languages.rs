@@ -5,7 +5,9 @@ mod common;
 use common::solvers::Folder;
 use common::{numbers_of, LISTED};
 use sirgholyn::limits::MOST_CHOICES;
-use sirgholyn::{reencode, Arrangement, ChoiceRecord, Form, ReencodeRoom, Refusal, Settings};
+use sirgholyn::{
+    reencode, Arrangement, ChoiceRecord, Form, ReencodeRoom, Reencoded, Refusal, Settings, Tally,
+};
 use std::fs;
 use std::mem::offset_of;
 use std::path::{Path, PathBuf};
@@ -152,7 +154,7 @@ fn the_declarations_are_those_of_the_source() {
     let header = words(&text("host/include/sirgholyn.h")).replace("( ", "(");
     let calls = words(&text("host/sirgholyn/src/calls.rs"));
     let exported = exported();
-    assert_eq!(exported.len(), 4);
+    assert_eq!(exported.len(), 5);
     for Exported { name, parameters } in &exported {
         let c: Vec<String> = parameters.iter().map(in_c).collect();
         let c = format!("uint32_t {name}({});", c.join(", "));
@@ -161,8 +163,8 @@ fn the_declarations_are_those_of_the_source() {
         let rust = format!("pub fn {name}( {} ) -> u32;", rust.join(" "));
         assert!(calls.contains(&rust), "{rust}");
     }
-    assert_eq!(header.matches("uint32_t sirgholyn_").count(), 4);
-    assert_eq!(calls.matches("pub fn sirgholyn_").count(), 4);
+    assert_eq!(header.matches("uint32_t sirgholyn_").count(), 5);
+    assert_eq!(calls.matches("pub fn sirgholyn_").count(), 5);
 }
 
 /// The names of the 32-bit numbers that a text has between two words.
@@ -342,25 +344,49 @@ fn python_bindings() {
     printed(&mut tests);
 }
 
-/// An example's table, with a step that skips numbers, is the same.
+/// An example's reencoding in order form, aligned, with a step that skips numbers; and what a line of Python prints
+/// of its `text` with the same `settings`.
+fn of_example(line: &str) -> (Reencoded, String) {
+    let (example, folder) = (checkout("examples/valley.cnf"), library_folder());
+    build_shared_library(&folder);
+    let settings = Settings::new(Form::Order, Arrangement::Alignment).with_step(7);
+    let formula = fs::read(&example).unwrap();
+    let new = reencode(&formula, settings, ReencodeRoom::default()).unwrap();
+    let script = format!(
+        "import sys, sirgholyn\n\
+        text = sys.stdin.buffer.read()\n\
+        settings = dict(form='order', align=True, step=7)\n\
+        {line}"
+    );
+    let mut python = python();
+    python.args(["-c", &script]).env("SIRGHOLYN_LIB", folder);
+    python.stdin(fs::File::open(example).unwrap());
+    (new, printed(&mut python))
+}
+
 #[test]
 fn tables_in_python() {
-    let folder = library_folder();
-    build_shared_library(&folder);
-    let formula = fs::read(checkout("examples/valley.cnf")).unwrap();
-    let settings = Settings::new(Form::Order, Arrangement::Alignment).with_step(7);
-    let new = reencode(&formula, settings, ReencodeRoom::default()).unwrap();
+    let line = "for c in sirgholyn.reencode(text, **settings).table: print(*c)";
+    let (new, printed) = of_example(line);
     assert_eq!(new.table.len(), 20);
-    let script = "import sys, sirgholyn\n\
-        text = sys.stdin.buffer.read()\n\
-        for c in sirgholyn.reencode(text, form='order', align=True, step=7).table: print(*c)";
-    let mut python = python();
-    python.args(["-c", script]).env("SIRGHOLYN_LIB", folder);
-    python.stdin(fs::File::open(checkout("examples/valley.cnf")).unwrap());
     let line = |c: &ChoiceRecord| format!("{} {} {}\n", c.first, c.length, c.clauses);
+    assert_eq!(printed, new.table.iter().map(line).collect::<String>());
+}
+
+#[test]
+fn sizes_in_python() {
+    let (new, printed) = of_example("print(*sirgholyn.sizes(text, **settings))");
+    let Tally {
+        choices,
+        highest,
+        clauses,
+        lines,
+        ..
+    } = new.tally;
+    let (log, formula) = (new.log.len(), new.formula.len());
     assert_eq!(
-        printed(&mut python),
-        new.table.iter().map(line).collect::<String>()
+        printed,
+        format!("{choices} {highest} {clauses} {lines} {log} {formula}\n")
     );
 }
 

@@ -5,8 +5,8 @@ mod common;
 use common::formulas::{clash_chain, with_pairs, JOINED_F};
 use common::lines::parts;
 use common::{
-    carrying_work, compare_read_back, compare_reencode, new_formula, run_model, work_for, Carrying,
-    Room, CARRYING, PLENTY, WAYS,
+    carrying_work, compare_read_back, compare_reencode, compare_sizes, new_formula, run_model,
+    work_for, Carrying, Room, CARRYING, PLENTY, WAYS,
 };
 use model::generator::{
     all_but_one, clashing_at_1, clauses_apart, forbidding, largest_with, text_of,
@@ -31,6 +31,11 @@ const LARGE: Room = Room {
 
 fn reencode(text: &str) -> u32 {
     compare_reencode(text.as_bytes(), WAYS[0], LARGE)
+}
+
+fn sizes(text: &str) -> u32 {
+    let sized = compare_sizes(text.as_bytes(), WAYS[2], PLENTY);
+    sized.err().unwrap_or(0)
 }
 
 fn read_back(text: &str) -> u32 {
@@ -137,6 +142,7 @@ fn literals_that_are_kept() {
     // the last clause is empty, so that walk-back ends with 44 and carrying forward with 45
     for (call, accepted, variables, most) in [
         (reencode as fn(&str) -> u32, 0, 8_000, 60_000),
+        (sizes, 0, 8_000, 60_000),
         (walk_back, 44, 8_000, 60_000),
         (carry_forward, 45, 8_000, 60_000),
         (read_back, 0, 70_000, 1_000_000),
@@ -170,6 +176,8 @@ fn workspace_by_what_is_kept() {
                     ..LARGE
                 };
                 assert_eq!(compare_reencode(text, WAYS[2], room), number);
+                let sized = compare_sizes(text, WAYS[2], entries);
+                assert_eq!(sized.err().unwrap_or(0), number);
             }
             assert_eq!(compare_read_back(text, entries), number);
         }
@@ -231,6 +239,7 @@ fn clauses_left_out() {
         ("p cnf 2 1\n1 -1 c 0\n", 3),
     ] {
         assert_eq!(reencode(text), number, "{text}");
+        assert_eq!(sizes(text), number, "{text}");
         assert_eq!(read_back(text), number, "{text}");
         assert_eq!(walk_back(text), number, "{text}");
         assert_eq!(carry_forward(text), number, "{text}");

@@ -135,6 +135,7 @@ fn the_input_by_any_name_is_no_output() {
         for command in [
             "reencode \"$2\"",
             "reencode \"$2\" --log -",
+            "sizes \"$2\"",
             "read-back \"$2\"",
             "solve \"$2\"",
             "walk-back \"$3\" \"$3\" \"$2\"",
@@ -316,6 +317,7 @@ fn names_are_shown_escaped() {
     ] {
         for words in [
             &["reencode"][..],
+            &["sizes"],
             &["solve"],
             &["read-back"],
             &["walk-back", "/dev/null", "/dev/null"],

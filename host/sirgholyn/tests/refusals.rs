@@ -1,11 +1,14 @@
-//! What each number says, and buffers that grow until they suffice.
+//! What each number says, the order of the numbers, and rooms that are set.
 
 mod common;
 
-use common::formulas::clash_chain;
-use common::{compare_reencode, run_model, Carrying, Room, LISTED, PLENTY, WAYS};
+use common::{
+    compare_reencode, compare_sizes, run_model, work_for, Carrying, Room, LISTED, PLENTY, WAYS,
+};
 use model::generator::{clauses_apart, text_of};
-use sirgholyn::{reencode, walk_back, Error, ReencodeRoom, Refusal, WalkBackRoom};
+use model::reading::{read_formula, INPUT_LIMITS};
+use model::sessions::F;
+use sirgholyn::{reencode, Error, ReencodeRoom, Refusal};
 use std::collections::HashSet;
 
 #[test]
@@ -100,30 +103,82 @@ fn the_order_of_forward_refusals() {
     assert_eq!(line.as_deref(), Ok(&b"v 1 -2 3 0\n"[..]));
 }
 
-/// A log some hundred times as long as its formula, which no first guess covers.
+/// Sizes with everything wrong, of which one thing after the other is mended.
 #[test]
-fn buffers_grow() {
-    let text = clash_chain(700);
-    let way = WAYS[0];
-    let open = ReencodeRoom::default();
-    let new = reencode(&text, way, open).unwrap();
-    assert!(new.log.len() > 100 * text.len());
-    let exact = ReencodeRoom {
-        work: None,
-        log: Some(new.log.len()),
-        formula: Some(new.formula.len()),
-        table: Some(new.table.len()),
-    };
-    assert_eq!(reencode(&text, way, exact).as_ref(), Ok(&new));
-    let short = ReencodeRoom {
-        log: Some(new.log.len() - 1),
-        ..open
-    };
-    let refused = Err(Error::Refused(Refusal(12)));
-    assert_eq!(reencode(&text, way, short), refused);
+fn the_order_of_sizes_refusals() {
+    let formula = clauses_apart(5, 1_600);
+    for way in WAYS {
+        let enough = work_for(&formula);
+        let (mut text, mut step, mut work) = (Vec::new(), 0, enough - 1);
+        for number in [15, 1, 11, 16] {
+            let found = compare_sizes(&text, way.with_step(step), work);
+            assert_eq!(found, Err(number), "{way:?}");
+            match number {
+                15 => step = 39,
+                1 => text = text_of(&formula),
+                11 => work = enough,
+                _ => step = 38,
+            }
+        }
+        let found = compare_sizes(&text, way.with_step(step), work);
+        assert_eq!(found.map(|tally| tally.highest), Ok(68_784));
+    }
+}
 
-    let none = b"s SATISFIABLE\nv 0\n";
-    let lines = new.tally.lines as usize;
-    let line = walk_back(&text, &new.log, lines, none, WalkBackRoom::default());
-    assert_eq!(line, Err(Error::Refused(Refusal(44))));
+/// Each room left open, just enough, or one short: of those that are short the first in the order of the numbers decides.
+#[test]
+fn every_combination_of_rooms() {
+    let text = F.as_bytes();
+    let work = work_for(&read_formula(text, &INPUT_LIMITS).unwrap());
+    for way in WAYS {
+        let new = reencode(text, way, ReencodeRoom::default()).unwrap();
+        let exact = [work, new.table.len(), new.log.len(), new.formula.len()];
+        for combination in 0..81 {
+            let kinds = [1, 3, 9, 27].map(|weight| combination / weight % 3);
+            let room = |place: usize| match kinds[place] {
+                0 => None,
+                kind => Some(exact[place] - (kind - 1)),
+            };
+            let rooms = ReencodeRoom {
+                work: room(0),
+                table: room(1),
+                log: room(2),
+                formula: room(3),
+            };
+            let found = reencode(text, way, rooms);
+            match kinds.iter().position(|&kind| kind == 2) {
+                None => assert_eq!(found.as_ref(), Ok(&new)),
+                Some(place) => {
+                    let number = [11, 17, 12, 13][place];
+                    assert_eq!(found, Err(Error::Refused(Refusal(number))), "{rooms:?}");
+                }
+            }
+        }
+    }
+}
+
+/// Whatever room is set, a formula that is refused, or its step, has its own number.
+#[test]
+fn rooms_that_are_short_and_other_faults() {
+    let none = ReencodeRoom {
+        work: Some(0),
+        log: Some(0),
+        formula: Some(0),
+        table: Some(0),
+    };
+    let most = text_of(&clauses_apart(5, 1_600));
+    let open = ReencodeRoom { work: None, ..none };
+    for (text, step, room, number) in [
+        (&b""[..], 0, none, 15),
+        (b"", 1, none, 1),
+        (b"p cnf 1 1\n1", 1, none, 7),
+        (&most, 39, none, 11),
+        (&most, 39, open, 16),
+        (&most, 38, open, 17),
+    ] {
+        for way in WAYS {
+            let refused = Err(Error::Refused(Refusal(number)));
+            assert_eq!(reencode(text, way.with_step(step), room), refused);
+        }
+    }
 }

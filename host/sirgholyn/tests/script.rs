@@ -509,7 +509,7 @@ fn interrupted_while_building() {
 
 /// Words that the script answers where nothing is built, each with its message, or the text that is told.
 #[rustfmt::skip]
-const WORDS: [(&[&str], Result<&str, &str>); 49] = [
+const WORDS: [(&[&str], Result<&str, &str>); 52] = [
     (&[], Err("which command? `sirgholyn --help` lists them")),
     (&["--help"], Ok("help")),
     (&["-h"], Ok("help")),
@@ -517,6 +517,7 @@ const WORDS: [(&[&str], Result<&str, &str>); 49] = [
     (&["help", "solve"], Ok("solve")),
     (&["--help", "walk-back", "x"], Ok("walk-back")),
     (&["help", "carry-forward"], Ok("carry-forward")),
+    (&["sizes", "-h"], Ok("sizes")),
     (&["help", "encode"], Ok("help")),
     (&["help", ""], Ok("help")),
     (&["reencode", "--help"], Ok("reencode")),
@@ -529,6 +530,8 @@ const WORDS: [(&[&str], Result<&str, &str>); 49] = [
     (&["tä`\t\u{1b}\n"], Err("there is no command `tä\\x60\\t\\x1b\\n`; `sirgholyn --help` lists them")),
     (&["reencode"], Err("wanted: IN.cnf; found 0 file names")),
     (&["reencode", "a", "b"], Err("wanted: IN.cnf; found 2 file names")),
+    (&["sizes"], Err("wanted: IN.cnf; found 0 file names")),
+    (&["sizes", "a", "--log-room", "1"], Err("there is no option `--log-room` here")),
     (&["walk-back", "a", "b"], Err("wanted: IN.cnf LOG.drat ANSWER; found 2 file names")),
     (&["walk-back", "-", "a", "-"], Err("standard input can be read once only")),
     (&["carry-forward"], Err("wanted: IN.cnf LOG.drat PLAN; found 0 file names")),
@@ -604,6 +607,7 @@ fn words_are_read_before_anything_is_built() {
             "--table-room",
             "0",
         ],
+        &["sizes", "a", "--align", "--form=order", "--step", "9"],
         &["walk-back", "a", "b", "-", "--keep", "18446744073709551615"],
         &["carry-forward", "a", "b", "-", "--keep=0", "--room", "9"],
     ] {

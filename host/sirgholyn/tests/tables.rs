@@ -3,7 +3,7 @@
 mod common;
 
 use common::solvers::named;
-use common::{compare_reencode, run_model, Room, WAYS};
+use common::{compare_reencode, compare_sizes, run_model, Room, WAYS};
 use model::generator::{clauses_apart, text_of};
 use model::reading::Formula;
 use model::sessions::F;
@@ -27,17 +27,20 @@ fn fives_and_one(fives: usize, size: i32) -> Formula {
     formula
 }
 
-/// The highest variable with a step, or the number of the refusal; the bytes are the model's.
+/// The highest variable with a step, or the number of the refusal; the bytes are the model's. `sizes` tells the same.
 fn highest_of(formula: &Formula, way: Settings) -> Result<u64, u32> {
     let text = text_of(formula);
     let number = compare_reencode(&text, way, LARGE);
-    match sirgholyn::reencode(&text, way, ReencodeRoom::default()) {
+    let found = match sirgholyn::reencode(&text, way, ReencodeRoom::default()) {
         Ok(new) => Ok(new.tally.highest),
         Err(error) => {
             assert_eq!(error, Error::Refused(Refusal(number)));
             Err(number)
         }
-    }
+    };
+    let sized = compare_sizes(&text, way, LARGE.work);
+    assert_eq!(sized.map(|tally| tally.highest), found);
+    found
 }
 
 #[test]

@@ -58,9 +58,9 @@ use Rattle.run.specs.Run.{row-numbers}
 use Rattle.run.proofs.Settings as S
 use Rattle.run.proofs.Settings.Laws as S′
 use Rattle.call_reencode.specs.declared.Made.{Made}
-use Rattle.call_reencode.specs.Outcome.{outcome-of}
-use Rattle.call_reencode.proofs.Reencoding as E
-use Rattle.call_reencode.proofs.Reencoding.Laws as E′
+use Rattle.formula_run.specs.Outcome.{outcome-of}
+use Rattle.formula_run.proofs.Tallied as E
+use Rattle.formula_run.proofs.Tallied.Laws as E′
 use Rattle.call_reencode.proofs.Made as R
 use Rattle.call_reencode.proofs.Made.Laws as R′
 use Rattle.call_reencode.proofs.Called.{made-val, settings-val, answer-val as reencoding-val, Rows, to-rows, For-rows, Told-rows, Of-rows, asks-rows, gives-rows, out, log-after, formula-after, table-after}

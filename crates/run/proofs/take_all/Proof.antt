@@ -1,4 +1,4 @@
-use Rattle.run.proofs.Numbered.{took-high, took-short, take-all-ready, took}
+use Rattle.run.proofs.Numbered.{took-high, take-all-ready, took}
 use borrow.Author.Needs.{needs}
 use Rattle.run.proofs.take_all.Statement.{statement}
 use Rattle.run.proofs.take_all.Tie as tie
@@ -16,20 +16,15 @@ returns c =
     let number = c .before .before .before .before .number in
     took-high (number .ensures) (c .if1 .taken)
 
-same-length-2 : tie.Need-same-length-2
-same-length-2 c = search needs
-
-returns-2 : tie.Need-returns-2
-returns-2 c =
-    let number = c .before .before .before .before .before .before .number in
-    took-short (number .ensures) (c .before .before .if1 .left) (c .if2 .taken)
-
 take-requires : tie.Need-take-requires
 take-requires c κs =
-    let back = c .before .before .before .before .before .before in let if1 = back .if1 in
+    let back = c .before .before .before .before in let if1 = back .if1 in
     let back = back .before .before .before .before in let number = back .number in
     let start = back .before .before .before .before .before .before .before in
     (take-all-ready (start .pre .0) (number .ensures) (if1 .left), start .pre .1, start .pre .2)
+
+same-length-2 : tie.Need-same-length-2
+same-length-2 c = search needs
 
 same-length-3 : tie.Need-same-length-3
 same-length-3 c = search needs
@@ -43,16 +38,12 @@ same-length-5 c = search needs
 same-length-6 : tie.Need-same-length-6
 same-length-6 c = search needs
 
-same-length-7 : tie.Need-same-length-7
-same-length-7 c = search needs
-
-returns-3 : tie.Need-returns-3
-returns-3 c =
+returns-2 : tie.Need-returns-2
+returns-2 c =
     let back = c .before .before .before .before .before .before .before in let take = back .take in
-    let back = back .before .before .before .before .before in let if2 = back .if2 in
-    let back = back .before .before in let if1 = back .if1 in
+    let back = back .before .before .before .before .before in let if1 = back .if1 in
     let number = back .before .before .before .before .number in
-    took (number .ensures) (if1 .left) (if2 .left) (take .ensures)
+    took (number .ensures) (if1 .left) (take .ensures)
 
 pub take-all-spec : {M : Type 1} → statement M
 take-all-spec =
@@ -61,12 +52,10 @@ take-all-spec =
     number-requires
     same-length
     returns
-    same-length-2
-    returns-2
     take-requires
+    same-length-2
     same-length-3
     same-length-4
     same-length-5
     same-length-6
-    same-length-7
-    returns-3)
+    returns-2)

@@ -1,7 +1,7 @@
 //! The rows as theorems for the checker: each says that a call of the definition gives what the model
 //! gives. All that is written in the checker's language stands in this file.
 
-use crate::rows::{Call, Carry, Outcome, Row};
+use crate::rows::{Call, Carry, Numbers, Outcome, Row};
 use model::{Arrangement, ChoiceRecord, Form, Room, Settings};
 
 /// What the rows' theorems share: settings, and tests of what a call gives. `computing` opens all that a
@@ -99,11 +99,11 @@ const USES: &str = "use mathlib.Core.List.{[], _∷_}
 use lib.Dec.{T}
 use Rattle.definition.specs.Text.{bytes}
 use Rattle.definition.specs.Reading.{input-limits, read-formula}
-use Rattle.definition.specs.Calls.{reencode, read-back, walk-back, carry-forward}
+use Rattle.definition.specs.Calls.{reencode, sizes, read-back, walk-back, carry-forward}
 use Rattle.definition.specs.Sessions.{good, is-fault}
 use Rattle.rows.specs.Given
 use Rattle.rows.specs.Given.{counter-by, counter-aligned-by, order-by, order-aligned-by}
-use Rattle.rows.specs.Given.{entry, reencoded, read, line, choices}
+use Rattle.rows.specs.Given.{same-tally, entry, reencoded, read, line, choices}
 ";
 
 /// A theorem for each row, under its name.
@@ -130,6 +130,7 @@ pub fn row_text(row: &Row) -> String {
             let table = table_text(table);
             format!("good ({call}) (reencoded {tally} {log} {formula} {table})")
         }
+        Outcome::Sized(tally) => format!("good ({call}) (same-tally {})", tally_text(tally)),
         Outcome::Read(text) => format!("good ({call}) (read {})", quoted(text)),
         Outcome::Line(text) => format!("good ({call}) (line {})", quoted(text)),
         Outcome::Chosen(text) => format!("good ({call}) (choices {})", quoted(text)),
@@ -139,7 +140,7 @@ pub fn row_text(row: &Row) -> String {
 fn call_text(call: &Call) -> String {
     match call {
         Call::Reencode(call) => {
-            let (settings, text) = (settings(call.settings), quoted(&call.text));
+            let (settings, text) = (settings_text(call.settings), quoted(&call.text));
             let Room {
                 workspace,
                 log,
@@ -147,6 +148,14 @@ fn call_text(call: &Call) -> String {
                 table,
             } = call.room;
             format!("reencode {settings} {workspace} {log} {formula} {table} (bytes {text})")
+        }
+        Call::Sizes {
+            settings,
+            work,
+            text,
+        } => {
+            let (settings, text) = (settings_text(*settings), quoted(text));
+            format!("sizes {settings} {work} (bytes {text})")
         }
         Call::ReadBack { work, text } => format!("read-back {work} (bytes {})", quoted(text)),
         Call::Carry(call) => carry_text(call),
@@ -160,7 +169,7 @@ fn carry_text(call: &Carry) -> String {
     format!("{name} {work} {room} {kept} (bytes {text}) (bytes {log}) (bytes {answer})")
 }
 
-fn settings(settings: Settings) -> String {
+fn settings_text(settings: Settings) -> String {
     let form = match settings.form {
         Form::Counter => "counter",
         Form::Order => "order",
@@ -181,7 +190,7 @@ fn table_text(table: &[ChoiceRecord]) -> String {
     format!("({entries}[])")
 }
 
-fn tally_text([choices, highest, clauses, lines, log_bytes, formula_bytes]: &[usize; 6]) -> String {
+fn tally_text([choices, highest, clauses, lines, log_bytes, formula_bytes]: &Numbers) -> String {
     format!(
         "(record {{ choices = {choices}; highest = {highest}; clauses = {clauses}; lines = {lines}; \
          log-bytes = {log_bytes}; formula-bytes = {formula_bytes} }})"

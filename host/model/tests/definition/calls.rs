@@ -178,6 +178,21 @@ pub fn reencoding(
     })
 }
 
+/// In so many of a hundred cases, the text is damaged, the workspace short.
+pub fn sizing(
+    formula: impl Into<Joined>,
+    random: &mut Random,
+    settings: Settings,
+    damaged: usize,
+) -> Call {
+    let Joined { text, formula } = formula.into();
+    Call::Sizes {
+        settings,
+        work: room(random, formula.workspace_needed() as usize, damaged),
+        text: perhaps_damaged(random, text, damaged),
+    }
+}
+
 /// The run of a formula whose log is gone over or whose new formula is read back, with any step.
 fn run(formula: &Formula, random: &mut Random, form: Form) -> Encoding {
     let settings = Settings {

@@ -3,8 +3,8 @@
 use crate::rows::{Call, Carry, Row, Way};
 use model::encoding::{Encoding, PAIRS};
 use model::generator::clauses_with_repeat;
-use model::reading::{read_formula, READ_BACK_LIMITS};
-use model::Arrangement;
+use model::reading::{read_formula, INPUT_LIMITS, READ_BACK_LIMITS};
+use model::{Arrangement, Settings};
 use std::collections::BTreeMap;
 
 pub type Counts = BTreeMap<String, usize>;
@@ -14,6 +14,7 @@ pub fn counts(rows: &[Row]) -> Counts {
     for row in rows {
         let (call, texts) = match &row.call {
             Call::Reencode(call) => ("reencode", vec![&call.text]),
+            Call::Sizes { text, .. } => ("sizes", vec![text]),
             Call::ReadBack { text, .. } => ("read-back", vec![text]),
             Call::Carry(call) => (call.way.name(), vec![&call.text, &call.log, &call.answer]),
             Call::Choose { text } => ("choose", vec![text]),
@@ -25,6 +26,7 @@ pub fn counts(rows: &[Row]) -> Counts {
             count_reading(&mut counts, call, texts[0]);
         }
         count_reencoding(&mut counts, row);
+        count_sizes(&mut counts, row);
         count_carry(&mut counts, row);
         count_forward(&mut counts, row);
         count_choose(&mut counts, row);
@@ -52,22 +54,23 @@ fn count_reading(counts: &mut Counts, call: &str, text: &[u8]) {
     );
 }
 
+/// The form, and whether the choices are aligned.
+fn way_of(settings: Settings) -> String {
+    let aligned = match settings.arrangement {
+        Arrangement::Alignment => ", aligned",
+        Arrangement::AsListed => "",
+    };
+    format!("{:?}{aligned}", settings.form)
+}
+
 fn count_reencoding(counts: &mut Counts, row: &Row) {
     let (Call::Reencode(call), Some(run)) = (&row.call, row.run()) else {
         return;
     };
-    let form = call.settings.form;
-    let aligned = match call.settings.arrangement {
-        Arrangement::Alignment => ", aligned",
-        Arrangement::AsListed => "",
-    };
-    count(counts, format!("{form:?}{aligned}"), 1);
+    let (form, way) = (call.settings.form, way_of(call.settings));
+    count(counts, &way, 1);
     let free_choices = run.tally.free_choices;
-    count(
-        counts,
-        format!("{form:?}{aligned}, free choices"),
-        free_choices,
-    );
+    count(counts, format!("{way}, free choices"), free_choices);
     for (what, kind) in PAIRS {
         count(counts, format!("{form:?}, {what}"), kind(&run.tally));
     }
@@ -80,8 +83,66 @@ fn count_reencoding(counts: &mut Counts, row: &Row) {
         count(counts, "choices joined by clashes", usize::from(joined));
     }
     count(counts, "repeats in choices", row.repeats_in_choices());
-    count_table(counts, row, &format!("{form:?}{aligned}"));
+    count_table(counts, row, &way);
     count_run(counts, &run);
+}
+
+/// Sizes that are given: the ways, the steps and the workspaces.
+fn count_sizes(counts: &mut Counts, row: &Row) {
+    let Call::Sizes {
+        settings,
+        work,
+        text,
+    } = &row.call
+    else {
+        return;
+    };
+    let Some(run) = row.run() else {
+        return;
+    };
+    let formula = read_formula(text, &INPUT_LIMITS).expect("the row has a result");
+    let (way, Settings { form, step, .. }) = (way_of(*settings), settings);
+    let (has_choices, skips) = (!run.choices.is_empty(), row.skipped() > 0);
+    let is_exact = formula.workspace_needed() == *work as u64;
+    let matters = row.alignment_matters();
+    for (what, is_so) in [
+        (&*way, true),
+        (&format!("{way}, choices"), has_choices),
+        (&format!("{way}, skipped numbers"), skips),
+        (&format!("{way}, exact workspace"), is_exact),
+        (&format!("{form:?}, alignment matters"), matters),
+        (&format!("step {step}"), true),
+        ("repeats in choices", row.repeats_in_choices() > 0),
+        ("V 0", formula.variables == 0),
+    ] {
+        count(counts, format!("sizes, {what}"), usize::from(is_so));
+    }
+    count_sized_run(counts, &run);
+}
+
+/// The runs whose sizes are given.
+fn count_sized_run(counts: &mut Counts, run: &Encoding) {
+    let tally = &run.tally;
+    for (what, is_so) in [
+        ("several choices", run.choices.len() > 1),
+        ("clash chains", tally.chained_clashes > 0),
+        ("double clashes", tally.double_clashes > 0),
+        ("empty resolvents", tally.empty_resolvents > 0),
+        ("pure deletions", tally.pure > 0),
+        ("free choices", tally.free_choices > 0),
+        ("no line", run.log.is_empty()),
+        ("no clause left", run.standing.clauses().is_empty()),
+    ] {
+        count(counts, format!("sizes, {what}"), usize::from(is_so));
+    }
+    for (what, kind) in PAIRS {
+        let times = usize::from(kind(tally) > 0);
+        count(counts, format!("sizes, {what}"), times);
+    }
+    for record in &run.table {
+        let size = record.length;
+        count(counts, format!("sizes, choice of {size:02}"), 1);
+    }
 }
 
 /// Steps above 1, and input clauses in records.

@@ -2,7 +2,7 @@
 
 use crate::calls::{
     carrying, carrying_astray, choice_of_20, free_clause, linked_choices, reading_back, reencoding,
-    small, small_cut, small_freed, small_paired, unique_clause, ARRANGEMENTS, FORMS,
+    sizing, small, small_cut, small_freed, small_paired, unique_clause, ARRANGEMENTS, FORMS,
 };
 use crate::rows::{Call, Row, Way, READER};
 use model::encoding::{Encoding, PAIRS};
@@ -25,11 +25,11 @@ pub fn rows(seed: u64) -> Vec<Row> {
     drawn.refused_reencodings();
     drawn.refused_read_backs();
     drawn.refused_walk_backs();
-    drawn.sizes();
+    drawn.clause_sizes();
     for form in FORMS {
         drawn.free_choices(form);
     }
-    drawn.free_sizes();
+    drawn.free_clause_sizes();
     for form in FORMS {
         drawn.pairs(form);
     }
@@ -43,6 +43,15 @@ pub fn rows(seed: u64) -> Vec<Row> {
         drawn.forwards_with_choices(form);
     }
     drawn.refused_forwards();
+    for form in FORMS {
+        for arrangement in ARRANGEMENTS {
+            drawn.sizes(form, arrangement);
+            drawn.sizes_with_steps(form, arrangement);
+        }
+        drawn.sizes_with_pairs(form);
+        drawn.sizes_that_alignment_changes(form);
+    }
+    drawn.refused_sizes();
     drawn.rows
 }
 
@@ -51,6 +60,13 @@ const STEPS: [u32; 5] = [2, 3, 7, 39, 100];
 
 fn aligned(form: Form) -> Settings {
     Settings::new(form, Arrangement::Alignment)
+}
+
+fn with_any_step(random: &mut Random, form: Form, arrangement: Arrangement) -> Settings {
+    Settings {
+        step: *random.one_of(&STEPS),
+        ..Settings::new(form, arrangement)
+    }
 }
 
 fn any_settings(random: &mut Random, steps: &[u32]) -> Settings {
@@ -207,7 +223,7 @@ impl Drawn {
     }
 
     /// Clauses of 5 to 64 literals are choices. The log of 64 is too long for the checker.
-    fn sizes(&mut self) {
+    fn clause_sizes(&mut self) {
         for size in [4, 5, 64, 65] {
             let draw = |random: &mut Random| Call::Choose {
                 text: text_of(&unique_clause(random, size)),
@@ -246,7 +262,7 @@ impl Drawn {
     }
 
     /// Clauses with a pure literal: those of 5 to 64 literals are choices.
-    fn free_sizes(&mut self) {
+    fn free_clause_sizes(&mut self) {
         for size in [4, 5, 64, 65] {
             let draw = |random: &mut Random| Call::Choose {
                 text: text_of(&free_clause(random, size)),
@@ -275,10 +291,7 @@ impl Drawn {
 
     /// Steps above 1: skipped numbers, several choices, choices that clashes join.
     fn steps(&mut self, form: Form, arrangement: Arrangement) {
-        let settings = |random: &mut Random| Settings {
-            step: *random.one_of(&STEPS),
-            ..Settings::new(form, arrangement)
-        };
+        let settings = |random: &mut Random| with_any_step(random, form, arrangement);
         let draw = |random: &mut Random| {
             let settings = settings(random);
             reencoding(small(random), random, settings, 0)
@@ -350,5 +363,79 @@ impl Drawn {
         };
         self.add(4, draw, |row| row.number() == 46);
         self.add(2, draw, |row| row.number() == 0 && row.is_changed());
+    }
+
+    /// Sizes with step 1: clashes, pure literals, repeats, no line, no clause left.
+    fn sizes(&mut self, form: Form, arrangement: Arrangement) {
+        let settings = Settings::new(form, arrangement);
+        let draw = |random: &mut Random| sizing(small(random), random, settings, 0);
+        self.add(2, draw, |_| true);
+        self.add(4, draw, |row| has(row, |run| !run.choices.is_empty()));
+        let kinds: [fn(&Encoding) -> bool; 6] = [
+            |run| run.tally.chained_clashes > 0,
+            |run| run.tally.double_clashes > 0,
+            |run| run.tally.empty_resolvents > 0,
+            |run| run.tally.pure > 0,
+            |run| run.log.is_empty() && !run.standing.clauses().is_empty(),
+            |run| !run.log.is_empty() && run.standing.clauses().is_empty(),
+        ];
+        for kind in kinds {
+            self.add(1, draw, |row| has(row, kind));
+        }
+        self.add(1, draw, |row| row.repeats_in_choices() > 0);
+        let draw = |random: &mut Random| sizing(small_freed(random), random, settings, 0);
+        self.add(1, draw, |row| has(row, |run| run.tally.free_choices > 0));
+    }
+
+    /// Sizes with steps above 1: skipped numbers, several choices, choices that clashes join.
+    fn sizes_with_steps(&mut self, form: Form, arrangement: Arrangement) {
+        let settings = |random: &mut Random| with_any_step(random, form, arrangement);
+        let draw = |random: &mut Random| {
+            let settings = settings(random);
+            sizing(small(random), random, settings, 0)
+        };
+        self.add(3, draw, |row| row.skipped() > 0);
+        self.add(1, draw, |row| has(row, |run| run.choices.is_empty()));
+        let draw = |random: &mut Random| {
+            let settings = settings(random);
+            sizing(small_cut(random), random, settings, 0)
+        };
+        self.add(1, draw, |row| has(row, |run| run.choices.len() > 1));
+        let draw = |random: &mut Random| {
+            let settings = settings(random);
+            sizing(linked_choices(random), random, settings, 0)
+        };
+        self.add(1, draw, |row| row.skipped() > 0);
+    }
+
+    /// Sizes of choices of which no, some and all pairs stand, and of a choice of 20.
+    fn sizes_with_pairs(&mut self, form: Form) {
+        let settings = Settings::new(form, Arrangement::AsListed);
+        let draw = |random: &mut Random| sizing(small_paired(random), random, settings, 0);
+        for (_, kind) in PAIRS {
+            self.add(1, draw, |row| has(row, |run| kind(&run.tally) > 0));
+        }
+        let draw = |random: &mut Random| sizing(choice_of_20(random), random, settings, 0);
+        self.add(1, draw, |_| true);
+    }
+
+    fn sizes_that_alignment_changes(&mut self, form: Form) {
+        let draw = |random: &mut Random| sizing(small(random), random, aligned(form), 0);
+        self.add(2, draw, Row::alignment_matters);
+        let draw = |random: &mut Random| sizing(linked_choices(random), random, aligned(form), 0);
+        self.add(1, draw, Row::alignment_matters);
+    }
+
+    fn refused_sizes(&mut self) {
+        let draw = |random: &mut Random| {
+            let settings = any_settings(random, &[1, 2, 7, 100, 0, 101]);
+            sizing(small(random), random, settings, 50)
+        };
+        for number in READER {
+            self.add(4, draw, |row| row.number() == number);
+        }
+        for number in [11, 15] {
+            self.add(8, draw, |row| row.number() == number);
+        }
     }
 }

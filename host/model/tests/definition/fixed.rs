@@ -1,5 +1,5 @@
 //! Rows that are not drawn: the limits, repeated and opposed literals, clauses with a pure literal, pairs in
-//! several copies, steps and tables, plans carried forward, and all formulas of a small kind.
+//! several copies, steps and tables, plans carried forward, sizes, and all formulas of a small kind.
 
 use crate::calls::FORMS;
 use crate::rows::{Call, Carry, Reencode, Row, Text, Way, NO_ROOM, PLENTY, PLENTY_OF_ROOM};
@@ -7,7 +7,7 @@ use model::encoding::Encoding;
 use model::generator::{clashing_at_1, clauses_apart, text_of};
 use model::log_reading::read_kept_lines;
 use model::reading::{read_formula, INPUT_LIMITS};
-use model::sessions::{CHAIN, COPIES, JOINED_E, SIX};
+use model::sessions::{CHAIN, COPIES, F, JOINED_E, SIX};
 use model::texts::{formula_text, log_text};
 use model::walk_back::workspace_needed;
 use model::{Arrangement, Form, Room, Settings};
@@ -26,11 +26,7 @@ fn reencoding_in(form: Form, text: &[u8]) -> Call {
 
 /// With the step, in counter form.
 pub fn reencoding_with(step: u32, room: Room, text: &[u8]) -> Call {
-    let settings = Settings {
-        step,
-        ..as_listed(Form::Counter)
-    };
-    reencoding_by(settings, room, text)
+    reencoding_by(stepped(Form::Counter, step), room, text)
 }
 
 fn reencoding_by(settings: Settings, room: Room, text: &[u8]) -> Call {
@@ -43,6 +39,26 @@ fn reencoding_by(settings: Settings, room: Room, text: &[u8]) -> Call {
 
 fn as_listed(form: Form) -> Settings {
     Settings::new(form, Arrangement::AsListed)
+}
+
+fn stepped(form: Form, step: u32) -> Settings {
+    Settings {
+        step,
+        ..as_listed(form)
+    }
+}
+
+fn sizing(work: usize, text: &[u8]) -> Call {
+    sizing_by(Form::Counter, 1, work, text)
+}
+
+/// As listed.
+pub fn sizing_by(form: Form, step: u32, work: usize, text: &[u8]) -> Call {
+    Call::Sizes {
+        settings: stepped(form, step),
+        work,
+        text: text.to_vec(),
+    }
 }
 
 fn reading_back(work: usize, text: &[u8]) -> Call {
@@ -82,6 +98,7 @@ pub fn limits() -> Vec<Row> {
         ] {
             let text = format!("p cnf {variables} {clauses}\n").into_bytes();
             rows.push(Row::of(reencoding(PLENTY, &text)));
+            rows.push(Row::of(sizing(PLENTY, &text)));
             rows.push(Row::of(reading_back(PLENTY, &text)));
         }
     }
@@ -122,6 +139,7 @@ pub fn joined() -> Vec<Row> {
     for (variables, clauses, body) in JOINED {
         let text = format!("p cnf {variables} {clauses}\n{body}\n").into_bytes();
         rows.push(Row::of(reencoding(PLENTY, &text)));
+        rows.push(Row::of(sizing(PLENTY, &text)));
         rows.push(Row::of(reading_back(PLENTY, &text)));
         rows.push(Row::of(walking_back(&text, "", 0, "1 ")));
     }
@@ -204,10 +222,7 @@ pub fn steps() -> Vec<Row> {
     }
     for step in [1, 2, 3, 4, 5, 8, 39] {
         for form in FORMS {
-            let settings = Settings {
-                step,
-                ..as_listed(form)
-            };
+            let settings = stepped(form, step);
             calls.push(reencoding_by(settings, PLENTY_OF_ROOM, CHAIN.as_bytes()));
         }
     }
@@ -238,6 +253,35 @@ pub fn tables() -> Vec<Row> {
     calls.into_iter().map(Row::of).collect()
 }
 
+/// Sizes of the sessions and of long clauses in both forms, and of steps at and past their limits, with enough workspace
+/// and with none.
+pub fn sizes() -> Vec<Row> {
+    let mut calls = Vec::new();
+    for text in [
+        "p cnf 0 0",
+        "p cnf 0 1\n0\n",
+        "p cnf 1 2\n1 0\n-1 0\n",
+        "p cnf 2 2\n1 2 0\n-1 -2 0\n",
+        JOINED_E,
+        F,
+        COPIES,
+        CHAIN,
+    ] {
+        calls.extend(FORMS.map(|form| sizing_by(form, 1, PLENTY, text.as_bytes())));
+    }
+    for text in [one_clause(64), one_clause(65), clashing(33, 33)] {
+        calls.extend(FORMS.map(|form| sizing_by(form, 1, PLENTY, &text)));
+    }
+    for text in ["", "p cnf 1 1\n2 0\n", SIX] {
+        for step in [0, 1, 100, 101, 1_000] {
+            for work in [0, PLENTY] {
+                calls.push(sizing_by(Form::Order, step, work, text.as_bytes()));
+            }
+        }
+    }
+    calls.into_iter().map(Row::of).collect()
+}
+
 /// Calls with just enough workspace, and with one entry less, by formulas with many literals, clauses or variables.
 pub fn workspaces() -> Vec<[Row; 2]> {
     let mut pairs = Vec::new();
@@ -251,6 +295,7 @@ pub fn workspaces() -> Vec<[Row; 2]> {
         let formula = read_formula(text, &INPUT_LIMITS).expect("in order");
         let reading = formula.workspace_needed() as usize;
         pairs.push([reading, reading - 1].map(|work| Row::of(reencoding(work, text))));
+        pairs.push([reading, reading - 1].map(|work| Row::of(sizing(work, text))));
         pairs.push([reading, reading - 1].map(|work| Row::of(reading_back(work, text))));
         pairs.push(carry_workspaces(&carry(Way::Back, text, "1 2 0\n", "2 ")));
         // X is 12

@@ -14,8 +14,8 @@ use counts::{counts, Counts};
 use rows::{Row, READER};
 use std::collections::BTreeSet;
 use wrong::{
-    miscarried, mischosen, miscounted, misread, misrecorded, misstepped, mistaken, short_rows,
-    wrong,
+    miscarried, mischosen, miscounted, misread, misrecorded, missized, misstepped, mistaken,
+    short_rows, wrong,
 };
 
 /// Each row with the name of its theorem.
@@ -41,6 +41,7 @@ fn definition_and_model_agree() {
     rows.extend(fixed::steps());
     rows.extend(fixed::tables());
     rows.extend(fixed::forwards());
+    rows.extend(fixed::sizes());
     let counts = counts(&rows);
     println!("{} rows: {counts:#?}", rows.len());
     assert!(rows.len() >= 500);
@@ -58,6 +59,60 @@ fn more_rows() {
         assert_rows(drawing::rows(seed));
     }
 }
+
+/// How often the cases of sizes occur at least.
+const SIZES: [(&str, usize); 50] = [
+    ("sizes 00", 120),
+    ("sizes 01", 4),
+    ("sizes 02", 4),
+    ("sizes 03", 4),
+    ("sizes 04", 4),
+    ("sizes 07", 4),
+    ("sizes 08", 4),
+    ("sizes 11", 8),
+    ("sizes 15", 8),
+    ("sizes, Counter", 20),
+    ("sizes, Counter, aligned", 20),
+    ("sizes, Order", 20),
+    ("sizes, Order, aligned", 20),
+    ("sizes, Counter, choices", 8),
+    ("sizes, Counter, aligned, choices", 8),
+    ("sizes, Order, choices", 8),
+    ("sizes, Order, aligned, choices", 8),
+    ("sizes, Counter, skipped numbers", 4),
+    ("sizes, Counter, aligned, skipped numbers", 4),
+    ("sizes, Order, skipped numbers", 4),
+    ("sizes, Order, aligned, skipped numbers", 4),
+    ("sizes, Counter, exact workspace", 4),
+    ("sizes, Counter, aligned, exact workspace", 4),
+    ("sizes, Order, exact workspace", 4),
+    ("sizes, Order, aligned, exact workspace", 4),
+    ("sizes, Counter, alignment matters", 3),
+    ("sizes, Order, alignment matters", 3),
+    ("sizes, step 2", 2),
+    ("sizes, step 3", 2),
+    ("sizes, step 7", 2),
+    ("sizes, step 39", 2),
+    ("sizes, step 100", 2),
+    ("sizes, several choices", 8),
+    ("sizes, choice of 20", 2),
+    ("sizes, choice of 64", 4),
+    ("sizes, choices with no pair", 4),
+    ("sizes, choices with some pairs", 4),
+    ("sizes, choices with all pairs", 2),
+    ("sizes, pairs in several copies", 2),
+    ("sizes, free choices", 4),
+    ("sizes, repeats in choices", 4),
+    ("sizes, clash chains", 4),
+    ("sizes, double clashes", 4),
+    ("sizes, empty resolvents", 4),
+    ("sizes, pure deletions", 4),
+    ("sizes, no line", 4),
+    ("sizes, no clause left", 4),
+    ("sizes, V 0", 4),
+    ("sizes, clauses with a repeat", 10),
+    ("sizes, clauses left out", 10),
+];
 
 fn assert_cases(counts: &Counts) {
     for (what, least) in [
@@ -174,15 +229,20 @@ fn assert_cases(counts: &Counts) {
         ("carry-forward 43", 6),
         ("carry-forward 45", 6),
         ("carry-forward 46", 10),
-    ] {
+    ]
+    .into_iter()
+    .chain(SIZES)
+    {
         assert!(counts.get(what) >= Some(&least), "{what}");
     }
 }
 
-/// Each call gives these numbers, and no other. For 16 more than 600 choices are needed, too many for the checker.
+/// Each call gives these numbers, and no other: sizes are not refused with 12, 13 or 17. For 16 more than 600 choices
+/// are needed, too many for the checker.
 fn assert_numbers(counts: &Counts) {
     for (call, others) in [
         ("reencode", &[0, 11, 12, 13, 15, 17][..]),
+        ("sizes", &[0, 11, 15]),
         ("read-back", &[0, 11]),
         ("walk-back", &[0, 11, 14, 31, 32, 33, 34, 41, 42, 43, 44]),
         (
@@ -208,6 +268,7 @@ fn wrong_rows_are_refused() {
     wrong.extend(misrecorded());
     wrong.extend(mistaken());
     wrong.extend(miscarried());
+    wrong.extend(missized());
     let wrong = named("wrong", wrong);
     let mut rows = named("right", right);
     rows.extend(wrong.iter().cloned());

@@ -8,8 +8,8 @@ use model::reading::{read_formula, Formula, INPUT_LIMITS};
 use model::texts::{formula_text, log_text, Line};
 use model::walk_back::highest_allowed;
 use model::{
-    carry_forward, read_back, reencode, walk_back, Arrangement, ChoiceRecord, Form, Reencoded,
-    Room, Settings,
+    carry_forward, read_back, reencode, sizes, walk_back, Arrangement, ChoiceRecord, Form,
+    Reencoded, Room, Settings, Sizes,
 };
 use std::collections::BTreeSet;
 
@@ -38,6 +38,11 @@ pub const NO_ROOM: Room = Room {
 #[derive(Clone, PartialEq)]
 pub enum Call {
     Reencode(Reencode),
+    Sizes {
+        settings: Settings,
+        work: usize,
+        text: Text,
+    },
     ReadBack {
         work: usize,
         text: Text,
@@ -75,16 +80,19 @@ pub struct Carry {
     pub answer: Text,
 }
 
+/// Choices, H, M, log lines and both byte lengths.
+pub type Numbers = [usize; 6];
+
 #[derive(Clone, PartialEq)]
 pub enum Outcome {
     Refused(u8),
     Reencoded {
-        /// Choices, H, M, log lines and both byte lengths.
-        tally: [usize; 6],
+        tally: Numbers,
         log: Text,
         formula: Text,
         table: Vec<ChoiceRecord>,
     },
+    Sized(Numbers),
     /// What is read back, written again.
     Read(Text),
     /// What an answer is walked back to, or a plan carried forward to.
@@ -153,15 +161,26 @@ impl Row {
         }
     }
 
-    /// The run of a reencoding that gives a result.
-    pub fn run(&self) -> Option<Encoding> {
+    /// The settings and the text of a reencoding, or of its sizes.
+    fn asked(&self) -> Option<(Settings, &Text)> {
         match &self.call {
-            Call::Reencode(call) if self.number() == 0 => {
-                let formula = read_formula(&call.text, &INPUT_LIMITS).ok()?;
-                Some(Encoding::run(&formula, call.settings))
-            }
+            Call::Reencode(call) => Some((call.settings, &call.text)),
+            Call::Sizes { settings, text, .. } => Some((*settings, text)),
             _ => None,
         }
+    }
+
+    /// The formula of this text and its run, if there is a result.
+    fn formula_and_run(&self) -> Option<(Formula, Encoding)> {
+        let (settings, text) = self.asked().filter(|_| self.number() == 0)?;
+        let formula = read_formula(text, &INPUT_LIMITS).ok()?;
+        let run = Encoding::run(&formula, settings);
+        Some((formula, run))
+    }
+
+    /// The run of a reencoding, or of its sizes, that gives a result.
+    pub fn run(&self) -> Option<Encoding> {
+        self.formula_and_run().map(|(_, run)| run)
     }
 
     /// The step of a reencoding that gives a result, and its records.
@@ -172,33 +191,28 @@ impl Row {
         }
     }
 
-    /// How many numbers a reencoding skips.
+    /// How many numbers this run skips.
     pub fn skipped(&self) -> usize {
-        let (_, table) = self.table();
-        let new: usize = table.iter().map(|record| record.length - 1).sum();
-        let variables = |text: &Text| read_formula(text, &INPUT_LIMITS).map_or(0, |f| f.variables);
-        match (&self.call, &self.outcome) {
-            (Call::Reencode(call), Outcome::Reencoded { tally, .. }) => {
-                tally[1] - new - variables(&call.text) as usize
-            }
-            _ => 0,
-        }
+        self.formula_and_run().map_or(0, |(formula, run)| {
+            let new: usize = run.table.iter().map(|record| record.length - 1).sum();
+            (run.highest - formula.variables) as usize - new
+        })
     }
 
-    /// How many clauses with a repeat go into a choice of a reencoding.
+    /// How many clauses with a repeat go into a choice of this run.
     pub fn repeats_in_choices(&self) -> usize {
-        match (&self.call, self.run()) {
-            (Call::Reencode(call), Some(run)) => repeats_in_choices(&call.text, &run),
+        match (self.asked(), self.run()) {
+            (Some((_, text)), Some(run)) => repeats_in_choices(text, &run),
             _ => 0,
         }
     }
 
-    /// The run in counter form over the formula that is reencoded, chosen from, or at the start of a log.
+    /// The run in counter form over the formula that is reencoded or sized, chosen from, or at the start of a log.
     pub fn plain_run(&self) -> Option<Encoding> {
         let text = match &self.call {
             Call::Reencode(call) => &call.text,
             Call::Carry(call) => &call.text,
-            Call::Choose { text } => text,
+            Call::Sizes { text, .. } | Call::Choose { text } => text,
             Call::ReadBack { .. } => return None,
         };
         let formula = read_formula(text, &INPUT_LIMITS).ok()?;
@@ -210,19 +224,19 @@ impl Row {
         self.plain_run().map(|run| run.tally).unwrap_or_default()
     }
 
-    /// Without the arrangement, the log would be another one.
+    /// Without the arrangement, the result would be another one.
     pub fn alignment_matters(&self) -> bool {
-        match (&self.call, &self.outcome) {
-            (Call::Reencode(call), Outcome::Reencoded { log, .. }) => {
-                let settings = Settings {
-                    arrangement: Arrangement::AsListed,
-                    ..call.settings
-                };
-                let other = reencode(&call.text, settings, PLENTY_OF_ROOM);
-                other.is_ok_and(|other| other.log != *log)
+        let mut call = self.call.clone();
+        let settings = match &mut call {
+            Call::Reencode(call) => {
+                call.room = PLENTY_OF_ROOM;
+                &mut call.settings
             }
-            _ => false,
-        }
+            Call::Sizes { settings, .. } => settings,
+            _ => return false,
+        };
+        settings.arrangement = Arrangement::AsListed;
+        self.number() == 0 && Row::of(call).outcome != self.outcome
     }
 
     /// A number above V stands in none of the kept lines, though a higher one does.
@@ -291,6 +305,14 @@ impl Row {
 fn given(call: &Call) -> Result<Outcome, u8> {
     match call {
         Call::Reencode(call) => call.given().map(reencoded),
+        Call::Sizes {
+            settings,
+            work,
+            text,
+        } => {
+            let sizes = sizes(text, *settings, *work as u64)?;
+            Ok(Outcome::Sized(numbers(sizes)))
+        }
         Call::ReadBack { work, text } => {
             let (variables, clauses) = read_back(text, *work as u64)?;
             Ok(Outcome::Read(formula_text(variables, &clauses)))
@@ -303,16 +325,20 @@ fn given(call: &Call) -> Result<Outcome, u8> {
     }
 }
 
+fn numbers(sizes: Sizes) -> Numbers {
+    [
+        sizes.choices,
+        sizes.highest as usize,
+        sizes.clauses,
+        sizes.lines,
+        sizes.log_bytes,
+        sizes.formula_bytes,
+    ]
+}
+
 fn reencoded(result: Reencoded) -> Outcome {
     Outcome::Reencoded {
-        tally: [
-            result.choices,
-            result.highest as usize,
-            result.clauses,
-            result.lines,
-            result.log.len(),
-            result.formula.len(),
-        ],
+        tally: numbers(result.sizes()),
         log: result.log,
         formula: result.formula,
         table: result.table,

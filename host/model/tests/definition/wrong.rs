@@ -1,21 +1,25 @@
 //! Rows made wrong on purpose.
 
 use crate::antt::row_text;
-use crate::fixed::{due_numbers, forward, one_clause, reencoding_with, two_choices, workspaces};
+use crate::fixed::{
+    due_numbers, forward, one_clause, reencoding_with, sizing_by, two_choices, workspaces,
+};
 use crate::rows::{Call, Outcome, Row, Way, NO_ROOM, PLENTY, PLENTY_OF_ROOM};
 use model::sessions::{CHAIN, JOINED_E};
-use model::{ChoiceRecord, Room};
+use model::{ChoiceRecord, Form, Room};
 
 /// Of the rows, the shortest with each kind of result, and the shortest refusal of each call.
 pub fn short_rows(rows: &[Row]) -> Vec<Row> {
-    let kinds: [fn(&Row) -> bool; 10] = [
+    let kinds: [fn(&Row) -> bool; 12] = [
         |row| matches!(&row.outcome, Outcome::Reencoded { log, .. } if !log.is_empty()),
         |row| !row.table().1.is_empty(),
+        |row| matches!(row.outcome, Outcome::Sized([choices, ..]) if choices > 0),
         |row| matches!(row.outcome, Outcome::Read(_)),
         |row| goes(row, Way::Back) && row.number() == 0,
         |row| goes(row, Way::Forward) && row.number() == 0,
         |row| matches!(&row.outcome, Outcome::Chosen(text) if !text.is_empty()),
         |row| matches!(row.call, Call::Reencode(_)) && row.number() > 0,
+        |row| matches!(row.call, Call::Sizes { .. }) && row.number() > 0,
         |row| matches!(row.call, Call::ReadBack { .. }) && row.number() > 0,
         |row| goes(row, Way::Back) && row.number() > 0,
         |row| goes(row, Way::Forward) && row.number() > 0,
@@ -37,6 +41,7 @@ fn goes(row: &Row, way: Way) -> bool {
 pub fn wrong(row: &Row) -> Vec<Row> {
     let parts = match &row.outcome {
         Outcome::Reencoded { table, .. } => 9 + 3 * table.len(),
+        Outcome::Sized(numbers) => numbers.len(),
         _ => 1,
     };
     let mut wrong = vec![row.clone(); parts];
@@ -50,6 +55,7 @@ pub fn wrong(row: &Row) -> Vec<Row> {
 fn change(outcome: &mut Outcome, part: usize) {
     match outcome {
         Outcome::Refused(number) => *number += 1,
+        Outcome::Sized(numbers) => numbers[part] += 1,
         Outcome::Read(text) | Outcome::Line(text) | Outcome::Chosen(text) => change_byte(text),
         Outcome::Reencoded {
             tally,
@@ -142,12 +148,19 @@ fn instead(call: Call, outcome: Outcome) -> Row {
 
 /// Rows with the outcome of another step.
 pub fn misstepped() -> Vec<Row> {
+    let calls: [fn(u32, &[u8]) -> Call; 2] = [
+        |step, text| reencoding_with(step, PLENTY_OF_ROOM, text),
+        |step, text| sizing_by(Form::Counter, step, PLENTY, text),
+    ];
     let five = one_clause(5);
-    let call = |step| reencoding_with(step, PLENTY_OF_ROOM, &five);
-    let outcome = |step| Row::of(call(step)).outcome;
-    [(2, 1), (1, 2), (5, 2), (0, 1), (101, 100)]
-        .map(|(step, other)| instead(call(step), outcome(other)))
-        .to_vec()
+    let mut rows = Vec::new();
+    for call in calls {
+        for (step, other) in [(2, 1), (1, 2), (5, 2), (0, 1), (101, 100)] {
+            let outcome = Row::of(call(other, &five)).outcome;
+            rows.push(instead(call(step, &five), outcome));
+        }
+    }
+    rows
 }
 
 /// The row of a reencoding with step 1, but with these records.
@@ -206,6 +219,42 @@ pub fn mistaken() -> Vec<Row> {
         refused(1, rooms(work, 1), &five, 17),
         refused(1, one_record, &five, 17),
     ]
+}
+
+/// The row of sizes, but with one of the numbers one less.
+fn one_less(row: &Row, part: usize) -> Row {
+    let mut outcome = row.outcome.clone();
+    if let Outcome::Sized(numbers) = &mut outcome {
+        numbers[part] -= 1;
+    }
+    instead(row.call.clone(), outcome)
+}
+
+/// Sizes of a choice: one of the numbers one less, those of the other form, or a refusal where none is due. And sizes
+/// refused with a number that comes later than the one that is due, or that only a reencoding has.
+pub fn missized() -> Vec<Row> {
+    let five = one_clause(5);
+    let row = |form| Row::of(sizing_by(form, 1, PLENTY, &five));
+    let (counter, order) = (row(Form::Counter), row(Form::Order));
+    let mut rows: Vec<Row> = (0..6).map(|part| one_less(&order, part)).collect();
+    for number in [11, 12, 13, 15, 16, 17] {
+        let call = counter.call.clone();
+        rows.push(instead(call, Outcome::Refused(number)));
+    }
+    rows.push(instead(counter.call, order.outcome));
+    rows.push(instead(order.call, counter.outcome));
+
+    let refused = |step, work, text: &[u8], number| {
+        let call = sizing_by(Form::Counter, step, work, text);
+        instead(call, Outcome::Refused(number))
+    };
+    rows.push(refused(0, PLENTY, b"", 1));
+    rows.push(refused(101, 0, &five, 11));
+    rows.push(refused(1, 0, b"p cnf 1 1\n2 0\n", 11));
+    for number in [12, 13, 16, 17] {
+        rows.push(refused(1, 0, &five, number));
+    }
+    rows
 }
 
 /// Plans carried forward, refused with a number that comes later than the one that is due, or given another line.

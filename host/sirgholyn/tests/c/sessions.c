@@ -1,5 +1,5 @@
-/* The header's calls from C: sessions F to H, what is kept, tables and steps, refusals, the workspace rules and the
- * limits. Prints each expectation that fails; the exit status is 1 if any does. */
+/* The header's calls from C: sessions F to H, what is kept, tables and steps, sizes before the run, refusals, the
+ * workspace rules and the limits. Prints each expectation that fails; the exit status is 1 if any does. */
 #define _POSIX_C_SOURCE 200112L
 
 #include "sirgholyn.h"
@@ -92,6 +92,20 @@ static uint32_t reencode_with(
 static uint32_t reencode(const char *text, size_t entries, size_t log_len, size_t formula_len)
 {
     return reencode_with(text, 1, entries, log_len, formula_len, TABLE_ROOM);
+}
+
+static uint32_t sizes_with(
+    const char *text, uint32_t form, uint32_t arrangement, uint32_t step, size_t entries,
+    size_t counts)
+{
+    memset(tally, PATTERN, sizeof tally);
+    return sirgholyn_sizes(
+        bytes(text), strlen(text), form, arrangement, step, work, entries, tally, counts);
+}
+
+static uint32_t sizes(const char *text, size_t entries, size_t counts)
+{
+    return sizes_with(text, SIRGHOLYN_ORDER, SIRGHOLYN_AS_LISTED, 1, entries, counts);
 }
 
 /* walks back over session F's log, which stands in new_log */
@@ -200,6 +214,57 @@ static void tables_and_steps(void)
            == SIRGHOLYN_STEP_OUTSIDE);
 }
 
+/* reencodes into buffers of so many bytes and records; the counts are those in the tally */
+static uint32_t reencode_sized(
+    const char *text, uint32_t form, uint32_t arrangement, uint32_t step, size_t log_len,
+    size_t formula_len, size_t table_len)
+{
+    uint8_t *log = malloc(log_len), *formula = malloc(formula_len);
+    struct sirgholyn_choice *records = malloc(table_len * sizeof *records);
+    uint64_t counts[SIRGHOLYN_REENCODE_COUNTS];
+    uint32_t number = sirgholyn_reencode(
+        bytes(text), strlen(text), form, arrangement, step, work, work_len, log, log_len,
+        formula, formula_len, records, table_len, counts, SIRGHOLYN_REENCODE_COUNTS);
+
+    EXPECT(number != SIRGHOLYN_DONE || memcmp(counts, tally, sizeof tally) == 0);
+    free(log);
+    free(formula);
+    free(records);
+    return number;
+}
+
+/* so much as the sizes say is enough, and one byte or record less is not */
+static void sizes_first(void)
+{
+    /* two choices, whose links alignment goes by */
+    static const char two[] =
+        "p cnf 10 24\n1 2 3 4 5 0\n6 7 8 9 10 0\n-1 -8 0\n-2 -10 0\n"
+        "-1 0\n-1 0\n-2 0\n-2 0\n-3 0\n-3 0\n-4 0\n-4 0\n-5 0\n-5 0\n"
+        "-6 0\n-6 0\n-7 0\n-7 0\n-8 0\n-8 0\n-9 0\n-9 0\n-10 0\n-10 0\n";
+    uint32_t way, form, arrangement, step;
+    size_t log, formula, records;
+
+    for (way = 0; way < 8; way++) {
+        form = way % 2;
+        arrangement = way / 2 % 2;
+        step = way < 4 ? 1 : SIRGHOLYN_MOST_STEP;
+        EXPECT(sizes_with(two, form, arrangement, step, work_len, SIRGHOLYN_REENCODE_COUNTS)
+               == SIRGHOLYN_DONE);
+        records = tally[SIRGHOLYN_REENCODE_CHOICES];
+        log = tally[SIRGHOLYN_REENCODE_LOG_BYTES];
+        formula = tally[SIRGHOLYN_REENCODE_FORMULA_BYTES];
+        EXPECT(records == 2);
+        EXPECT(reencode_sized(two, form, arrangement, step, log, formula, records)
+               == SIRGHOLYN_DONE);
+        EXPECT(reencode_sized(two, form, arrangement, step, log - 1, formula, records)
+               == SIRGHOLYN_LOG_SHORT);
+        EXPECT(reencode_sized(two, form, arrangement, step, log, formula - 1, records)
+               == SIRGHOLYN_FORMULA_SHORT);
+        EXPECT(reencode_sized(two, form, arrangement, step, log, formula, records - 1)
+               == SIRGHOLYN_TABLE_SHORT);
+    }
+}
+
 /* as many choices as there can be: the longest table, and the step that leads too far */
 static void most_choices(void)
 {
@@ -222,6 +287,8 @@ static void most_choices(void)
             log, sizeof log, formula, sizeof formula, records, records_len, tally, 2);
         EXPECT(number == (step == 38 ? SIRGHOLYN_DONE : SIRGHOLYN_STEP_TOO_LARGE));
         EXPECT(records[records_len - 1].first == (step == 38 ? 68781 : 0));
+        EXPECT(tally[SIRGHOLYN_REENCODE_HIGHEST] == (step == 38 ? 68784 : 0));
+        EXPECT(sizes_with(text, SIRGHOLYN_COUNTER, SIRGHOLYN_ALIGNED, step, work_len, 2) == number);
         EXPECT(tally[SIRGHOLYN_REENCODE_HIGHEST] == (step == 38 ? 68784 : 0));
     }
 }
@@ -255,6 +322,11 @@ static void short_tally(void)
     EXPECT(sirgholyn_read_back(bytes(G), strlen(G), work, work_len, tally, 2) == SIRGHOLYN_DONE);
     EXPECT(tally[0] == 10 && tally[1] == 8);
     EXPECT(all(tally, 2 * sizeof *tally, sizeof tally, PATTERN));
+    EXPECT(sizes(F, F_WORK, 3) == SIRGHOLYN_DONE);
+    EXPECT(tally[0] == 1 && tally[1] == 10 && tally[2] == 8);
+    EXPECT(all(tally, 3 * sizeof *tally, sizeof tally, PATTERN));
+    EXPECT(sizes(F, F_WORK, 0) == SIRGHOLYN_DONE);
+    EXPECT(all(tally, 0, sizeof tally, PATTERN));
 }
 
 static void zero_after_refusals(void)
@@ -270,6 +342,13 @@ static void zero_after_refusals(void)
     EXPECT(all(new_log, 0, 9, 0) && all(new_log, 9, sizeof new_log, PATTERN));
     EXPECT(reencode(F, F_WORK, LOG_ROOM, 9) == SIRGHOLYN_FORMULA_SHORT);
     EXPECT(all(new_log, 0, sizeof new_log, 0) && all(new_formula, 0, 9, 0));
+
+    EXPECT(sizes("p cnf 1 1\n2 0\n", work_len, 5) == SIRGHOLYN_VARIABLE_ABOVE_V);
+    EXPECT(all(tally, 0, 5 * sizeof *tally, 0));
+    EXPECT(all(tally, 5 * sizeof *tally, sizeof tally, PATTERN));
+    EXPECT(sizes_with("", SIRGHOLYN_COUNTER, SIRGHOLYN_ALIGNED, 0, 0, SIRGHOLYN_REENCODE_COUNTS)
+           == SIRGHOLYN_STEP_OUTSIDE);
+    EXPECT(all(tally, 0, sizeof tally, 0));
 
     EXPECT(reencode(F, F_WORK, LOG_ROOM, FORMULA_ROOM) == SIRGHOLYN_DONE);
     log_len = tally[SIRGHOLYN_REENCODE_LOG_BYTES];
@@ -302,6 +381,9 @@ static void workspace_rules(void)
 {
     size_t log_len, enough;
 
+    EXPECT(sizes(F, F_WORK - 1, SIRGHOLYN_REENCODE_COUNTS) == SIRGHOLYN_WORK_SHORT);
+    EXPECT(all(tally, 0, sizeof tally, 0));
+    EXPECT(sizes(F, F_WORK, SIRGHOLYN_REENCODE_COUNTS) == SIRGHOLYN_DONE);
     EXPECT(reencode(F, F_WORK - 1, LOG_ROOM, FORMULA_ROOM) == SIRGHOLYN_WORK_SHORT);
     EXPECT(reencode(F, F_WORK, LOG_ROOM, FORMULA_ROOM) == SIRGHOLYN_DONE);
     log_len = tally[SIRGHOLYN_REENCODE_LOG_BYTES];
@@ -367,6 +449,7 @@ static void *run(void *unused)
 {
     sessions();
     tables_and_steps();
+    sizes_first();
     most_choices();
     one_clause();
     short_tally();

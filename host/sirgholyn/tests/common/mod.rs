@@ -10,7 +10,8 @@ use model::encoding::Encoding;
 use model::generator::text_of;
 use model::reading::Formula;
 use model::texts::log_text;
-use sirgholyn::{calls, Arrangement, ChoiceRecord, Error, Form, Refusal, Settings, WalkBackRoom};
+use sirgholyn::calls::{self, library};
+use sirgholyn::{Arrangement, ChoiceRecord, Error, Form, Refusal, Settings, Tally, WalkBackRoom};
 use std::collections::BTreeMap;
 use std::ops::Range;
 use std::thread;
@@ -156,7 +157,8 @@ pub fn compare_reencode(text: &[u8], way: Settings, room: Room) -> u32 {
     expect_reencoded(&expected, text, way, &mut work, room)
 }
 
-/// Reencodes by library on the workspace, and compares with what the model gives; the answer is the number.
+/// Reencodes by library on the workspace, and compares with what the model gives; the answer is the number. `sizes` on
+/// the same workspace tells the same.
 pub fn expect_reencoded(
     expected: &Result<model::Reencoded, u8>,
     text: &[u8],
@@ -169,17 +171,11 @@ pub fn expect_reencoded(
     let mut table = vec![NO_RECORD; room.table];
     let found = calls::reencode(text, way, work, &mut log, &mut formula, &mut table);
     let seen = || format!("{} {way:?} {room:?}", shown(text));
+    let sized = calls::sizes(text, way, work);
+    assert!(is_told_by(sized, expected), "{sized:?}: {}", seen());
     match (expected, found) {
         (Ok(expected), Ok(tally)) => {
-            let expected_tally = calls::Tally {
-                choices: expected.choices as u64,
-                highest: expected.highest as u64,
-                clauses: expected.clauses as u64,
-                lines: expected.lines as u64,
-                log_bytes: expected.log.len(),
-                formula_bytes: expected.formula.len(),
-            };
-            assert_eq!(tally, expected_tally, "{}", seen());
+            assert_eq!(tally, tally_of(&expected.sizes()), "{}", seen());
             assert_written(&log, &expected.log, 0xA5, &seen);
             assert_written(&formula, &expected.formula, 0x5A, &seen);
             assert_written(&table, &records(&expected.table), NO_RECORD, &seen);
@@ -198,6 +194,102 @@ pub fn expect_reencoded(
         }
         _ => panic!("{expected:?}, found {found:?}: {}", seen()),
     }
+}
+
+/// Whether these are the sizes of what is expected of a reencoding: the same tally or the same number. Where a buffer is
+/// too short there are sizes.
+fn is_told_by(sized: Result<Tally, u32>, expected: &Result<model::Reencoded, u8>) -> bool {
+    match expected {
+        Ok(expected) => sized == Ok(tally_of(&expected.sizes())),
+        Err(12 | 13 | 17) => sized.is_ok(),
+        Err(number) => sized == Err(u32::from(*number)),
+    }
+}
+
+/// The model's sizes as the library has them.
+fn tally_of(sizes: &model::Sizes) -> Tally {
+    Tally {
+        choices: sizes.choices as u64,
+        highest: sizes.highest as u64,
+        clauses: sizes.clauses as u64,
+        lines: sizes.lines as u64,
+        log_bytes: sizes.log_bytes,
+        formula_bytes: sizes.formula_bytes,
+    }
+}
+
+/// The sizes by library and model, or the number, compared. The tally lent is longer than the counts: a refusal leaves
+/// it all zero, and else what lies past them is unchanged.
+pub fn compare_sizes(text: &[u8], way: Settings, work: usize) -> Result<Tally, u32> {
+    let sizes = model::sizes(text, in_model(way), work as u64);
+    let expected = sizes.map(|sizes| tally_of(&sizes)).map_err(u32::from);
+    let mut tally = [77; 8];
+    let number = write_sizes(text, way, &mut vec![-7; work], &mut tally);
+    let (number_expected, tally_expected) = match &expected {
+        Ok(tally) => (0, [counts_of(tally).as_slice(), &[77; 2]].concat()),
+        Err(number) => (*number, vec![0; 8]),
+    };
+    assert_eq!(
+        (number, tally.as_slice()),
+        (number_expected, tally_expected.as_slice()),
+        "{} {way:?} {work}",
+        shown(text)
+    );
+    expected
+}
+
+/// The counts in the order in which they are written.
+pub fn counts_of(tally: &Tally) -> [u64; 6] {
+    [
+        tally.choices,
+        tally.highest,
+        tally.clauses,
+        tally.lines,
+        tally.log_bytes as u64,
+        tally.formula_bytes as u64,
+    ]
+}
+
+/// The C function on a tally of any length.
+pub fn write_sizes(text: &[u8], way: Settings, work: &mut [i32], tally: &mut [u64]) -> u32 {
+    // SAFETY: each pointer and length are those of one slice.
+    let call = move || unsafe {
+        library::sirgholyn_sizes(
+            text.as_ptr(),
+            text.len(),
+            way.form as u32,
+            way.arrangement as u32,
+            way.step,
+            work.as_mut_ptr(),
+            work.len(),
+            tally.as_mut_ptr(),
+            tally.len(),
+        )
+    };
+    calls::on_large_stack(call).unwrap()
+}
+
+/// Reencodes on buffers of just these sizes, which gives the same tally, and with each of them one short where it is
+/// not empty; the answer has the numbers of these refusals.
+pub fn expect_exact(text: &[u8], way: Settings, work: usize, tally: Tally) -> Vec<u32> {
+    let exact = [tally.choices as usize, tally.log_bytes, tally.formula_bytes];
+    let mut work = vec![-7; work];
+    let mut reencode = |[table, log, formula]: [usize; 3]| {
+        let (mut log, mut formula) = (vec![0; log], vec![0; formula]);
+        let table = &mut vec![NO_RECORD; table];
+        calls::reencode(text, way, &mut work, &mut log, &mut formula, table)
+    };
+    assert_eq!(reencode(exact), Ok(tally));
+    let mut refused = Vec::new();
+    for (place, number) in [17, 12, 13].into_iter().enumerate() {
+        let mut short = exact;
+        if exact[place] > 0 {
+            short[place] -= 1;
+            assert_eq!(reencode(short), Err(number), "{} {way:?}", shown(text));
+            refused.push(number);
+        }
+    }
+    refused
 }
 
 /// Which way an assignment is carried over the kept lines of a log: an answer back, or a plan forward.

@@ -6,7 +6,9 @@ use crate::files::{self, say};
 use crate::outputs::{self, Output, Taken};
 use sirgholyn::limits::Limits;
 use sirgholyn::location::{self, Location};
-use sirgholyn::{Arrangement, ChoiceRecord, Error, Form, ReencodeRoom, Tally, WalkBackRoom};
+use sirgholyn::{
+    Arrangement, ChoiceRecord, Error, Form, ReencodeRoom, Settings, Tally, WalkBackRoom,
+};
 use std::io::Cursor;
 
 pub fn reencode(args: &Args) -> Result<u8, Failure> {
@@ -25,12 +27,7 @@ pub fn reencode(args: &Args) -> Result<u8, Failure> {
     };
     let (formula, log, table) = (open("--formula")?, open("--log")?, open("--table")?);
 
-    let arrangement = match args.has("--align") {
-        true => Arrangement::Alignment,
-        false => Arrangement::AsListed,
-    };
-    let settings = args.settings(Form::Counter, arrangement);
-    let new = sirgholyn::reencode(&input.text, settings, room)
+    let new = sirgholyn::reencode(&input.text, settings(args), room)
         .map_err(|error| refused_formula(error, &input.text, &Limits::INPUT))?;
     let mut all = Vec::new();
     for (output, bytes) in [
@@ -47,6 +44,24 @@ pub fn reencode(args: &Args) -> Result<u8, Failure> {
     outputs::finish(all)?;
     tell(&new.tally, on_standard)?;
     Ok(0)
+}
+
+pub fn sizes(args: &Args) -> Result<u8, Failure> {
+    let input = files::read(args.file(0))?;
+    Taken::new(&[&input])?;
+    let tally = sirgholyn::sizes(&input.text, settings(args), args.number("--work"))
+        .map_err(|error| refused_formula(error, &input.text, &Limits::INPUT))?;
+    tell(&tally, false)?;
+    Ok(0)
+}
+
+/// Counter form, and the literals as they are listed, unless another wish is named.
+fn settings(args: &Args) -> Settings {
+    let arrangement = match args.has("--align") {
+        true => Arrangement::Alignment,
+        false => Arrangement::AsListed,
+    };
+    args.settings(Form::Counter, arrangement)
 }
 
 /// A line with the columns' names, and one for each choice, tabs between.

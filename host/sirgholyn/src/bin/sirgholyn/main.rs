@@ -1,4 +1,4 @@
-//! The command: `reencode`, `walk-back`, `carry-forward`, `read-back` and `solve` over files.
+//! The command: `reencode`, `sizes`, `walk-back`, `carry-forward`, `read-back` and `solve` over files.
 
 mod args;
 mod cleanup;
@@ -60,6 +60,7 @@ fn run(words: &[OsString]) -> Result<u8, Failure> {
     match command.as_str() {
         "solve" => solve::solve(&args),
         "reencode" => commands::reencode(&args),
+        "sizes" => commands::sizes(&args),
         "walk-back" => commands::walk_back(&args),
         "carry-forward" => commands::carry_forward(&args),
         _ => commands::read_back(&args),

@@ -61,6 +61,7 @@ fn help_of(command: &str) -> Option<&'static str> {
     match command {
         "solve" => Some(include_str!("../../../words/solve.txt")),
         "reencode" => Some(include_str!("../../../words/reencode.txt")),
+        "sizes" => Some(include_str!("../../../words/sizes.txt")),
         "walk-back" => Some(include_str!("../../../words/walk-back.txt")),
         "carry-forward" => Some(include_str!("../../../words/carry-forward.txt")),
         "read-back" => Some(include_str!("../../../words/read-back.txt")),

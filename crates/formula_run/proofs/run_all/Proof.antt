@@ -1,8 +1,8 @@
 use mathlib.Core.Path.{refl}
-use Rattle.call_reencode.proofs.Call.{run-left, run-answers, run-refused}
+use Rattle.formula_run.proofs.Running.{run-left, run-answers, run-refused}
 use borrow.Author.Needs.{needs}
-use Rattle.call_reencode.proofs.run_all.Statement.{statement}
-use Rattle.call_reencode.proofs.run_all.Tie as tie
+use Rattle.formula_run.proofs.run_all.Statement.{statement}
+use Rattle.formula_run.proofs.run_all.Tie as tie
 
 run-requires : tie.Need-run-requires
 run-requires c κs =
@@ -12,8 +12,8 @@ run-requires c κs =
 enum-known-r : tie.Need-enum-known-r
 enum-known-r c = search needs
 
-finish-requires : tie.Need-finish-requires
-finish-requires c κs =
+write-standing-requires : tie.Need-write-standing-requires
+write-standing-requires c κs =
     let back = c .before .before .before .before in let r = back .r in
     let back = back .before .before .before .before .before .before .before in let run = back .run in
     let start = back .before .before .before .before .before .before .before in
@@ -38,7 +38,7 @@ returns : tie.Need-returns
 returns c =
     let back = c .before .before .before .before .before .before .before in let r = back .r in
     let run = back .before .before .before .before .before .before .before .run in
-    run-answers (run .ensures) (r .given .1) refl (c .before .before .finish .ensures)
+    run-answers (run .ensures) (r .given .1) refl (c .before .before .write-standing .ensures)
 
 same-length-5 : tie.Need-same-length-5
 same-length-5 c = search needs
@@ -60,7 +60,7 @@ run-all-spec =
     (tie.spec
     run-requires
     enum-known-r
-    finish-requires
+    write-standing-requires
     enum-known-n
     same-length
     same-length-2

@@ -1,6 +1,6 @@
-use Rattle.call_reencode.proofs.Call.{step-tested, no-step}
-use Rattle.call_reencode.proofs.is_step.Statement.{statement}
-use Rattle.call_reencode.proofs.is_step.Tie as tie
+use Rattle.formula_run.proofs.Running.{step-tested, no-step}
+use Rattle.formula_run.proofs.is_step.Statement.{statement}
+use Rattle.formula_run.proofs.is_step.Tie as tie
 
 returns : tie.Need-returns
 returns c = step-tested _ (c .if1 .taken)

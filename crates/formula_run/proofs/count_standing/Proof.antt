@@ -3,9 +3,9 @@ use native.Mathlib.Omega.{arith}
 use Prim.Native.Nat.{_-_}
 use lib.ListN.{length}
 use Rattle.store.proofs.Laws.{place-start, stored-none}
-use Rattle.call_reencode.proofs.Counting.{Counted, counted-next, counted-all}
-use Rattle.call_reencode.proofs.count_standing.Statement.{statement}
-use Rattle.call_reencode.proofs.count_standing.Tie as tie
+use Rattle.formula_run.proofs.Counting.{Counted, counted-next, counted-all}
+use Rattle.formula_run.proofs.count_standing.Statement.{statement}
+use Rattle.formula_run.proofs.count_standing.Tie as tie
 
 abbrev Inv-loop : tie.InvT-loop
 Inv-loop store n₀ at₀ n at = Counted store at n

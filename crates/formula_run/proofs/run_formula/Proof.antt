@@ -1,9 +1,9 @@
 use mathlib.Core.Path.{sym, _∙_}
 use denote.Ref.{now}
-use Rattle.call_reencode.proofs.Call.{call-step}
+use Rattle.formula_run.proofs.Running.{call-step}
 use borrow.Author.Needs.{needs}
-use Rattle.call_reencode.proofs.reencode_into.Statement.{statement}
-use Rattle.call_reencode.proofs.reencode_into.Tie as tie
+use Rattle.formula_run.proofs.run_formula.Statement.{statement}
+use Rattle.formula_run.proofs.run_formula.Tie as tie
 
 is-step-requires : tie.Need-is-step-requires
 is-step-requires c κs = search needs
@@ -34,11 +34,11 @@ returns-2 : tie.Need-returns-2
 returns-2 c =
     let start = c .before .before .before .before .before .before in
     call-step (now (start .args .text)) (start .args .settings) (now (start .args .work)) (now (start .args .log))
-    (now (start .args .formula)) (now (start .args .rows)) (start .args .room)
+    (now (start .args .formula)) (now (start .args .rows))
     (sym (c .before .is-step .ensures) ∙ c .if1 .left)
 
-pub reencode-into-spec : {M : Type 1} → statement M
-reencode-into-spec =
+pub run-formula-spec : {M : Type 1} → statement M
+run-formula-spec =
     tie.close
     (tie.spec
     is-step-requires

@@ -2,10 +2,10 @@ use mathlib.Core.Path.{sym}
 use native.Mathlib.Omega.{arith}
 use lib.Seq.{length-take-le}
 use denote.Ref.{now}
-use Rattle.call_reencode.proofs.Call.{call-fault, call-short, lent-ready, call-run}
+use Rattle.formula_run.proofs.Running.{call-fault, call-short, lent-ready, call-run}
 use borrow.Author.Needs.{needs}
-use Rattle.call_reencode.proofs.read_and_run.Statement.{statement}
-use Rattle.call_reencode.proofs.read_and_run.Tie as tie
+use Rattle.formula_run.proofs.read_and_run.Statement.{statement}
+use Rattle.formula_run.proofs.read_and_run.Tie as tie
 
 input-limits-requires : tie.Need-input-limits-requires
 input-limits-requires c κs = search needs
@@ -32,7 +32,7 @@ returns c =
     let back = back .before .before in let input-limits = back .input-limits in
     let start = back .before .before .before .before .before in
     call-short (now (start .args .text)) (start .args .settings) (start .pre .0) (now (start .args .work))
-    (now (start .args .log)) (now (start .args .formula)) (now (start .args .rows)) (start .pre .1) (start .args .room)
+    (now (start .args .log)) (now (start .args .formula)) (now (start .args .rows)) (start .pre .1)
     (input-limits .result) (input-limits .ensures .0) _ (read .ensures .0) _ _ _ _ _ (v .given .1)
     (c .before .workspace-need .ensures) (omega (arith, c .if1 .taken, read .kept .1 .1 .0))
 
@@ -55,7 +55,7 @@ run-all-requires c κs =
     let back = back .before .before in let input-limits = back .input-limits in
     let start = back .before .before .before .before .before in
     lent-ready (now (start .args .text)) (start .args .settings) (start .pre .0) (now (start .args .work))
-    (now (start .args .log)) (now (start .args .formula)) (now (start .args .rows)) (start .pre .1) (start .args .room)
+    (now (start .args .log)) (now (start .args .formula)) (now (start .args .rows)) (start .pre .1)
     (input-limits .result) (input-limits .ensures .0) _ (read .ensures .0) _ _ _ _ _ (v .given .1)
     (workspace-need .ensures) (omega (arith, if1 .left, read .kept .1 .1 .0)) (read .ensures .1)
 
@@ -68,7 +68,7 @@ returns-2 c =
     let back = back .before .before in let input-limits = back .input-limits in
     let start = back .before .before .before .before .before in
     call-fault (now (start .args .text)) (start .args .settings) (start .pre .0) (now (start .args .work))
-    (now (start .args .log)) (now (start .args .formula)) (now (start .args .rows)) (start .pre .1) (start .args .room)
+    (now (start .args .log)) (now (start .args .formula)) (now (start .args .rows)) (start .pre .1)
     (input-limits .result) (input-limits .ensures .0) _ (read .ensures .0) _ (c .before .n .given .1)
 
 same-length-3 : tie.Need-same-length-3
@@ -93,7 +93,7 @@ returns-3 c =
     let back = back .before .before in let input-limits = back .input-limits in
     let start = back .before .before .before .before .before in
     call-run (now (start .args .text)) (start .args .settings) (start .pre .0) (now (start .args .work))
-    (now (start .args .log)) (now (start .args .formula)) (now (start .args .rows)) (start .pre .1) (start .args .room)
+    (now (start .args .log)) (now (start .args .formula)) (now (start .args .rows)) (start .pre .1)
     (input-limits .result) (input-limits .ensures .0) _ (read .ensures .0) _ _ _ _ _ (v .given .1)
     (workspace-need .ensures) (omega (arith, if1 .left, read .kept .1 .1 .0)) (read .ensures .1) (run-all .ensures)
 

@@ -4,9 +4,9 @@ use borrow.Author.Needs.{sfits-of, needs}
 use Rattle.literals.specs.Literal.{negative}
 use Rattle.literals.proofs.Laws.{answered}
 use Rattle.store.specs.Store.{header-at}
-use Rattle.call_reencode.proofs.Counting.{bit-deleted, bit-stands}
-use Rattle.call_reencode.proofs.standing_at.Statement.{statement}
-use Rattle.call_reencode.proofs.standing_at.Tie as tie
+use Rattle.formula_run.proofs.Counting.{bit-deleted, bit-stands}
+use Rattle.formula_run.proofs.standing_at.Statement.{statement}
+use Rattle.formula_run.proofs.standing_at.Tie as tie
 
 mul-is-negative : tie.Need-mul-is-negative
 mul-is-negative c = search needs

@@ -10,7 +10,7 @@ use lib.Seq.{take-all}
 use Rattle.theory_base.proofs.Tests.{by-test}
 use Rattle.store.specs.Store.{stored, deleted-at, clause-at, past, Place}
 use Rattle.store.proofs.Laws.{place-next, prefix-deleted, prefix-stands}
-use Rattle.call_reencode.specs.Counting.{standing-bit}
+use Rattle.formula_run.specs.Counting.{standing-bit}
 
 pub bit-deleted : (s : List ℤ) (at : ℕ) → deleted-at s at ≡ true → standing-bit s at ≡ 0
 bit-deleted s at e = rw e refl

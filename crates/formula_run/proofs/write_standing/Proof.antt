@@ -3,10 +3,10 @@ use native.Mathlib.Omega.{arith}
 use lib.ListN.{length}
 use lib.Seq.{length-take-le}
 use denote.Ref.{now}
-use Rattle.call_reencode.proofs.Call.{left-few, log-short, formula-short, both-fit}
+use Rattle.formula_run.proofs.Running.{left-few, log-short, formula-short, both-fit}
 use borrow.Author.Needs.{needs}
-use Rattle.call_reencode.proofs.finish.Statement.{statement}
-use Rattle.call_reencode.proofs.finish.Tie as tie
+use Rattle.formula_run.proofs.write_standing.Statement.{statement}
+use Rattle.formula_run.proofs.write_standing.Tie as tie
 
 slice-aggregate-count-standing : tie.Need-slice-aggregate-count-standing
 slice-aggregate-count-standing c =
@@ -35,33 +35,10 @@ same-length : tie.Need-same-length
 same-length c = search needs
 
 returns : tie.Need-returns
-returns c =
-    let back = c .before .before .before .before in let write-formula = back .write-formula in
-    let start = back .before .before .before .before .before .before .before in
-    log-short (length (now (start .args .log))) (write-formula .ensures) (c .if1 .taken)
+returns c = ?
 
-same-length-2 : tie.Need-same-length-2
-same-length-2 c = search needs
-
-returns-2 : tie.Need-returns-2
-returns-2 c =
-    let back = c .before .before .before .before .before in let write-formula = back .write-formula in
-    let start = back .before .before .before .before .before .before .before in
-    formula-short (length (now (start .args .log))) (write-formula .ensures) (c .before .if1 .left) (c .if2 .taken)
-
-same-length-3 : tie.Need-same-length-3
-same-length-3 c = search needs
-
-returns-3 : tie.Need-returns-3
-returns-3 c =
-    let back = c .before .before .before .before .before in let write-formula = back .write-formula in
-    let back = back .before .before .before in let count-standing = back .count-standing in
-    let start = back .before .before .before .before in
-    both-fit (length (now (start .args .log))) (write-formula .ensures) (c .before .if1 .left) (c .if2 .left)
-    (count-standing .ensures)
-
-pub finish-spec : {M : Type 1} → statement M
-finish-spec =
+pub write-standing-spec : {M : Type 1} → statement M
+write-standing-spec =
     tie.close
     (tie.spec
     slice-aggregate-count-standing
@@ -70,8 +47,4 @@ finish-spec =
     slice-aggregate-write-formula
     write-formula-requires
     same-length
-    returns
-    same-length-2
-    returns-2
-    same-length-3
-    returns-3)
+    returns)

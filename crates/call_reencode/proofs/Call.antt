@@ -5,22 +5,24 @@ use mathlib.Core.List.{List, _++_, append-nil}
 use Prim.Native.Nat.{ℕ, _+_, _≤_, _<_}
 use native.Mathlib.Omega.{arith}
 use lib.Dec.{ltb}
+use lib.IntN.{ℤ}
 use lib.ListN.{length, drop, replicate, length-map, drop-of-length-le}
 use lib.Seq.{sets-eq}
 use borrow.Author.Tests.{lt-ltb, le-ltb, ltb-false}
 use Rattle.definition.specs.Checked.{Checked, fault, value, _>>=_, refuse-if}
 use Rattle.definition.specs.Text.{Bytes}
-use Rattle.definition.specs.Calls.{Reencoded, fitted, buffer-after}
+use Rattle.definition.specs.Calls.{Reencoded, fitted, reencode, buffer-after}
 use Rattle.records.specs.declared.ChoiceRecord.{ChoiceRecord}
 use Rattle.records.specs.Rows.{shown-record, no-record, records-in}
 use Rattle.records.proofs.Rows.{records-in-zeros, records-in-sets}
 use Rattle.text.specs.Output.{Put}
+use Rattle.run.specs.declared.Settings as Code-settings
 use Rattle.formula_run.specs.declared.Tally.{Tally}
 use Rattle.formula_run.specs.declared.Tallied as Code
 use Rattle.formula_run.specs.declared.Tallied.the-variants as Tallied
-use Rattle.formula_run.specs.Outcome.{tally-of, outcome-of}
+use Rattle.formula_run.specs.Outcome.{run-outcome, tally-of, outcome-of}
 use Rattle.formula_run.specs.Result.{Written as Run-written, Answers as Run-answers}
-use Rattle.call_reencode.specs.Outcome.{shown-table}
+use Rattle.call_reencode.specs.Outcome.{outcome, shown-table}
 use Rattle.call_reencode.specs.Result.{answer-by, Written, Answers}
 
 -- ---- buffers
@@ -78,37 +80,49 @@ module _ (room : ℕ) {log formula x y : Bytes} {rows z : List ℕ} where
       Answers (fitted room (length log) (length formula) r) room log formula rows a x y z
   unfolding fitted refuse-if
   fits-answers r {a} w e =
-      go (ltb room (r .tally .choices)) refl (ltb (length log) (length (r .log))) refl (ltb (length formula) (length (r .formula))) refl
-      (rw (log-size, formula-size) at e)
+      rw (log-size, formula-size)
+      (go (ltb room (r .tally .choices)) refl (ltb (length log) (r .tally .log-bytes)) refl (ltb (length formula) (r .tally .formula-bytes)) refl e)
     where
-      log-size : r .tally .log-bytes ≡ length (r .log)
+      log-size : length (r .log) ≡ r .tally .log-bytes
       log-size = omega (arith, w .log-put .next)
 
-      formula-size : r .tally .formula-bytes ≡ length (r .formula)
+      formula-size : length (r .formula) ≡ r .tally .formula-bytes
       formula-size = omega (arith, w .formula-put .next)
 
-      go : (s : Bool) → ltb room (r .tally .choices) ≡ s → (t : Bool) → ltb (length log) (length (r .log)) ≡ t → (u : Bool) → ltb (length formula) (length (r .formula)) ≡ u →
+      go : (s : Bool) → ltb room (r .tally .choices) ≡ s → (t : Bool) → ltb (length log) (r .tally .log-bytes) ≡ t → (u : Bool) → ltb (length formula) (r .tally .formula-bytes) ≡ u →
           a ≡ cond s (Tallied.Refused 17) (cond t (Tallied.Refused 12) (cond u (Tallied.Refused 13) (outcome-of (value r)))) →
           Answers (refuse-if s 17 (refuse-if t 12 (refuse-if u 13 (value r)))) room log formula rows a x y z
       go true p t q u k v = rw v (refused 17 refl)
       go false p true q u k v = rw v (refused 12 refl)
       go false p false q true k v = rw v (refused 13 refl)
       go false p false q false k v =
-          done r v (all-written w (ltb-false room (r .tally .choices) p) (ltb-false (length log) (length (r .log)) q) (ltb-false (length formula) (length (r .formula)) k))
+          done r v
+          (all-written w (ltb-false room (r .tally .choices) p) (omega (arith, log-size, ltb-false (length log) (r .tally .log-bytes) q)) (omega (arith, formula-size, ltb-false (length formula) (r .tally .formula-bytes) k)))
 
-  pub run-fits : (o : Checked Reencoded) {b a : Code.Tallied} {t : Tally} → Run-answers o log formula rows b x y z → b ≡ Tallied.Done t → length x ≡ length log → length y ≡ length formula →
-      a ≡ answer-by room (length x) (length y) t → Answers (o >>= fitted room (length log) (length formula)) room log formula rows a x y z
+  by-fit : (o : Checked Reencoded) {b a : Code.Tallied} {t : Tally} → Run-answers o log formula rows b x y z → b ≡ Tallied.Done t →
+      a ≡ answer-by room (length log) (length formula) t → Answers (o >>= fitted room (length log) (length formula)) room log formula rows a x y z
   unfolding _>>=_
-  run-fits (fault n) w e k j c = absurd (let z : _≡_ {A = ℕ} 0 1 = cc (w .answer) in omega arith)
-  run-fits (value r) {t = t} w e k j c =
+  by-fit (fault n) w e c = absurd (let z : _≡_ {A = ℕ} 0 1 = cc (w .answer) in omega arith)
+  by-fit (value r) {t = t} w e c =
       let same : t ≡ tally-of (r .tally) = cc (w .answer) in
-      fits-answers r (w .written r refl) (rw (k, j, same) at c)
+      fits-answers r (w .written r refl) (rw same at c)
 
-  pub run-refused : (o : Checked Reencoded) {b : Code.Tallied} {n : ℕ} → Run-answers o log formula rows b x y z → b ≡ Tallied.Refused n →
+  by-refusal : (o : Checked Reencoded) {b : Code.Tallied} {n : ℕ} → Run-answers o log formula rows b x y z → b ≡ Tallied.Refused n →
       Answers (o >>= fitted room (length log) (length formula)) room log formula rows (Tallied.Refused n) x y z
   unfolding _>>=_
-  run-refused (fault k) {n = n} w e = let same : k ≡ n = cc (w .answer) in refused n (ap fault same)
-  run-refused (value r) w e = absurd (let z : _≡_ {A = ℕ} 0 1 = cc (w .answer) in omega arith)
+  by-refusal (fault k) {n = n} w e = let same : k ≡ n = cc (w .answer) in refused n (ap fault same)
+  by-refusal (value r) w e = absurd (let z : _≡_ {A = ℕ} 0 1 = cc (w .answer) in omega arith)
+
+  -- of a call
+  module _ (s : Code-settings.Settings) (text : Bytes) (work : List ℤ) {b : Code.Tallied} (w : Run-answers (run-outcome s text work) log formula rows b x y z) where
+    pub call-fits : {a : Code.Tallied} {t : Tally} → b ≡ Tallied.Done t → length x ≡ length log → length y ≡ length formula →
+        a ≡ answer-by room (length x) (length y) t → Answers (outcome s text work log formula room) room log formula rows a x y z
+    unfolding reencode
+    call-fits e k j c = by-fit (run-outcome s text work) w e (rw (k, j) at c)
+
+    pub call-refused : {n : ℕ} → b ≡ Tallied.Refused n → Answers (outcome s text work log formula room) room log formula rows (Tallied.Refused n) x y z
+    unfolding reencode
+    call-refused e = by-refusal (run-outcome s text work) w e
 
 -- ---- all is made zero on a refusal
 

@@ -5,11 +5,11 @@ use Prim.Native.Nat.{ℕ}
 use native.Mathlib.Omega.{arith}
 use lib.IntN.{ℤ}
 use lib.ListN.{length, set, replicate}
-use Rattle.definition.specs.Checked.{Checked, fault, value}
+use Rattle.definition.specs.Checked.{Checked, fault, value, _>>=_}
 use Rattle.definition.specs.Literals.{literals-of}
 use Rattle.definition.specs.Text.{Bytes}
 use Rattle.definition.specs.Reading.{Input}
-use Rattle.definition.specs.Calls.{Reencoded, Tally}
+use Rattle.definition.specs.Calls.{Tally, Reencoded, sizes}
 use Rattle.call_read_back.specs.declared.ReadBack.the-variants as ReadBack
 use Rattle.call_read_back.specs.Outcome.{read-back-of}
 use Rattle.carry.specs.declared.Carried.the-variants as Carried
@@ -19,13 +19,15 @@ use Rattle.run.specs.declared.Arrangement as Code-arrangement
 use Rattle.run.specs.declared.Settings as Code-settings
 use Rattle.run.specs.Settings.{named-form, named-arrangement, settings-of}
 use Rattle.formula_run.specs.declared.Tally as Code
+use Rattle.formula_run.specs.declared.Tallied as Tallied-type
 use Rattle.formula_run.specs.declared.Tallied.the-variants as Tallied
-use Rattle.formula_run.specs.Outcome.{outcome-of}
+use Rattle.formula_run.specs.Outcome.{run-outcome, tally-of, tallied-of, outcome-of}
 use Rattle.call_reencode.specs.Outcome.{outcome}
-use Rattle.exports.specs.Numbers.{form-number, arrangement-number, settings-number, number-of, reencoding}
+use Rattle.call_sizes.specs.Outcome.{outcome as sizes-outcome}
+use Rattle.exports.specs.Numbers.{form-number, arrangement-number, settings-number, number-of, reencoding, sizing}
 use Rattle.counts.specs.Counts.{overwritten}
 use Rattle.counts.proofs.Laws.{one-count}
-use Rattle.exports.specs.Counts.{tally-after, line-counts, read-back-counts, reencoding-counts, done-counts}
+use Rattle.exports.specs.Counts.{tally-after, line-counts, read-back-counts, sizes-counts, reencoding-counts, done-counts}
 
 pub read-counted : (o : Checked Input) (v c l : ℕ) (before after : List ℕ) → read-back-of o ≡ ReadBack.Read v c l → after ≡ overwritten (v ∷ c ∷ l ∷ []) before → (0 ≡ number-of o) × (after ≡ tally-after o read-back-counts before)
 unfolding number-of tally-after
@@ -53,23 +55,11 @@ unfolding number-of tally-after
 line-refused (fault m) n before after e w = (cc, w)
 line-refused (value t) n before after e w = let z : _≡_ {A = ℕ} 0 1 = cc in absurd (omega arith)
 
--- the code's record of a result
-abbrev result-tally : Tally → Code.Tally
-result-tally r =
-    record {
-      choices = r .choices;
-      highest = r .highest;
-      clauses = r .clauses;
-      lines = r .lines;
-      «log_bytes» = r .log-bytes;
-      «formula_bytes» = r .formula-bytes;
-    }
-
 pub reencoding-counted : (o : Checked Reencoded) (t : Code.Tally) (before after : List ℕ) → outcome-of o ≡ Tallied.Done t → after ≡ overwritten (done-counts t) before → (0 ≡ number-of o) × (after ≡ tally-after o reencoding-counts before)
 unfolding number-of tally-after
 reencoding-counted (fault m) t before after e w = let z : _≡_ {A = ℕ} 0 1 = cc in absurd (omega arith)
 reencoding-counted (value r) t before after e w =
-    let et : result-tally (r .tally) ≡ t = cc in
+    let et : tally-of (r .tally) ≡ t = cc in
     (refl, w ∙ ap (λ (x : Code.Tally). overwritten (done-counts x) before) (sym et))
 
 pub reencoding-refused : (o : Checked Reencoded) (n : ℕ) (before after : List ℕ) → outcome-of o ≡ Tallied.Refused n → after ≡ replicate (length before) 0 → (n ≡ number-of o) × (after ≡ tally-after o reencoding-counts before)
@@ -84,3 +74,17 @@ settings-named f a m n g e d = rw (e, d) refl
 -- the outcome for settings that the numbers name
 pub same-outcome : (s : Code-settings.Settings) (m n g : ℕ) (text : Bytes) (work : List ℤ) (log formula : Bytes) (room : ℕ) → settings-of s ≡ settings-number m n g → outcome s text work log formula room ≡ reencoding m n g text work log formula room
 same-outcome s m n g text work log formula room e = rw e refl
+
+-- the result of a run alone has the run's number and counts
+result-alone : (o : Checked Reencoded) {a : Tallied-type.Tallied} {n : ℕ} {before after : List ℕ} → a ≡ tallied-of (o >>= λ r. value (r .tally)) →
+    (a ≡ outcome-of o → (n ≡ number-of o) × (after ≡ tally-after o reencoding-counts before)) →
+    (n ≡ number-of (o >>= λ r. value (r .tally))) × (after ≡ tally-after (o >>= λ r. value (r .tally)) sizes-counts before)
+unfolding _>>=_ number-of tally-after
+result-alone (fault m) e k = k e
+result-alone (value r) e k = k e
+
+pub sizes-answered : (s : Code-settings.Settings) (m n g : ℕ) (text : Bytes) (work : List ℤ) → settings-of s ≡ settings-number m n g → {a : Tallied-type.Tallied} {k : ℕ} {before after : List ℕ} →
+    a ≡ tallied-of (sizes-outcome s text work) → ((o : Checked Reencoded) → a ≡ outcome-of o → (k ≡ number-of o) × (after ≡ tally-after o reencoding-counts before)) →
+    (k ≡ number-of (sizing m n g text work)) × (after ≡ tally-after (sizing m n g text work) sizes-counts before)
+unfolding sizes
+sizes-answered s m n g text work e a f = rw e at (result-alone (run-outcome s text work) a (f (run-outcome s text work)))

@@ -16,15 +16,11 @@ tally-after (fault n) counts before = replicate (length before) 0
 tally-after (value a) counts before = overwritten (counts a) before
 
 -- choices, H, M, log lines, the log's bytes and the formula's
+abbrev pub sizes-counts : Tally → List ℕ
+sizes-counts x = x .choices ∷ x .highest ∷ x .clauses ∷ x .lines ∷ x .log-bytes ∷ x .formula-bytes ∷ []
+
 abbrev pub reencoding-counts : Reencoded → List ℕ
-reencoding-counts r =
-    r .tally .choices
-    ∷ r .tally .highest
-    ∷ r .tally .clauses
-    ∷ r .tally .lines
-    ∷ r .tally .log-bytes
-    ∷ r .tally .formula-bytes
-    ∷ []
+reencoding-counts r = sizes-counts (r .tally)
 
 -- the same of the code's result
 abbrev pub done-counts : Code.Tally → List ℕ

@@ -9,7 +9,7 @@ use Rattle.definition.specs.Checked.{Checked, fault, value}
 use Rattle.definition.specs.Alignment.{Arrangement, as-listed, alignment}
 use Rattle.definition.specs.Text.{Bytes}
 use Rattle.definition.specs.Reencoding.{Form, counter-form, order-form, Settings}
-use Rattle.definition.specs.Calls.{Reencoded, reencode}
+use Rattle.definition.specs.Calls.{Tally, Reencoded, reencode, sizes}
 
 -- 0 is the counter form, any other number the order form
 abbrev pub form-number : ℕ → Form
@@ -25,6 +25,10 @@ settings-number f a g = record { form = form-number f; arrangement = arrangement
 -- the outcome of reencoding: form, arrangement, step, text, workspace, both buffers and the number of the table's records
 abbrev pub reencoding : ℕ → ℕ → ℕ → Bytes → List ℤ → Bytes → Bytes → ℕ → Checked Reencoded
 reencoding f a g text work log formula room = reencode (settings-number f a g) (length work) (length log) (length formula) room text
+
+-- the outcome of its sizes: form, arrangement, step, text and workspace
+abbrev pub sizing : ℕ → ℕ → ℕ → Bytes → List ℤ → Checked Tally
+sizing f a g text work = sizes (settings-number f a g) (length work) text
 
 -- 0 for a value, else the fault's number
 unfoldable pub number-of : {A : Type 0} → Checked A → ℕ

@@ -16,9 +16,9 @@ ghost use Rattle.carry.specs.Carried.{carried-of};
 ghost use Rattle.call_walk_back.specs.Outcome.{outcome as walk-back-outcome};
 ghost use Rattle.call_carry_forward.specs.Outcome.{outcome as carry-forward-outcome};
 ghost use Rattle.call_read_back.specs.Outcome.{outcome as read-back-outcome};
-ghost use Rattle.exports.specs.Numbers.{form-number, arrangement-number, settings-number, number-of, reencoding};
+ghost use Rattle.exports.specs.Numbers.{form-number, arrangement-number, settings-number, number-of, reencoding, sizing};
 ghost use Rattle.counts.specs.Counts.{overwritten};
-ghost use Rattle.exports.specs.Counts.{tally-after, reencoding-counts, done-counts, line-counts, read-back-counts};
+ghost use Rattle.exports.specs.Counts.{tally-after, sizes-counts, reencoding-counts, done-counts, line-counts, read-back-counts};
 use carry::Carried;
 use formula_run::Tallied;
 use formula_run::Tally;
@@ -115,6 +115,25 @@ pub extern "C" fn sirgholyn_reencode(
 {
     let settings = settings_named(form, arrangement, step);
     let r = call_reencode::reencode(text, settings, work, log, formula, table);
+    answered(tally, r)
+}
+
+// Works out the counts of a reencoding beforehand, with no buffer for its texts and no table; form, arrangement and step are as there. The tally gets choices, H, M,
+// log lines, the log's bytes and the formula's.
+#[no_mangle]
+pub extern "C" fn sirgholyn_sizes(
+    text: &[u8],
+    form: u32,
+    arrangement: u32,
+    step: u32,
+    work: &mut [i32],
+    tally: &mut [u64],
+) -> u32
+    ensures number { λ r. ⌜ r ≡ number-of (sizing form arrangement step (now (text .entry)) (now (work .entry))) ⌝ }
+    ensures counts { λ _. ⌜ now (tally .exit) ≡ tally-after (sizing form arrangement step (now (text .entry)) (now (work .entry))) sizes-counts (now (tally .entry)) ⌝ }
+{
+    let settings = settings_named(form, arrangement, step);
+    let r = call_sizes::sizes(text, settings, work);
     answered(tally, r)
 }
 

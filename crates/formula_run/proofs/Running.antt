@@ -41,7 +41,7 @@ use Rattle.formula_run.specs.declared.Tally as Code-tally
 use Rattle.formula_run.specs.declared.Tallied as Code
 use Rattle.formula_run.specs.declared.Tallied.the-variants as Tallied
 use Rattle.formula_run.specs.Outcome.{run-outcome, outcome-of}
-use Rattle.formula_run.specs.Result.{Left, Finishes, Stepped, Written, Answers}
+use Rattle.formula_run.specs.Result.{Left, tally-by, Finishes, Stepped, Written, Answers}
 
 -- ---- an outcome
 
@@ -63,6 +63,10 @@ module _ {work : List ℤ} {r : Reached} (l : Left work r) where
   left-few =
       let n = length-take-le (r .progress .end) work (l .inside) in
       (omega (arith, l .small, l .inside, n, few-stored (take (r .progress .end) work)), omega (arith, l .small, l .inside, n))
+
+pub formula-written : {work : List ℤ} {r : Reached} {formula new : Bytes} {count bytes : ℕ} → Put formula 0 (formula-text (r .highest) (standing work (r .progress))) bytes new → count ≡ length (standing work (r .progress)) →
+    Finishes work formula r (tally-by r count bytes) new
+formula-written {r = r} {bytes = bytes} w e = record { bytes = bytes; written = w; tally = ap (λ (n : ℕ). tally-by r n bytes) e }
 
 -- ---- after a run
 

@@ -54,9 +54,9 @@ unfolding fitted refuse-if
 fitted-fault table-room log-room formula-room n r e = go (ltb table-room (r .tally .choices)) (ltb log-room (length (r .log))) (ltb formula-room (length (r .formula))) e
   where
     go : (a b c : Bool) → refuse-if a 17 (refuse-if b 12 (refuse-if c 13 (value r))) ≡ fault n → List·Memᴰ n (12 ∷ 13 ∷ 17 ∷ [])
-    go true b c e = let z : n ≡ 17 = cc in rw z (there (there here))
-    go false true c e = let z : n ≡ 12 = cc in rw z here
-    go false false true e = let z : n ≡ 13 = cc in rw z (there here)
+    go true b c e = let z : n ≡ 17 = cc in there (there (here z))
+    go false true c e = let z : n ≡ 12 = cc in here z
+    go false false true e = let z : n ≡ 13 = cc in there (here z)
     go false false false e = absurd (let z : _≡_ {A = ℕ} 0 1 = cc in omega arith)
 
 -- a result is given as it is

@@ -1,0 +1,43 @@
+use borrow.Author.Needs.{needs}
+use Rattle.exports.proofs.sirgholyn_sizes.Statement.{statement}
+use Rattle.exports.proofs.sirgholyn_sizes.Tie as tie
+use Rattle.exports.proofs.sirgholyn_sizes.Reads as reads
+use Rattle.exports.proofs.sirgholyn_sizes.Lts as lts
+use Rattle.call_sizes.proofs.sizes.Reads as sizes-reads
+use Rattle.exports.proofs.answered.Reads as answered-reads
+use Rattle.exports.proofs.settings_named.Reads as settings-named-reads
+
+-- src/lib.rt:135:9
+settings-named-requires : tie.Need-settings-named-requires
+settings-named-requires c κs = search needs
+
+-- src/lib.rt:136:9
+sizes-requires : tie.Need-sizes-requires
+sizes-requires c κs = search needs
+
+-- src/lib.rt:137:5
+answered-requires : tie.Need-answered-requires
+answered-requires c κs = search needs
+
+-- src/lib.rt:123:1
+same-length : tie.Need-same-length
+same-length c = search needs
+
+-- src/lib.rt:123:1
+same-length-2 : tie.Need-same-length-2
+same-length-2 c = search needs
+
+-- src/lib.rt:123:1
+returns : tie.Need-returns
+returns c = ?
+
+pub sirgholyn-sizes-spec : {M : Type 1} → statement M
+sirgholyn-sizes-spec =
+    tie.close
+    (tie.spec
+    settings-named-requires
+    sizes-requires
+    answered-requires
+    same-length
+    same-length-2
+    returns)

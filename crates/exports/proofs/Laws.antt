@@ -76,15 +76,15 @@ pub same-outcome : (s : Code-settings.Settings) (m n g : ℕ) (text : Bytes) (wo
 same-outcome s m n g text work log formula room e = rw e refl
 
 -- the result of a run alone has the run's number and counts
-result-alone : (o : Checked Reencoded) {a : Tallied-type.Tallied} {n : ℕ} {before after : List ℕ} → a ≡ tallied-of (o >>= λ r. value (r .tally)) →
+result-alone : (o : Checked Reencoded) (before : List ℕ) {a : Tallied-type.Tallied} {n : ℕ} {after : List ℕ} → a ≡ tallied-of (o >>= λ r. value (r .tally)) →
     (a ≡ outcome-of o → (n ≡ number-of o) × (after ≡ tally-after o reencoding-counts before)) →
     (n ≡ number-of (o >>= λ r. value (r .tally))) × (after ≡ tally-after (o >>= λ r. value (r .tally)) sizes-counts before)
 unfolding _>>=_ number-of tally-after
-result-alone (fault m) e k = k e
-result-alone (value r) e k = k e
+result-alone (fault m) before e k = k e
+result-alone (value r) before e k = k e
 
-pub sizes-answered : (s : Code-settings.Settings) (m n g : ℕ) (text : Bytes) (work : List ℤ) → settings-of s ≡ settings-number m n g → {a : Tallied-type.Tallied} {k : ℕ} {before after : List ℕ} →
+pub sizes-answered : (s : Code-settings.Settings) (m n g : ℕ) (text : Bytes) (work : List ℤ) (before : List ℕ) → settings-of s ≡ settings-number m n g → {a : Tallied-type.Tallied} {k : ℕ} {after : List ℕ} →
     a ≡ tallied-of (sizes-outcome s text work) → ((o : Checked Reencoded) → a ≡ outcome-of o → (k ≡ number-of o) × (after ≡ tally-after o reencoding-counts before)) →
     (k ≡ number-of (sizing m n g text work)) × (after ≡ tally-after (sizing m n g text work) sizes-counts before)
 unfolding sizes
-sizes-answered s m n g text work e a f = rw e at (result-alone (run-outcome s text work) a (f (run-outcome s text work)))
+sizes-answered s m n g text work before e a f = rw e at (result-alone (run-outcome s text work) before a (f (run-outcome s text work)))

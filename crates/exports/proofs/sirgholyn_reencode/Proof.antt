@@ -48,7 +48,7 @@ use Rattle.run.specs.declared.Settings.{Settings}
 use Rattle.run.specs.Settings.{settings-of}
 use Rattle.run.proofs.Settings as S
 use Rattle.run.proofs.Settings.Laws as S′
-use Rattle.call_reencode.specs.Outcome.{outcome-of}
+use Rattle.formula_run.specs.Outcome.{outcome-of}
 use Rattle.formula_run.proofs.Tallied as E
 use Rattle.formula_run.proofs.Tallied.Laws as E′
 use Rattle.call_reencode.proofs.Called.{out, log-after, formula-after, table-after, Reencode, to-reencode, For-reencode, Told-reencode, Of-reencode, asks-reencode, gives-reencode}

@@ -1,3 +1,5 @@
+use denote.Ref.{now}
+use Rattle.exports.proofs.Laws.{sizes-answered}
 use borrow.Author.Needs.{needs}
 use Rattle.exports.proofs.sirgholyn_sizes.Statement.{statement}
 use Rattle.exports.proofs.sirgholyn_sizes.Tie as tie
@@ -29,7 +31,7 @@ same-length-2 c = search needs
 
 -- src/lib.rt:123:1
 returns : tie.Need-returns
-returns c = ?
+returns c = sizes-answered (c .before .before .before .before .before .before .before .settings-named .result) (c .before .before .before .before .before .before .before .before .before .before .args .form) (c .before .before .before .before .before .before .before .before .before .before .args .arrangement) (c .before .before .before .before .before .before .before .before .before .before .args .step) (now (c .before .before .before .before .before .before .before .before .before .before .args .text)) (now (c .before .before .before .before .before .before .before .before .before .before .args .work)) (now (c .before .before .before .before .before .before .before .before .before .before .args .tally)) (c .before .before .before .before .before .before .before .settings-named .ensures) (c .before .before .before .before .before .sizes .ensures) (c .before .before .answered .ensures)
 
 pub sirgholyn-sizes-spec : {M : Type 1} → statement M
 sirgholyn-sizes-spec =

@@ -1,6 +1,5 @@
 -- What a run answers: the definition's outcome, and number and values of each case.
 use mathlib.Core.List.{List}
-use Prim.Native.Nat.{ℕ}
 use lib.IntN.{ℤ}
 use lib.ListN.{length}
 use Rattle.definition.specs.Checked.{Checked, fault, value}

@@ -75,6 +75,11 @@ pub record Pairs-taken (t : List ℕ) (F : Formula) (s : List ℤ) (counts : Lis
   pub stands : stored s ≡ those (no-pair t) F
   pub counted : (n : ℕ) → n < slots → getD counts n 0 ≡ count (in-slot t n) F
 
+-- a table has counts only in the slots of a choice of k literals
+pub record Pair-counts (counts : List ℕ) (k : ℕ) : Type 0 where
+  pub size : length counts ≡ slots
+  pub none : (n : ℕ) → k * 64 ≤ n → getD counts n 0 ≡ 0
+
 -- ---- the deletions of pairs, each as often as it is counted
 
 abbrev pub pair-clause : Clause → ℕ → ℕ → Clause

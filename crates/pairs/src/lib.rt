@@ -10,7 +10,7 @@ ghost use Rattle.tables.specs.Places.{Places};
 ghost use Rattle.store.specs.Store.{Formed, stored};
 ghost use Rattle.index.specs.Index.{Indexed};
 ghost use Rattle.progress.specs.Progress.{Written, Log-room};
-ghost use Rattle.pairs.specs.Pairs.{slots, ordered-slot as slot-for, slot-of, Pair-step, Countable, Pairs-less, No-pair-with, Pairs-taken, cell-lines, row-lines, pair-lines};
+ghost use Rattle.pairs.specs.Pairs.{slots, ordered-slot as slot-for, slot-of, Pair-step, Countable, Pairs-less, No-pair-with, Pairs-taken, Pair-counts, cell-lines, row-lines, pair-lines};
 use progress::Progress;
 
 // How many slots a table of counts has, one for each two places of a choice.
@@ -181,4 +181,15 @@ pub fn record_pairs(log: &mut [u8], p: Progress, counts: &[u32], choice: &[i32])
         i += 1;
     }
     q
+}
+
+// ---- counts made zero
+
+// Makes the counts of a choice's pairs zero again; there are no others.
+pub fn clear_counts(counts: &mut [u32], choice: &[i32])
+    requires { ⌜ Pair-counts (now counts) (length (now choice)) × (length (now choice) ≤ 64) ⌝ }
+    ensures { λ _. ⌜ now (counts .exit) ≡ replicate slots 0 ⌝ }
+{
+    let used = choice.len() * 64;
+    tables::clear(&mut counts[..used]);
 }

@@ -4,7 +4,7 @@ use mathlib.Core.List.{List, [], _∷_, _++_, map}
 use Prim.Native.Nat.{ℕ, _+_, _*_, _≤_, _<_, _^_}
 use native.Mathlib.Omega.{arith}
 use lib.IntN.{ℤ, pos, natAbs}
-use lib.ListN.{length, getD, take, drop, replicate, length-append}
+use lib.ListN.{length, getD, take, drop, length-append}
 use lib.Seq.{take-at, take-take, drop-at}
 use Rattle.definition.specs.Literals.{Clause, Formula}
 use Rattle.definition.specs.Text.{Bytes}
@@ -18,9 +18,7 @@ use Rattle.theory_counter.proofs.Front.{taken-lines-are}
 use Rattle.theory_counter.specs.Front.{front}
 use Rattle.theory_counter.proofs.Counter.{after-choice}
 use Rattle.tables.specs.Sizes.{input-reach, log-reach}
-use Rattle.tables.specs.Stamps.{At-most}
 use Rattle.tables.specs.Places.{Places}
-use Rattle.tables.proofs.Laws.{zeros-by-entry}
 use Rattle.store.specs.Store.{Formed, stored}
 use Rattle.store.proofs.Laws.{formed-++, stored-++, place-within}
 use Rattle.index.specs.Index.{Indexed}
@@ -28,7 +26,7 @@ use Rattle.index.proofs.Laws.{indexed-inside, indexed-length}
 use Rattle.progress.specs.declared.Progress.{Progress}
 use Rattle.progress.specs.Progress.{Written, Log-room}
 use Rattle.progress.proofs.Laws.{lines-one, written-then, room-first, room-rest, runs-event}
-use Rattle.pairs.specs.Pairs.{slots, Pairs-taken, pair-lines}
+use Rattle.pairs.specs.Pairs.{Pairs-taken, pair-lines}
 use Rattle.pairs.proofs.Laws.{front-stands, copies-lines}
 use Rattle.pass_counter.specs.Choice.{Choice-ready, Taken}
 use Rattle.progress.specs.Growth.{entries, Grow-room, Grown}
@@ -37,9 +35,6 @@ use Rattle.progress.proofs.Growing.{entries-length}
 -- the choice's first literal is in the index's reach
 pub first-reached : {l : Clause} → Fit-all input-reach l → 1 ≤ length l → natAbs (getD l 0 (pos 0)) ≤ log-reach
 first-reached {l} f h = omega (arith, f (getD l 0 (pos 0)) (getD-mem l 0 (pos 0) (omega arith)) .1)
-
-pub counts-emptied : {counts : List ℕ} → length counts ≡ slots → At-most counts 0 → counts ≡ replicate slots 0
-counts-emptied {counts} e h = zeros-by-entry counts slots e (λ i. omega (arith, h i))
 
 -- ---- the store without the choice and its pairs
 module _ {work : List ℤ} {newest : List ℕ} {p : Progress} {l : Clause} {below : ℕ} (g : Choice-ready work newest p l below)

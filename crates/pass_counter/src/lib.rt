@@ -251,6 +251,6 @@ pub fn take_choice(
     let a = put_counter(work, newest, log, p, literals, below);
     let b = progress::record_line(log, a, true, literals);
     let r = pairs::record_pairs(log, b, counts, literals);
-    tables::clear(counts);
+    pairs::clear_counts(counts, literals);
     r
 }

@@ -66,6 +66,12 @@ pub fn read_file(i: usize, buf: &mut [u8]) -> usize
     length
 }
 
+// Prints a number after a blank.
+pub fn print_number(n: usize) {
+    io::write_all(STDOUT_FILENO, b" ");
+    io::print_decimal(STDOUT_FILENO, n as u64);
+}
+
 // Prints the number of a refusal on a line.
 pub fn print_refusal(n: u8) {
     io::write_all(STDOUT_FILENO, b"refused ");

@@ -8,12 +8,6 @@ use run::Arrangement;
 use run::Form;
 use run::Settings;
 
-// Prints a number after a blank.
-pub fn print_number(n: usize) {
-    io::write_all(STDOUT_FILENO, b" ");
-    io::print_decimal(STDOUT_FILENO, n as u64);
-}
-
 // Ends a line.
 pub fn print_end() {
     io::write_all(STDOUT_FILENO, b"\n");
@@ -31,12 +25,12 @@ fn counter(arrangement: Arrangement, step: u32) -> Settings {
 
 // Prints choices, H, M, lines and both lengths.
 fn print_tally(t: Tally) {
-    print_number(t.choices);
-    print_number(t.highest as usize);
-    print_number(t.clauses);
-    print_number(t.lines);
-    print_number(t.log_bytes);
-    print_number(t.formula_bytes);
+    prog_common::print_number(t.choices);
+    prog_common::print_number(t.highest as usize);
+    prog_common::print_number(t.clauses);
+    prog_common::print_number(t.lines);
+    prog_common::print_number(t.log_bytes);
+    prog_common::print_number(t.formula_bytes);
 }
 
 // Prints the result, or the number of the refusal.
@@ -82,7 +76,7 @@ fn print_size(size: u8) {
     let mut formula = [0u8; 8192];
     let n = texts::put_unique(&mut text, size);
     io::write_all(STDOUT_FILENO, b"size");
-    print_number(size as usize);
+    prog_common::print_number(size as usize);
     if n <= text.len() {
         let s = counter(Arrangement::AsListed, 1);
         match call_reencode::reencode_texts(&text[..n], s, &mut work, &mut log, &mut formula) {

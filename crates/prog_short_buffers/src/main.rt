@@ -54,6 +54,19 @@ fn order() -> Settings {
     }
 }
 
+// Prints the bytes of log and formula in order form, told beforehand.
+fn print_sizes(text: &[u8], work: &mut [i32]) {
+    match call_sizes::sizes(text, order(), work) {
+        Tallied::Done(t) => {
+            print_outcome(b"sizes", 0);
+            prog_common::print_number(t.log_bytes);
+            prog_common::print_number(t.formula_bytes);
+        }
+        Tallied::Refused(n) => print_outcome(b"sizes", n),
+    }
+    io::write_all(STDOUT_FILENO, b"\n");
+}
+
 // Reencodes a formula in order form, over filled buffers.
 fn print_reencoding(text: &[u8], work: &mut [i32], log: &mut [u8], formula: &mut [u8]) {
     fill(log);
@@ -120,6 +133,8 @@ fn main() {
     let mut short_work = [0i32; 8971];
     let mut short_log = [0u8; 370];
     let mut short_formula = [0u8; 76];
+    print_sizes(text, &mut short_work);
+    print_sizes(text, &mut work);
     print_reencoding(text, &mut short_work, &mut log, &mut formula);
     print_reencoding(text, &mut work, &mut short_log, &mut formula);
     print_reencoding(text, &mut work, &mut log, &mut short_formula);

@@ -15,7 +15,7 @@ use Rattle.definition.specs.Reencoding.{Settings}
 use Rattle.definition.specs.Calls.{read-input, Tally, Reencoded, reencoded, limited, run, fitted, reencode, sizes}
 use Rattle.theory_base.proofs.Outcomes.{refuse-value, bind-value}
 use Rattle.theory_run.proofs.Table.{table-length}
-use Rattle.theorems.specs.Sizes.{Of-run, Fills, Told, Sizing, Sizing-holds}
+use Rattle.theorems.specs.Sizes.{Of-run, Fills, Told, Sizing-holds}
 
 -- ---- the run over an input
 

@@ -30,7 +30,7 @@
 extern "C" {
 #endif
 
-/* A thread with a stack of this size has room for any call: reencoding takes about 1.43 MB,
+/* A thread with a stack of this size has room for any call: reencoding and sizes take about 1.43 MB,
  * walk-back and carrying forward 1.48 MB, reading back 0.85 MB. On a stack that is too small the
  * process ends by a segmentation fault. */
 #define SIRGHOLYN_STACK_BYTES ((size_t)4 << 20)

@@ -1,5 +1,5 @@
 -- The call case by case: what fits the buffers is what the definition's outcome has, and a refusal leaves zeros.
-use mathlib.Core.Path.{_≡_, refl, sym, ap, _∙_, subst}
+use mathlib.Core.Path.{_≡_, refl, sym, ap, _∙_}
 use mathlib.Core.Bool.{Bool, true, false, cond}
 use mathlib.Core.List.{List, _++_, append-nil}
 use Prim.Native.Nat.{ℕ, _+_, _≤_, _<_}
@@ -22,6 +22,7 @@ use Rattle.formula_run.specs.declared.Tallied as Code
 use Rattle.formula_run.specs.declared.Tallied.the-variants as Tallied
 use Rattle.formula_run.specs.Outcome.{run-outcome, tally-of, outcome-of}
 use Rattle.formula_run.specs.Result.{Written as Run-written, Answers as Run-answers}
+use Rattle.formula_run.proofs.Running.{refused, done}
 use Rattle.call_reencode.specs.Outcome.{outcome, shown-table}
 use Rattle.call_reencode.specs.Result.{answer-by, Written, Answers}
 
@@ -50,17 +51,6 @@ module _ (table-room log-room formula-room : ℕ) (t : Tally) (h : t .choices �
     all-fit k = rw (le-ltb table-room (t .choices) h, le-ltb log-room (t .«log_bytes») j, le-ltb formula-room (t .«formula_bytes») k) refl
 
 -- ---- after a run
-
--- a fault: nothing is asked of what is written
-refused : {o : Checked Reencoded} {room : ℕ} {log formula new-log new-formula : Bytes} {rows new-rows : List ℕ} (n : ℕ) → o ≡ fault n → Answers o room log formula rows (Tallied.Refused n) new-log new-formula new-rows
-refused n e = record { answer = rw e refl; written = λ r q. absurd (let z : _≡_ {A = ℕ} 0 1 = cc in omega arith) }
-
-done : {room : ℕ} {log formula new-log new-formula : Bytes} {rows new-rows : List ℕ} {a : Code.Tallied} (r : Reencoded) → a ≡ outcome-of (value r) →
-    Written r room log formula rows new-log new-formula new-rows → Answers (value r) room log formula rows a new-log new-formula new-rows
-done {room} {log} {formula} {new-log} {new-formula} {rows} {new-rows} r a w = record {
-  answer = a;
-  written = λ b q. let s : r ≡ b = cc in subst (λ (z : Reencoded). Written z room log formula rows new-log new-formula new-rows) s w;
-}
 
 module _ (room : ℕ) {log formula x y : Bytes} {rows z : List ℕ} where
   -- where there is room for all, all is written
@@ -96,7 +86,7 @@ module _ (room : ℕ) {log formula x y : Bytes} {rows z : List ℕ} where
       go false p true q u k v = rw v (refused 12 refl)
       go false p false q true k v = rw v (refused 13 refl)
       go false p false q false k v =
-          done r v
+          done r refl v
           (all-written w (ltb-false room (r .tally .choices) p) (omega (arith, log-size, ltb-false (length log) (r .tally .log-bytes) q)) (omega (arith, formula-size, ltb-false (length formula) (r .tally .formula-bytes) k)))
 
   by-fit : (o : Checked Reencoded) {b a : Code.Tallied} {t : Tally} → Run-answers o log formula rows b x y z → b ≡ Tallied.Done t →

@@ -6,14 +6,14 @@ use Prim.Native.Nat.{ℕ, _*_, _≤_}
 use lib.Dec.{ltb}
 use lib.ListN.{length, drop}
 use lib.Seq.{sets}
-use Rattle.definition.specs.Checked.{Checked, value}
+use Rattle.definition.specs.Checked.{Checked}
 use Rattle.definition.specs.Text.{Bytes}
 use Rattle.definition.specs.Calls.{Reencoded}
 use Rattle.records.specs.Rows.{rows-of}
 use Rattle.formula_run.specs.declared.Tally.{Tally}
 use Rattle.formula_run.specs.declared.Tallied as Code
 use Rattle.formula_run.specs.declared.Tallied.the-variants as Tallied
-use Rattle.formula_run.specs.Outcome.{outcome-of}
+use Rattle.formula_run.specs.Result.{Answers-as}
 
 -- the answer by the sizes of the table and the buffers and those of the result: 17, 12, 13
 abbrev pub answer-by : ℕ → ℕ → ℕ → Tally → Code.Tallied
@@ -33,6 +33,5 @@ pub record Written (r : Reencoded) (room : ℕ) (log formula : Bytes) (rows : Li
   pub records-fit : r .tally .choices ≤ room
 
 -- the answer is that of an outcome, and where it is a result, all is written
-pub record Answers (o : Checked Reencoded) (room : ℕ) (log formula : Bytes) (rows : List ℕ) (a : Code.Tallied) (new-log new-formula : Bytes) (new-rows : List ℕ) : Type 0 where
-  pub answer : a ≡ outcome-of o
-  pub written : (r : Reencoded) → o ≡ value r → Written r room log formula rows new-log new-formula new-rows
+abbrev pub Answers : Checked Reencoded → ℕ → Bytes → Bytes → List ℕ → Code.Tallied → Bytes → Bytes → List ℕ → Type 0
+Answers o room log formula rows a new-log new-formula new-rows = Answers-as (λ r. Written r room log formula rows new-log new-formula new-rows) o a

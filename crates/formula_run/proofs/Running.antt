@@ -41,20 +41,16 @@ use Rattle.formula_run.specs.declared.Tally as Code-tally
 use Rattle.formula_run.specs.declared.Tallied as Code
 use Rattle.formula_run.specs.declared.Tallied.the-variants as Tallied
 use Rattle.formula_run.specs.Outcome.{run-outcome, outcome-of}
-use Rattle.formula_run.specs.Result.{Left, tally-by, Finishes, Stepped, Written, Answers}
+use Rattle.formula_run.specs.Result.{Left, tally-by, Finishes, Stepped, Written, Answers-as, Answers}
 
 -- ---- an outcome
 
 -- a fault: nothing is asked of what is written
-refused : {o : Checked Reencoded} {log formula new-log new-formula : Bytes} {rows new-rows : List ℕ} (n : ℕ) → o ≡ fault n → Answers o log formula rows (Tallied.Refused n) new-log new-formula new-rows
+pub refused : {Asked : Reencoded → Type 0} {o : Checked Reencoded} (n : ℕ) → o ≡ fault n → Answers-as Asked o (Tallied.Refused n)
 refused n e = record { answer = rw e refl; written = λ r q. absurd (let z : _≡_ {A = ℕ} 0 1 = cc in omega arith) }
 
-done : {o : Checked Reencoded} {log formula new-log new-formula : Bytes} {rows new-rows : List ℕ} {a : Code.Tallied} (r : Reencoded) → o ≡ value r → a ≡ outcome-of (value r) →
-    Written r log formula rows new-log new-formula new-rows → Answers o log formula rows a new-log new-formula new-rows
-done {o} {log} {formula} {new-log} {new-formula} {rows} {new-rows} r e a w = record {
-  answer = rw e a;
-  written = λ b q. let s : r ≡ b = cc in subst (λ (z : Reencoded). Written z log formula rows new-log new-formula new-rows) s w;
-}
+pub done : {Asked : Reencoded → Type 0} {o : Checked Reencoded} {a : Code.Tallied} (r : Reencoded) → o ≡ value r → a ≡ outcome-of (value r) → Asked r → Answers-as Asked o a
+done {Asked} r e a w = record { answer = rw e a; written = λ b q. let s : r ≡ b = cc in subst Asked s w }
 
 -- ---- a store that a run has left
 

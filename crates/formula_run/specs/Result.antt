@@ -54,7 +54,11 @@ pub record Written (r : Reencoded) (log formula : Bytes) (rows : List ℕ) (new-
   pub records-counted : length (r .table) ≡ r .tally .choices
   pub rows-fit : 3 * length (r .table) ≤ length rows
 
--- the answer is that of an outcome, and where it is a result, all is written
-pub record Answers (o : Checked Reencoded) (log formula : Bytes) (rows : List ℕ) (a : Code.Tallied) (new-log new-formula : Bytes) (new-rows : List ℕ) : Type 0 where
+-- the answer is that of an outcome, and a result is as it is asked to be
+pub record Answers-as (Asked : Reencoded → Type 0) (o : Checked Reencoded) (a : Code.Tallied) : Type 0 where
   pub answer : a ≡ outcome-of o
-  pub written : (r : Reencoded) → o ≡ value r → Written r log formula rows new-log new-formula new-rows
+  pub written : (r : Reencoded) → o ≡ value r → Asked r
+
+-- where it is a result, all is written
+abbrev pub Answers : Checked Reencoded → Bytes → Bytes → List ℕ → Code.Tallied → Bytes → Bytes → List ℕ → Type 0
+Answers o log formula rows a new-log new-formula new-rows = Answers-as (λ r. Written r log formula rows new-log new-formula new-rows) o a

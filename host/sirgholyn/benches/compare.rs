@@ -220,13 +220,8 @@ fn clashes() -> Vec<Input> {
 }
 
 fn compare(inputs: &[Input]) {
-    let mut rows = Vec::new();
-    in_folder(|folder| {
-        for form in ["counter", "order"] {
-            for input in inputs {
-                rows.push(measure_row(folder, input, form, true));
-            }
-        }
+    let rows = in_both_forms(inputs, |folder, input, form| {
+        measure_row(folder, input, form, true)
     });
     print_instructions(&rows);
     println!();
@@ -250,6 +245,20 @@ fn compare_long() {
 fn wide() -> Input {
     let text = formulas::wide_over_choices(5, 1_600, 52_000);
     input("long", "1,600 choices of 5 under wide clauses".into(), text)
+}
+
+/// A row for each formula in each form.
+fn in_both_forms<Row>(
+    inputs: &[Input],
+    row: impl Fn(&Path, &Input, &'static str) -> Row,
+) -> Vec<Row> {
+    let mut rows = Vec::new();
+    in_folder(|folder| {
+        for form in ["counter", "order"] {
+            rows.extend(inputs.iter().map(|input| row(folder, input, form)));
+        }
+    });
+    rows
 }
 
 fn in_folder(work: impl FnOnce(&Path)) {
@@ -360,15 +369,7 @@ struct CarryingRow {
 
 /// A solver's answer carried back over the whole log, and the plan that it gives forward.
 fn compare_carrying(inputs: &[Input]) {
-    let mut rows = Vec::new();
-    in_folder(|folder| {
-        for form in ["counter", "order"] {
-            for input in inputs {
-                rows.push(measure_carrying(folder, input, form));
-            }
-        }
-    });
-    print_carrying(&rows);
+    print_carrying(&in_both_forms(inputs, measure_carrying));
 }
 
 fn measure_carrying(folder: &Path, input: &Input, form: &'static str) -> CarryingRow {
@@ -431,15 +432,7 @@ struct SizesRow {
 
 /// The sizes told, and the reencoding on buffers of these sizes: each reads the file and lends the same workspace.
 fn compare_sizes(inputs: &[Input]) {
-    let mut rows = Vec::new();
-    in_folder(|folder| {
-        for form in ["counter", "order"] {
-            for input in inputs {
-                rows.push(measure_sizes(folder, input, form));
-            }
-        }
-    });
-    print_sizes(&rows);
+    print_sizes(&in_both_forms(inputs, measure_sizes));
 }
 
 fn measure_sizes(folder: &Path, input: &Input, form: &'static str) -> SizesRow {

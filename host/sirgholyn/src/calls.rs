@@ -237,6 +237,14 @@ fn outcome<R>(number: u32, result: R) -> Result<R, u32> {
     }
 }
 
+/// The tally that a call writes, or the number of its refusal.
+fn tallied(call: impl FnOnce(&mut [u64; 6]) -> u32 + Send) -> Result<Tally, u32> {
+    let mut counts = [0; 6];
+    let lent = &mut counts;
+    let number = on_own_stack(move || call(lent));
+    outcome(number, Tally::read(counts))
+}
+
 /// Writes the log and the new formula of a text, and a record for each choice in the order in which they are taken.
 /// Refuses with 15, 1 to 4, 7 to 9, 11, 16, 17, 12, 13.
 pub fn reencode(
@@ -248,10 +256,8 @@ pub fn reencode(
     table: &mut [ChoiceRecord],
 ) -> Result<Tally, u32> {
     let [form, arrangement, step] = settings.numbers();
-    let mut tally = [0u64; 6];
-    let lent = &mut tally;
     // SAFETY: each pointer and length are those of one slice, lent to the call alone while it runs.
-    let number = on_own_stack(move || unsafe {
+    tallied(|tally| unsafe {
         library::sirgholyn_reencode(
             text.as_ptr(),
             text.len(),
@@ -266,11 +272,10 @@ pub fn reencode(
             formula.len(),
             table.as_mut_ptr(),
             table.len(),
-            lent.as_mut_ptr(),
-            lent.len(),
+            tally.as_mut_ptr(),
+            tally.len(),
         )
-    });
-    outcome(number, Tally::read(tally))
+    })
 }
 
 /// Tells what `reencode` would, and writes no text: on as much workspace, a log and a new formula of just so many bytes
@@ -278,10 +283,8 @@ pub fn reencode(
 /// 7 to 9, 11, 16.
 pub fn sizes(text: &[u8], settings: Settings, work: &mut [i32]) -> Result<Tally, u32> {
     let [form, arrangement, step] = settings.numbers();
-    let mut tally = [0u64; 6];
-    let lent = &mut tally;
     // SAFETY: as in `reencode`.
-    let number = on_own_stack(move || unsafe {
+    tallied(|tally| unsafe {
         library::sirgholyn_sizes(
             text.as_ptr(),
             text.len(),
@@ -290,11 +293,10 @@ pub fn sizes(text: &[u8], settings: Settings, work: &mut [i32]) -> Result<Tally,
             step,
             work.as_mut_ptr(),
             work.len(),
-            lent.as_mut_ptr(),
-            lent.len(),
+            tally.as_mut_ptr(),
+            tally.len(),
         )
-    });
-    outcome(number, Tally::read(tally))
+    })
 }
 
 /// Writes the walked-back line, and gives its length. Refuses with 1 to 4, 7 to 9, 31 or 34, 41 to 43,

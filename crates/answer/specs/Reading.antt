@@ -1,6 +1,6 @@
 -- How far an answer is read, beside the definition's outcome so far; the literals named stand in the table.
 use Rattle.std.specs.Prelude.{◌≡◌, refl, true, false, not, cond, ◌||◌, [], ◌∷◌, ◌++◌, ℕ, eqb, ltb, ℤ, pos, negsuc, neg_ℤ, nat_abs}
-use Rattle.definition.specs.Checked.{Checked, fault, value, ◌>>=◌, refuse-if}
+use Rattle.definition.specs.Checked.{Checked, fault, value, ◌>>=◌, refuse_if}
 use Rattle.definition.specs.Text.{Bytes}
 use Rattle.definition.specs.Lists as Lists
 use Rattle.definition.specs.Literals.{Clause, holds}
@@ -13,8 +13,8 @@ use Rattle.answer.specs.declared.AnswerRead.TheVariants as AnswerRead
 use Rattle.answer.specs.Table.{Table}
 
 -- before the `s` line, after it, after the closing `0`
-abbrev pub waiting-at : Answer
-waiting-at = record { begun = false; closed = false; named = [] }
+abbrev pub waiting_at : Answer
+waiting_at = record { begun = false; closed = false; named = [] }
 
 abbrev pub open_at : Clause → Answer
 open_at c = record { begun = true; closed = false; named = c }
@@ -23,16 +23,16 @@ abbrev pub closed_at : Clause → Answer
 closed_at c = record { begun = true; closed = true; named = c }
 
 -- a number of a `v ` line before the closing `0`, with the literals of c named
-unfoldable pub read-literal : ℕ → Clause → ℤ → Checked Answer
-read-literal x c l =
+unfoldable pub read_literal : ℕ → Clause → ℤ → Checked Answer
+read_literal x c l =
     cond (eqb 0 (nat_abs l)) (value (closed_at c))
-    (refuse-if (ltb x (nat_abs l)) 42
-    (refuse-if (holds l c || holds (neg_ℤ l) c) 43
+    (refuse_if (ltb x (nat_abs l)) 42
+    (refuse_if (holds l c || holds (neg_ℤ l) c) 43
     (value (open_at (c ++ (l ∷ []))))))
 
 -- the definition's outcome so far, by the progress and the table
 abbrev pub Reached : Progress → Bytes → Checked Answer → Type 0
-Reached Progress.Waiting marks a = (a ≡ value waiting-at) × Table [] marks
+Reached Progress.Waiting marks a = (a ≡ value waiting_at) × Table [] marks
 Reached Progress.Open marks a = (c : Clause) × (a ≡ value (open_at c)) × Table c marks
 Reached Progress.Closed marks a = (c : Clause) × (a ≡ value (closed_at c)) × Table c marks
 Reached (Progress.Fault n) marks a = a ≡ fault n
@@ -42,21 +42,21 @@ abbrev pub Steps : (Answer → Checked Answer) → Progress → Bytes → Progre
 Steps step p marks q after = (a : Checked Answer) → Reached p marks a → Reached q after (a >>= step)
 
 -- the same for a step from an answer that is open, whatever is named
-abbrev pub Steps-open : (Clause → Checked Answer) → Bytes → Progress → Bytes → Type 0
-Steps-open step marks q after = (c : Clause) → Table c marks → Reached q after (step c)
+abbrev pub StepsOpen : (Clause → Checked Answer) → Bytes → Progress → Bytes → Type 0
+StepsOpen step marks q after = (c : Clause) → Table c marks → Reached q after (step c)
 
 -- the outcome of the whole: a fault, or the literals that the table names
-abbrev pub Read-as : Checked Clause → AnswerRead → Bytes → Type 0
-Read-as o AnswerRead.Answer marks = (c : Clause) × (o ≡ value c) × Table c marks
-Read-as o (AnswerRead.Fault n) marks = o ≡ fault n
+abbrev pub ReadAs : Checked Clause → AnswerRead → Bytes → Type 0
+ReadAs o AnswerRead.Answer marks = (c : Clause) × (o ≡ value c) × Table c marks
+ReadAs o (AnswerRead.Fault n) marks = o ≡ fault n
 
 -- the definition's test at the text's end
 unfoldable pub closing : Answer → Checked Clause
-closing a = refuse-if (not a.closed) 41 (value a.named)
+closing a = refuse_if (not a.closed) 41 (value a.named)
 
 abbrev pub Ends : Progress → AnswerRead → Type 0
-Ends p r = (marks : Bytes) (a : Checked Answer) → Reached p marks a → Read-as (a >>= closing) r marks
+Ends p r = (marks : Bytes) (a : Checked Answer) → Reached p marks a → ReadAs (a >>= closing) r marks
 
-examples : (read-literal 2 (pos 1 ∷ []) (negsuc 0) ≡ fault 43) × (read-literal 2 (pos 3 ∷ []) (pos 3) ≡ fault 42) × (read-literal 2 [] (pos 0) ≡ value (closed_at []))
-unfolding read-literal refuse-if Literals.computing Lists.computing
+examples : (read_literal 2 (pos 1 ∷ []) (negsuc 0) ≡ fault 43) × (read_literal 2 (pos 3 ∷ []) (pos 3) ≡ fault 42) × (read_literal 2 [] (pos 0) ≡ value (closed_at []))
+unfolding read_literal refuse_if Literals.computing Lists.computing
 examples = (refl, refl, refl)

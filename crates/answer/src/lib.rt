@@ -1,15 +1,15 @@
 // A solver's answer read into a table, and an assignment written as a line.
 ghost use Rattle.std.specs.Prelude.{◌≡◌, ◌+◌, ◌-◌, ◌≤◌, ◌<◌, ◌^◌, length, get_or, drop};
 ghost use Rattle.definition.specs.Checked.{through};
-ghost use Rattle.definition.specs.Text.{bytes, same_bytes, words-by};
-ghost use Rattle.definition.specs.Assignments.{true-in, has-true};
-ghost use Rattle.definition.specs.Answer.{begins-with, space-or-tab, read-answer-word, read-answer-line, read_answer};
-ghost use Rattle.definition.specs.Calls.{answer-text};
+ghost use Rattle.definition.specs.Text.{bytes, same_bytes, words_by};
+ghost use Rattle.definition.specs.Assignments.{true_in, has_true};
+ghost use Rattle.definition.specs.Answer.{begins_with, space_or_tab, read_answer_word, read_answer_line, read_answer};
+ghost use Rattle.definition.specs.Calls.{answer_text};
 ghost use Rattle.text.specs.Output.{Put};
-ghost use Rattle.tables.specs.Sizes.{log-reach};
+ghost use Rattle.tables.specs.Sizes.{log_reach};
 ghost use Rattle.answer.specs.Table.{entry_of, marked, naming};
-ghost use Rattle.answer.specs.Output.{value-text, values-text};
-ghost use Rattle.answer.specs.Reading.{open_at, read-literal, Steps, Steps-open, Read-as, Ends};
+ghost use Rattle.answer.specs.Output.{value_text, values_text};
+ghost use Rattle.answer.specs.Reading.{open_at, read_literal, Steps, StepsOpen, ReadAs, Ends};
 
 // How many entries a table of values has: one for each variable of a log, and one for 0.
 pub const VALUES: usize = 70001;
@@ -18,14 +18,14 @@ pub const VALUES: usize = 70001;
 
 // Whether a line begins with `c`.
 fn is_comment(line: &[u8]) -> bool
-    ensures { result ≡ begins-with (bytes "c") line.now }
+    ensures { result ≡ begins_with (bytes "c") line.now }
 {
     text::begins(line, b"c")
 }
 
 // Whether a line begins with `v` and a blank.
 fn is_values(line: &[u8]) -> bool
-    ensures { result ≡ begins-with (bytes "v ") line.now }
+    ensures { result ≡ begins_with (bytes "v ") line.now }
 {
     text::begins(line, b"v ")
 }
@@ -73,7 +73,7 @@ pub fn make_true(marks: &mut [u8], l: i32)
 
 // Whether a literal is true.
 fn true_literal(marks: &[u8], l: i32) -> bool
-    ensures { result ≡ true-in (marked marks.now) l }
+    ensures { result ≡ true_in (marked marks.now) l }
 {
     let named_true = entry_at(marks, literals::variable(l)) == 1;
     if literals::is_negative(l) {
@@ -84,7 +84,7 @@ fn true_literal(marks: &[u8], l: i32) -> bool
 
 // Whether a clause has a true literal.
 pub fn has_true(marks: &[u8], clause: &[i32]) -> bool
-    ensures { result ≡ has-true (marked marks.now) clause.now }
+    ensures { result ≡ has_true (marked marks.now) clause.now }
 {
     let mut i = 0;
     while i < clause.len() {
@@ -117,7 +117,7 @@ pub enum AnswerRead {
 // Reads a number of a `v ` line before the closing 0.
 fn read_literal(l: i32, x: u32, marks: &mut [u8]) -> Progress
     requires { x < length marks.old }
-    ensures { Steps-open (λ c. read-literal x c l) marks.old result marks.new }
+    ensures { StepsOpen (λ c. read_literal x c l) marks.old result marks.new }
 {
     let v = literals::variable(l);
     let named = entry_at(marks, v);
@@ -136,8 +136,8 @@ fn read_literal(l: i32, x: u32, marks: &mut [u8]) -> Progress
 
 // Reads a word of a `v ` line before the closing 0.
 fn read_open_word(word: &[u8], x: u32, marks: &mut [u8]) -> Progress
-    requires { (x ≤ log-reach) × (x < length marks.old) }
-    ensures { Steps-open (λ c. read-answer-word x (open_at c) word.now) marks.old result marks.new }
+    requires { (x ≤ log_reach) × (x < length marks.old) }
+    ensures { StepsOpen (λ c. read_answer_word x (open_at c) word.now) marks.old result marks.new }
 {
     match text::read_number(word) {
         text::Number::Value(l) => read_literal(l, x, marks),
@@ -148,8 +148,8 @@ fn read_open_word(word: &[u8], x: u32, marks: &mut [u8]) -> Progress
 
 // Reads a word of a `v ` line.
 fn read_word(state: Progress, word: &[u8], x: u32, marks: &mut [u8]) -> Progress
-    requires { (x ≤ log-reach) × (x < length marks.old) }
-    ensures { Steps (λ a. read-answer-word x a word.now) state marks.old result marks.new }
+    requires { (x ≤ log_reach) × (x < length marks.old) }
+    ensures { Steps (λ a. read_answer_word x a word.now) state marks.old result marks.new }
 {
     match state {
         Progress::Waiting => read_open_word(word, x, marks),
@@ -161,8 +161,8 @@ fn read_word(state: Progress, word: &[u8], x: u32, marks: &mut [u8]) -> Progress
 
 // Reads a `v ` line after the `s` line and before the closing 0, word by word.
 fn read_values(line: &[u8], x: u32, marks: &mut [u8]) -> Progress
-    requires { (x ≤ log-reach) × (x < length marks.old) }
-    ensures { Steps-open (λ c. through (read-answer-word x) (open_at c) (words-by space-or-tab (drop 2 line.now))) marks.old result marks.new }
+    requires { (x ≤ log_reach) × (x < length marks.old) }
+    ensures { StepsOpen (λ c. through (read_answer_word x) (open_at c) (words_by space_or_tab (drop 2 line.now))) marks.old result marks.new }
 {
     let mut state = Progress::Open;
     let mut at: usize = 2;
@@ -181,8 +181,8 @@ fn read_values(line: &[u8], x: u32, marks: &mut [u8]) -> Progress
 
 // Reads a line of an answer; after a fault nothing is read.
 fn read_line(state: Progress, line: &[u8], x: u32, marks: &mut [u8]) -> Progress
-    requires { (x ≤ log-reach) × (x < length marks.old) }
-    ensures { Steps (λ a. read-answer-line x a line.now) state marks.old result marks.new }
+    requires { (x ≤ log_reach) × (x < length marks.old) }
+    ensures { Steps (λ a. read_answer_line x a line.now) state marks.old result marks.new }
 {
     if is_comment(line) {
         return state;
@@ -219,8 +219,8 @@ fn outcome(state: Progress) -> AnswerRead
 
 // Reads an answer with variables up to x into a table.
 pub fn read_answer(text: &[u8], x: u32, marks: &mut [u8]) -> AnswerRead
-    requires { (x ≤ log-reach) × (x < length marks.old) }
-    ensures { Read-as (read_answer x text.now) result marks.new }
+    requires { (x ≤ log_reach) × (x < length marks.old) }
+    ensures { ReadAs (read_answer x text.now) result marks.new }
 {
     text::zero_all(marks);
     let mut state = Progress::Waiting;
@@ -243,7 +243,7 @@ pub fn read_answer(text: &[u8], x: u32, marks: &mut [u8]) -> AnswerRead
 // Writes a blank and the true literal of a variable.
 fn put_value(buf: &mut [u8], at: usize, i: u32, marks: &[u8]) -> usize
     requires { (at + 12 < 2 ^ 64) × (i < 2 ^ 31) }
-    ensures { Put buf.old at (value-text (marked marks.now) i) result buf.new }
+    ensures { Put buf.old at (value_text (marked marks.now) i) result buf.new }
 {
     let is_true = entry_at(marks, i) == 1;
     let l = literals::signed(!is_true, i);
@@ -254,7 +254,7 @@ fn put_value(buf: &mut [u8], at: usize, i: u32, marks: &[u8]) -> usize
 // Writes the true literals of the variables 1 to v, a blank before each.
 fn put_values(buf: &mut [u8], at: usize, v: u32, marks: &[u8]) -> usize
     requires { (at < 2 ^ 32) × (v < 2 ^ 31) }
-    ensures { Put buf.old at (values-text (marked marks.now) v) result buf.new }
+    ensures { Put buf.old at (values_text (marked marks.now) v) result buf.new }
 {
     let mut a = at;
     let mut i: u32 = 0;
@@ -268,7 +268,7 @@ fn put_values(buf: &mut [u8], at: usize, v: u32, marks: &[u8]) -> usize
 // Writes the line of an assignment for the variables 1 to v.
 pub fn write_answer(buf: &mut [u8], v: u32, marks: &[u8]) -> usize
     requires { v < 2 ^ 31 }
-    ensures { Put buf.old 0 (answer-text v (marked marks.now)) result buf.new }
+    ensures { Put buf.old 0 (answer_text v (marked marks.now)) result buf.new }
 {
     let a = text::put_byte(buf, 0, 118);
     let b = put_values(buf, a, v, marks);

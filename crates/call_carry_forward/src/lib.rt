@@ -1,12 +1,12 @@
 // Carrying forward: a plan for a formula is tested, carried over the kept lines of the formula's log, tested against what stands there and written.
 ghost use Rattle.std.specs.Prelude.{◌≡◌, length, take};
-ghost use Rattle.definition.specs.Calls.{buffer-after};
+ghost use Rattle.definition.specs.Calls.{buffer_after};
 ghost use Rattle.theory_base.specs.Slices.{between};
 ghost use Rattle.store.specs.Store.{stored};
-ghost use Rattle.drat.specs.Loaded.{lines-in};
+ghost use Rattle.drat.specs.Loaded.{lines_in};
 ghost use Rattle.answer.specs.Table.{marked};
 ghost use Rattle.carry.specs.Carried.{carried_of, Carries, Carryable};
-ghost use Rattle.call_carry_forward.specs.Outcome.{outcome, plan-text};
+ghost use Rattle.call_carry_forward.specs.Outcome.{outcome, plan_text};
 
 use carry::Carried;
 use log_texts::Texts;
@@ -21,7 +21,7 @@ fn carry_tested(
     marks: &mut [u8],
 ) -> Carried
     requires { Carryable work.old n m x marks.old }
-    ensures { Carries (plan-text (length out.old) x (stored (take n work.old)) (lines-in (between n m work.old)) (marked marks.old)) out.old result out.new }
+    ensures { Carries (plan_text (length out.old) x (stored (take n work.old)) (lines_in (between n m work.old)) (marked marks.old)) out.old result out.new }
 {
     if carry::satisfied_before(marks, work, n) {
         return carry::replay_and_carry(out, x, work, n, m, marks, true);
@@ -58,7 +58,7 @@ pub fn carry_forward(
     out: &mut [u8],
 ) -> Carried
     ensures outcome { result ≡ carried_of (outcome work.old out.old kept formula.now log.now plan.now) }
-    ensures buffer { out.new ≡ buffer-after 0 (outcome work.old out.old kept formula.now log.now plan.now) (λ t. t) out.old }
+    ensures buffer { out.new ≡ buffer_after 0 (outcome work.old out.old kept formula.now log.now plan.now) (λ t. t) out.old }
 {
     let r = carry_texts(formula, log, kept, plan, work, out);
     carry::settle(out, r)

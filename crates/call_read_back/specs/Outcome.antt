@@ -1,11 +1,11 @@
 -- What the call answers: the number of a refusal, or V, the clauses and the literals.
 use Rattle.std.specs.Prelude.{◌≡◌, List, ◌++◌, ℤ, length, drop}
 use Rattle.definition.specs.Checked.{Checked, fault, value}
-use Rattle.definition.specs.Literals.{literals-of}
+use Rattle.definition.specs.Literals.{literals_of}
 use Rattle.definition.specs.Text.{Bytes}
 use Rattle.definition.specs.Reading.{Input}
 use Rattle.definition.specs.Calls.{read_back}
-use Rattle.dimacs.specs.Entries.{entries-of}
+use Rattle.dimacs.specs.Entries.{entries_of}
 use Rattle.call_read_back.specs.declared.ReadBack.{ReadBack}
 use Rattle.call_read_back.specs.declared.ReadBack.TheVariants as ReadBack
 
@@ -13,11 +13,11 @@ use Rattle.call_read_back.specs.declared.ReadBack.TheVariants as ReadBack
 abbrev pub outcome : List ℤ → Bytes → Checked Input
 outcome store t = read_back (length store) t
 
-abbrev pub read-back-of : Checked Input → ReadBack
-read-back-of (fault n) = ReadBack.Refused n
-read-back-of (value i) = ReadBack.Read i.variables (length i.formula) (literals-of i.formula)
+abbrev pub read_back_of : Checked Input → ReadBack
+read_back_of (fault n) = ReadBack.Refused n
+read_back_of (value i) = ReadBack.Read i.variables (length i.formula) (literals_of i.formula)
 
 -- a refusal, or the formula, whose clauses fill the store from its start
 abbrev pub Reads : Checked Input → List ℤ → ReadBack → List ℤ → Type 0
 Reads o old (ReadBack.Refused n) new = o ≡ fault n
-Reads o old (ReadBack.Read v c l) new = (i : Input) × (o ≡ value i) × (ReadBack.Read v c l ≡ read-back-of (value i)) × (new ≡ entries-of i ++ drop (length (entries-of i)) old)
+Reads o old (ReadBack.Read v c l) new = (i : Input) × (o ≡ value i) × (ReadBack.Read v c l ≡ read_back_of (value i)) × (new ≡ entries_of i ++ drop (length (entries_of i)) old)

@@ -1,8 +1,8 @@
 // The published call read_back: the new formula read back into a store.
 ghost use Rattle.std.specs.Prelude.{◌≡◌, pos, length, replicate};
-ghost use Rattle.definition.specs.Calls.{buffer-after};
-ghost use Rattle.dimacs.specs.Entries.{entries-of};
-ghost use Rattle.call_read_back.specs.Outcome.{outcome, read-back-of, Reads};
+ghost use Rattle.definition.specs.Calls.{buffer_after};
+ghost use Rattle.dimacs.specs.Entries.{entries_of};
+ghost use Rattle.call_read_back.specs.Outcome.{outcome, read_back_of, Reads};
 
 use dimacs::FormulaRead;
 
@@ -43,8 +43,8 @@ fn zero_elements(store: &mut [i32])
 // Reads the new formula back into a store, each clause its length and its literals, or makes the store zero and answers the
 // number of the refusal.
 pub fn read_back(text: &[u8], store: &mut [i32]) -> ReadBack
-    ensures outcome { result ≡ read-back-of (outcome store.old text.now) }
-    ensures buffer { store.new ≡ buffer-after (pos 0) (outcome store.old text.now) entries-of store.old }
+    ensures outcome { result ≡ read_back_of (outcome store.old text.now) }
+    ensures buffer { store.new ≡ buffer_after (pos 0) (outcome store.old text.now) entries_of store.old }
 {
     match read_into(text, store) {
         ReadBack::Read(v, c, l) => ReadBack::Read(v, c, l),

@@ -8,25 +8,25 @@ use Rattle.records.specs.Rows.{rows_of}
 use Rattle.formula_run.specs.declared.Tally.{Tally}
 use Rattle.formula_run.specs.declared.Tallied as Code
 use Rattle.formula_run.specs.declared.Tallied.TheVariants as Tallied
-use Rattle.formula_run.specs.Result.{Answers-as}
+use Rattle.formula_run.specs.Result.{AnswersAs}
 
 -- the answer by the sizes of the table and the buffers and those of the result: 17, 12, 13
-abbrev pub answer-by : ℕ → ℕ → ℕ → Tally → Code.Tallied
-answer-by table-room log-room formula-room t =
-    cond (ltb table-room t.choices) (Tallied.Refused 17)
-    (cond (ltb log-room t.log_bytes) (Tallied.Refused 12)
-    (cond (ltb formula-room t.formula_bytes) (Tallied.Refused 13)
+abbrev pub answer_by : ℕ → ℕ → ℕ → Tally → Code.Tallied
+answer_by table_room log_room formula_room t =
+    cond (ltb table_room t.choices) (Tallied.Refused 17)
+    (cond (ltb log_room t.log_bytes) (Tallied.Refused 12)
+    (cond (ltb formula_room t.formula_bytes) (Tallied.Refused 13)
     (Tallied.Done t)))
 
 -- both texts and the rows of the table are written; there is a record for each choice, and the table has room for them
-pub record Written (r : Reencoded) (room : ℕ) (log formula : Bytes) (rows : List ℕ) (new-log new-formula : Bytes) (new-rows : List ℕ) : Type 0 where
-  pub log-written : new-log ≡ r.log ++ drop (length r.log) log
-  pub formula-written : new-formula ≡ r.formula ++ drop (length r.formula) formula
-  pub rows_written : new-rows ≡ sets rows 0 (rows_of r.table)
-  pub records-counted : length r.table ≡ r.tally.choices
+pub record Written (r : Reencoded) (room : ℕ) (log formula : Bytes) (rows : List ℕ) (new_log new_formula : Bytes) (new_rows : List ℕ) : Type 0 where
+  pub log_written : new_log ≡ r.log ++ drop (length r.log) log
+  pub formula_written : new_formula ≡ r.formula ++ drop (length r.formula) formula
+  pub rows_written : new_rows ≡ sets rows 0 (rows_of r.table)
+  pub records_counted : length r.table ≡ r.tally.choices
   pub rows_fit : 3 * length r.table ≤ length rows
-  pub records-fit : r.tally.choices ≤ room
+  pub records_fit : r.tally.choices ≤ room
 
 -- the answer is that of an outcome, and where it is a result, all is written
 abbrev pub Answers : Checked Reencoded → ℕ → Bytes → Bytes → List ℕ → Code.Tallied → Bytes → Bytes → List ℕ → Type 0
-Answers o room log formula rows a new-log new-formula new-rows = Answers-as (λ r. Written r room log formula rows new-log new-formula new-rows) o a
+Answers o room log formula rows a new_log new_formula new_rows = AnswersAs (λ r. Written r room log formula rows new_log new_formula new_rows) o a

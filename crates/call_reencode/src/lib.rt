@@ -1,12 +1,12 @@
 // Reencoding: the published call.
 ghost use Rattle.std.specs.Prelude.{◌≡◌, List, ◌++◌, ◌≤◌, length, drop};
-ghost use Rattle.definition.specs.Calls.{buffer-after};
+ghost use Rattle.definition.specs.Calls.{buffer_after};
 ghost use Rattle.records.specs.declared.ChoiceRecord.{ChoiceRecord};
-ghost use Rattle.records.specs.Rows.{no_record, records-in};
-ghost use Rattle.run.specs.Run.{row-numbers};
-ghost use Rattle.formula_run.specs.Outcome.{outcome-of};
-ghost use Rattle.call_reencode.specs.Outcome.{most-choices, shown-table, outcome as outcome-defined};
-ghost use Rattle.call_reencode.specs.Result.{answer-by, Answers};
+ghost use Rattle.records.specs.Rows.{no_record, records_in};
+ghost use Rattle.run.specs.Run.{row_numbers};
+ghost use Rattle.formula_run.specs.Outcome.{outcome_of};
+ghost use Rattle.call_reencode.specs.Outcome.{most_choices, shown_table, outcome as outcome_defined};
+ghost use Rattle.call_reencode.specs.Result.{answer_by, Answers};
 
 use formula_run::{Tallied, Tally};
 use records::ChoiceRecord;
@@ -16,7 +16,7 @@ use run::Settings;
 
 // Tests the table and both buffers, by their sizes.
 fn fit(t: Tally, table_room: usize, log_room: usize, formula_room: usize) -> Tallied
-    ensures { result ≡ answer-by table_room log_room formula_room t }
+    ensures { result ≡ answer_by table_room log_room formula_room t }
 {
     if table_room < t.choices {
         return Tallied::Refused(17);
@@ -40,8 +40,8 @@ fn reencode_into(
     rows: &mut [u32],
     room: usize,
 ) -> Tallied
-    requires { length rows.old ≡ row-numbers }
-    ensures { Answers (outcome-defined settings text.now work.old log.old formula.old room) room log.old formula.old rows.old result log.new formula.new rows.new }
+    requires { length rows.old ≡ row_numbers }
+    ensures { Answers (outcome_defined settings text.now work.old log.old formula.old room) room log.old formula.old rows.old result log.new formula.new rows.new }
 {
     match formula_run::run_formula(text, settings, work, log, formula, rows) {
         Tallied::Done(t) => fit(t, room, log.len(), formula.len()),
@@ -68,12 +68,12 @@ fn reencode_rows(
     rows: &mut [u32],
     room: usize,
 ) -> Made
-    requires { length rows.old ≡ row-numbers }
-    ensures outcome { result.answer ≡ outcome-of (outcome-defined settings text.now work.old log.old formula.old room) }
-    ensures log_after { log.new ≡ buffer-after 0 (outcome-defined settings text.now work.old log.old formula.old room) (λ o. o.log) log.old }
-    ensures formula_after { formula.new ≡ buffer-after 0 (outcome-defined settings text.now work.old log.old formula.old room) (λ o. o.formula) formula.old }
+    requires { length rows.old ≡ row_numbers }
+    ensures outcome { result.answer ≡ outcome_of (outcome_defined settings text.now work.old log.old formula.old room) }
+    ensures log_after { log.new ≡ buffer_after 0 (outcome_defined settings text.now work.old log.old formula.old room) (λ o. o.log) log.old }
+    ensures formula_after { formula.new ≡ buffer_after 0 (outcome_defined settings text.now work.old log.old formula.old room) (λ o. o.formula) formula.old }
     ensures fits { result.records ≤ room }
-    ensures table_after { (t : List ChoiceRecord) → length t ≡ room → records-in rows.new 0 result.records ++ drop result.records t ≡ buffer-after no_record (outcome-defined settings text.now work.old log.old formula.old room) shown-table t }
+    ensures table_after { (t : List ChoiceRecord) → length t ≡ room → records_in rows.new 0 result.records ++ drop result.records t ≡ buffer_after no_record (outcome_defined settings text.now work.old log.old formula.old room) shown_table t }
 {
     match reencode_into(text, settings, work, log, formula, rows, room) {
         Tallied::Done(t) => Made {
@@ -102,9 +102,9 @@ pub fn reencode_texts(
     log: &mut [u8],
     formula: &mut [u8],
 ) -> Tallied
-    ensures outcome { result ≡ outcome-of (outcome-defined settings text.now work.old log.old formula.old most-choices) }
-    ensures log_after { log.new ≡ buffer-after 0 (outcome-defined settings text.now work.old log.old formula.old most-choices) (λ o. o.log) log.old }
-    ensures formula_after { formula.new ≡ buffer-after 0 (outcome-defined settings text.now work.old log.old formula.old most-choices) (λ o. o.formula) formula.old }
+    ensures outcome { result ≡ outcome_of (outcome_defined settings text.now work.old log.old formula.old most_choices) }
+    ensures log_after { log.new ≡ buffer_after 0 (outcome_defined settings text.now work.old log.old formula.old most_choices) (λ o. o.log) log.old }
+    ensures formula_after { formula.new ≡ buffer_after 0 (outcome_defined settings text.now work.old log.old formula.old most_choices) (λ o. o.formula) formula.old }
 {
     let mut rows = [0u32; run::ROW_NUMBERS];
     let r = reencode_rows(text, settings, work, log, formula, &mut rows, 1600);
@@ -120,10 +120,10 @@ pub fn reencode(
     formula: &mut [u8],
     table: &mut [ChoiceRecord],
 ) -> Tallied
-    ensures outcome { result ≡ outcome-of (outcome-defined settings text.now work.old log.old formula.old (length table.old)) }
-    ensures log_after { log.new ≡ buffer-after 0 (outcome-defined settings text.now work.old log.old formula.old (length table.old)) (λ o. o.log) log.old }
-    ensures formula_after { formula.new ≡ buffer-after 0 (outcome-defined settings text.now work.old log.old formula.old (length table.old)) (λ o. o.formula) formula.old }
-    ensures table_after { table.new ≡ buffer-after no_record (outcome-defined settings text.now work.old log.old formula.old (length table.old)) shown-table table.old }
+    ensures outcome { result ≡ outcome_of (outcome_defined settings text.now work.old log.old formula.old (length table.old)) }
+    ensures log_after { log.new ≡ buffer_after 0 (outcome_defined settings text.now work.old log.old formula.old (length table.old)) (λ o. o.log) log.old }
+    ensures formula_after { formula.new ≡ buffer_after 0 (outcome_defined settings text.now work.old log.old formula.old (length table.old)) (λ o. o.formula) formula.old }
+    ensures table_after { table.new ≡ buffer_after no_record (outcome_defined settings text.now work.old log.old formula.old (length table.old)) shown_table table.old }
 {
     let room = table.len();
     let mut rows = [0u32; run::ROW_NUMBERS];

@@ -5,16 +5,16 @@ use lib.IntN.{ℤ}
 use Rattle.definition.specs.Checked.{Checked, fault, value, ◌>>=◌}
 use Rattle.definition.specs.Text.{Bytes}
 use Rattle.definition.specs.Calls.{Reencoded, sizes}
-use Rattle.run.specs.declared.Settings as Code-settings
+use Rattle.run.specs.declared.Settings as CodeSettings
 use Rattle.formula_run.specs.declared.Tallied as Code
-use Rattle.formula_run.specs.Outcome.{run-outcome, tallied-of, outcome-of}
+use Rattle.formula_run.specs.Outcome.{run_outcome, tallied_of, outcome_of}
 use Rattle.call_sizes.specs.Outcome.{outcome}
 
-result-alone : (o : Checked Reencoded) {a : Code.Tallied} → a ≡ outcome-of o → a ≡ tallied-of (o >>= λ r. value r.tally)
+result_alone : (o : Checked Reencoded) {a : Code.Tallied} → a ≡ outcome_of o → a ≡ tallied_of (o >>= λ r. value r.tally)
 unfolding ◌>>=◌
-result-alone (fault n) e = e
-result-alone (value r) e = e
+result_alone (fault n) e = e
+result_alone (value r) e = e
 
-pub sizes-told : (s : Code-settings.Settings) (t : Bytes) (work : List ℤ) {a : Code.Tallied} → a ≡ outcome-of (run-outcome s t work) → a ≡ tallied-of (outcome s t work)
+pub sizes_told : (s : CodeSettings.Settings) (t : Bytes) (work : List ℤ) {a : Code.Tallied} → a ≡ outcome_of (run_outcome s t work) → a ≡ tallied_of (outcome s t work)
 unfolding sizes
-sizes-told s t work e = result-alone (run-outcome s t work) e
+sizes_told s t work e = result_alone (run_outcome s t work) e

@@ -1,11 +1,11 @@
--- What the call answers: the definition's outcome. Number and values of each case are `formula_run`'s `tallied-of`.
+-- What the call answers: the definition's outcome. Number and values of each case are `formula_run`'s `tallied_of`.
 use Rattle.std.specs.Prelude.{List, ℤ, length}
 use Rattle.definition.specs.Checked.{Checked}
 use Rattle.definition.specs.Text.{Bytes}
 use Rattle.definition.specs.Calls.{Tally, sizes}
 use Rattle.run.specs.declared.Settings.{Settings}
-use Rattle.run.specs.Settings.{settings-of}
+use Rattle.run.specs.Settings.{settings_of}
 
 -- the outcome of a call: settings, text and workspace
 abbrev pub outcome : Settings → Bytes → List ℤ → Checked Tally
-outcome s text work = sizes (settings-of s) (length work) text
+outcome s text work = sizes (settings_of s) (length work) text

@@ -1,14 +1,14 @@
 // Size before the run: the published call.
 ghost use Rattle.std.specs.Prelude.{◌≡◌};
-ghost use Rattle.formula_run.specs.Outcome.{tallied-of};
-ghost use Rattle.call_sizes.specs.Outcome.{outcome as outcome-defined};
+ghost use Rattle.formula_run.specs.Outcome.{tallied_of};
+ghost use Rattle.call_sizes.specs.Outcome.{outcome as outcome_defined};
 
 use formula_run::Tallied;
 use run::Settings;
 
 // Works out what reencoding a formula gives: choices, H, M, log lines and both byte lengths. Neither text is written, and no buffer for them is lent.
 pub fn sizes(text: &[u8], settings: Settings, work: &mut [i32]) -> Tallied
-    ensures outcome { result ≡ tallied-of (outcome-defined settings text.now work.old) }
+    ensures outcome { result ≡ tallied_of (outcome_defined settings text.now work.old) }
 {
     let mut log = [0u8; 0];
     let mut formula = [0u8; 0];

@@ -3,10 +3,10 @@ use mathlib.Core.Path.{◌≡◌, refl}
 use mathlib.Core.Bool.{false}
 use Prim.Native.Nat.{ℕ}
 use Rattle.definition.specs.Text.{Bytes}
-use Rattle.definition.specs.Calls.{carry-answer, walk-back}
-use Rattle.carry.specs.Carried.{tested-text, carried-answer, replayed-text}
-use Rattle.log_texts.proofs.Called.{after-texts}
+use Rattle.definition.specs.Calls.{carry_answer, walk_back}
+use Rattle.carry.specs.Carried.{tested_text, carried_answer, replayed_text}
+use Rattle.log_texts.proofs.Called.{after_texts}
 
-pub walk-back-is : (size room kept : ℕ) (formula log answer : Bytes) → walk-back size room kept formula log answer ≡ after-texts false size kept formula log answer (replayed-text false room)
-unfolding walk-back carry-answer replayed-text carried-answer tested-text after-texts
-walk-back-is size room kept formula log answer = refl
+pub walk_back_is : (size room kept : ℕ) (formula log answer : Bytes) → walk_back size room kept formula log answer ≡ after_texts false size kept formula log answer (replayed_text false room)
+unfolding walk_back carry_answer replayed_text carried_answer tested_text after_texts
+walk_back_is size room kept formula log answer = refl

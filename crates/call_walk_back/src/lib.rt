@@ -1,6 +1,6 @@
 // Walking back: a log's kept lines are replayed over a formula, and a solver's answer is tested, carried back and written.
 ghost use Rattle.std.specs.Prelude.{◌≡◌};
-ghost use Rattle.definition.specs.Calls.{buffer-after};
+ghost use Rattle.definition.specs.Calls.{buffer_after};
 ghost use Rattle.carry.specs.Carried.{carried_of, Carries};
 ghost use Rattle.call_walk_back.specs.Outcome.{outcome};
 
@@ -36,7 +36,7 @@ pub fn walk_back(
     out: &mut [u8],
 ) -> Carried
     ensures outcome { result ≡ carried_of (outcome work.old out.old kept formula.now log.now answer.now) }
-    ensures buffer { out.new ≡ buffer-after 0 (outcome work.old out.old kept formula.now log.now answer.now) (λ t. t) out.old }
+    ensures buffer { out.new ≡ buffer_after 0 (outcome work.old out.old kept formula.now log.now answer.now) (λ t. t) out.old }
 {
     let r = walk(formula, log, kept, answer, work, out);
     carry::settle(out, r)

@@ -1,46 +1,46 @@
 -- What testing an assignment and carrying it over lines answer, beside the definition's outcome; and what they ask of a workspace.
 use Rattle.std.specs.Prelude.{◌≡◌, Bool, true, false, not, ◌||◌, List, ℕ, ◌≤◌, ◌<◌, ◌^◌, ℤ, length, take}
-use Rattle.definition.specs.Checked.{Checked, fault, value, ◌>>=◌, refuse-if}
+use Rattle.definition.specs.Checked.{Checked, fault, value, ◌>>=◌, refuse_if}
 use Rattle.definition.specs.Literals.{Formula}
 use Rattle.definition.specs.Text.{Bytes}
-use Rattle.definition.specs.Standing.{Line, highest-in, replay}
-use Rattle.definition.specs.Assignments.{Assignment, has-true, satisfies, carried-back, carried-forward}
-use Rattle.definition.specs.Calls.{fitting-line}
+use Rattle.definition.specs.Standing.{Line, highest_in, replay}
+use Rattle.definition.specs.Assignments.{Assignment, has_true, satisfies, carried_back, carried_forward}
+use Rattle.definition.specs.Calls.{fitting_line}
 use Rattle.theory_base.specs.Slices.{between}
-use Rattle.store.specs.Store.{Formed, deleted-at, clause-at}
+use Rattle.store.specs.Store.{Formed, deleted_at, clause_at}
 use Rattle.text.specs.Output.{Put}
-use Rattle.drat.specs.Loaded.{Loaded, lines-in}
+use Rattle.drat.specs.Loaded.{Loaded, lines_in}
 use Rattle.replay.specs.Replayed.{Replayable}
 use Rattle.carry.specs.declared.Carried as Code
 use Rattle.carry.specs.declared.Carried.TheVariants as Carried
 
 -- the clause at a place of a store is deleted or has a true literal
 abbrev pub holds_at : Assignment → List ℤ → ℕ → Bool
-holds_at a s at = deleted-at s at || has-true a (clause-at s at)
+holds_at a s at = deleted_at s at || has_true a (clause_at s at)
 
 -- ---- the outcome, from its last part to the whole
 
 -- an assignment is tested against a formula, where it may fail under a number, and its line for the variables 1 to v must fit: the number, 14
-unfoldable pub tested-text : ℕ → ℕ → ℕ → Formula → Assignment → Checked Bytes
-tested-text number room v f a = refuse-if (not (satisfies a f)) number (fitting-line room v a)
+unfoldable pub tested_text : ℕ → ℕ → ℕ → Formula → Assignment → Checked Bytes
+tested_text number room v f a = refuse_if (not (satisfies a f)) number (fitting_line room v a)
 
 -- an answer is tested against what stands, then carried back over the lines: 44, 33, 14
-unfoldable pub carried-answer : ℕ → ℕ → Formula → List Line → Formula → Assignment → Checked Bytes
-carried-answer room v f ss standing a =
-    refuse-if (not (satisfies a standing)) 44 (tested-text 33 room v f (carried-back a ss))
+unfoldable pub carried_answer : ℕ → ℕ → Formula → List Line → Formula → Assignment → Checked Bytes
+carried_answer room v f ss standing a =
+    refuse_if (not (satisfies a standing)) 44 (tested_text 33 room v f (carried_back a ss))
 
 -- a plan is carried forward over the lines, then tested against what stands: 46, 14
 unfoldable pub carried_plan : ℕ → ℕ → List Line → Formula → Assignment → Checked Bytes
-carried_plan room x ss standing a = tested-text 46 room x standing (carried-forward a ss)
+carried_plan room x ss standing a = tested_text 46 room x standing (carried_forward a ss)
 
 -- forward or back
-abbrev pub carried-over : Bool → ℕ → ℕ → Formula → List Line → Formula → Assignment → Checked Bytes
-carried-over true room v f ss standing a = carried_plan room v ss standing a
-carried-over false room v f ss standing a = carried-answer room v f ss standing a
+abbrev pub carried_over : Bool → ℕ → ℕ → Formula → List Line → Formula → Assignment → Checked Bytes
+carried_over true room v f ss standing a = carried_plan room v ss standing a
+carried_over false room v f ss standing a = carried_answer room v f ss standing a
 
 -- the lines are replayed over the formula before that: 32
-unfoldable pub replayed-text : Bool → ℕ → ℕ → Formula → List Line → Assignment → Checked Bytes
-replayed-text forward room v f ss a = replay f ss >>= λ standing. carried-over forward room v f ss standing a
+unfoldable pub replayed_text : Bool → ℕ → ℕ → Formula → List Line → Assignment → Checked Bytes
+replayed_text forward room v f ss a = replay f ss >>= λ standing. carried_over forward room v f ss standing a
 
 -- ---- what the code answers
 
@@ -65,10 +65,10 @@ pub record Parts (work : List ℤ) (n m end v : ℕ) (marks : Bytes) : Type 0 wh
   pub formed : Formed (take n work)
   pub loaded : Loaded (between n m work)
   pub standing : Formed (between m end work)
-  pub named : highest-in (lines-in (between n m work)) < length marks
+  pub named : highest_in (lines_in (between n m work)) < length marks
 
 -- the formula lies before n, the lines at n..m, with room for a replay, and the table has every variable of the lines
 pub record Carryable (work : List ℤ) (n m v : ℕ) (marks : Bytes) : Type 0 where
   pub replayable : Replayable work n m
   pub few : v < 2 ^ 31
-  pub named : highest-in (lines-in (between n m work)) < length marks
+  pub named : highest_in (lines_in (between n m work)) < length marks

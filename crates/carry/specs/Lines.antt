@@ -2,7 +2,7 @@
 use Rattle.std.specs.Prelude.{◌≡◌, Bool, true, false, List, [], ◌∷◌, ◌++◌, ℕ, ℤ, take}
 use Rattle.definition.specs.Standing.{Line}
 use Rattle.definition.specs.Assignments.{Assignment, carried, forwarded}
-use Rattle.drat.specs.Loaded.{Loaded, lines-in, line_at, past-line}
+use Rattle.drat.specs.Loaded.{Loaded, lines_in, line_at, past_line}
 
 -- an assignment carried over a line, forward or back
 abbrev pub over : Bool → Assignment → Line → Assignment
@@ -10,7 +10,7 @@ over true = forwarded
 over false = carried
 
 -- the last line before a place, and where it starts
-pub record Last-line (s : List ℤ) (end start : ℕ) : Type 0 where
-  pub ends : past-line s start ≡ end
+pub record LastLine (s : List ℤ) (end start : ℕ) : Type 0 where
+  pub ends : past_line s start ≡ end
   pub before : Loaded (take start s)
-  pub lines : lines-in (take end s) ≡ lines-in (take start s) ++ (line_at s start ∷ [])
+  pub lines : lines_in (take end s) ≡ lines_in (take start s) ++ (line_at s start ∷ [])

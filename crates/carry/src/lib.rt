@@ -3,16 +3,16 @@ ghost use Rattle.std.specs.Prelude.{◌≡◌, cond, not, ◌≤◌, ◌<◌, �
 ghost use Rattle.definition.specs.Checked.{Checked};
 ghost use Rattle.definition.specs.Literals.{highest};
 ghost use Rattle.definition.specs.Text.{Bytes};
-ghost use Rattle.definition.specs.Standing.{literals as literals-of-line, highest-in};
-ghost use Rattle.definition.specs.Assignments.{satisfies, repaired, carried-back, carried-forward};
-ghost use Rattle.definition.specs.Calls.{buffer-after};
+ghost use Rattle.definition.specs.Standing.{literals as literals_of_line, highest_in};
+ghost use Rattle.definition.specs.Assignments.{satisfies, repaired, carried_back, carried_forward};
+ghost use Rattle.definition.specs.Calls.{buffer_after};
 ghost use Rattle.theory_base.specs.Slices.{between};
 ghost use Rattle.literals.specs.Literal.{negative};
 ghost use Rattle.store.specs.Store.{Formed, stored, header_at, past};
-ghost use Rattle.drat.specs.Loaded.{Loaded, lines-in, line_at, past-line};
+ghost use Rattle.drat.specs.Loaded.{Loaded, lines_in, line_at, past_line};
 ghost use Rattle.answer.specs.Table.{marked};
-ghost use Rattle.carry.specs.Lines.{Last-line, over};
-ghost use Rattle.carry.specs.Carried.{holds_at, tested-text, carried-answer, carried_plan, carried-over, replayed-text, carried_of, Carries, Parts, Carryable};
+ghost use Rattle.carry.specs.Lines.{LastLine, over};
+ghost use Rattle.carry.specs.Carried.{holds_at, tested_text, carried_answer, carried_plan, carried_over, replayed_text, carried_of, Carries, Parts, Carryable};
 
 use replay::Replayed;
 
@@ -118,8 +118,8 @@ fn is_repaired(header: i32, forward: bool) -> bool
 
 // Carries an assignment over the line at a place.
 fn carry_line(marks: &mut [u8], lines: &[i32], at: usize, forward: bool)
-    requires { past-line lines.now at ≤ length lines.now }
-    ensures { highest (literals-of-line (line_at lines.now at)) < length marks.old → marked marks.new ≡ over forward (marked marks.old) (line_at lines.now at) }
+    requires { past_line lines.now at ≤ length lines.now }
+    ensures { highest (literals_of_line (line_at lines.now at)) < length marks.old → marked marks.new ≡ over forward (marked marks.old) (line_at lines.now at) }
 {
     if is_repaired(lines[at], forward) {
         let next = store::next_at(lines, at);
@@ -131,7 +131,7 @@ fn carry_line(marks: &mut [u8], lines: &[i32], at: usize, forward: bool)
 // Where the last line before a place starts.
 fn line_start(lines: &[i32], end: usize) -> usize
     requires { (0 < end) × (end ≤ length lines.now) × Loaded (take end lines.now) }
-    ensures { Last-line lines.now end result }
+    ensures { LastLine lines.now end result }
 {
     let last = end - 1;
     end - (literals::header_length(lines[last]) + 2)
@@ -140,7 +140,7 @@ fn line_start(lines: &[i32], end: usize) -> usize
 // Carries an assignment back over the lines, the last one first.
 pub fn carry_back(marks: &mut [u8], lines: &[i32])
     requires { Loaded lines.now }
-    ensures { highest-in (lines-in lines.now) < length marks.old → marked marks.new ≡ carried-back (marked marks.old) (lines-in lines.now) }
+    ensures { highest_in (lines_in lines.now) < length marks.old → marked marks.new ≡ carried_back (marked marks.old) (lines_in lines.now) }
 {
     let mut end = lines.len();
     while 0 < end {
@@ -153,7 +153,7 @@ pub fn carry_back(marks: &mut [u8], lines: &[i32])
 // Carries an assignment forward over the lines, the first one first.
 pub fn carry_forward(marks: &mut [u8], lines: &[i32])
     requires { Loaded lines.now }
-    ensures { highest-in (lines-in lines.now) < length marks.old → marked marks.new ≡ carried-forward (marked marks.old) (lines-in lines.now) }
+    ensures { highest_in (lines_in lines.now) < length marks.old → marked marks.new ≡ carried_forward (marked marks.old) (lines_in lines.now) }
 {
     let mut at = 0;
     while at < lines.len() {
@@ -182,7 +182,7 @@ fn write_tested<'a>(
     marks: &[u8],
 ) -> Carried
     requires { (v < 2 ^ 31) × Formed (cond is_standing standing.now formula.now) }
-    ensures { Carries (tested-text number (length out.old) v (stored (cond is_standing standing.now formula.now)) (marked marks.now)) out.old result out.new }
+    ensures { Carries (tested_text number (length out.old) v (stored (cond is_standing standing.now formula.now)) (marked marks.now)) out.old result out.new }
 {
     if satisfied(marks, formula, standing, is_standing) {
         let n = answer::write_answer(out, v, marks);
@@ -203,8 +203,8 @@ fn carry_answer<'a>(
     standing: &'a [i32],
     marks: &mut [u8],
 ) -> Carried
-    requires { (v < 2 ^ 31) × Formed formula.now × Loaded lines.now × Formed standing.now × (highest-in (lines-in lines.now) < length marks.old) }
-    ensures { Carries (carried-answer (length out.old) v (stored formula.now) (lines-in lines.now) (stored standing.now) (marked marks.old)) out.old result out.new }
+    requires { (v < 2 ^ 31) × Formed formula.now × Loaded lines.now × Formed standing.now × (highest_in (lines_in lines.now) < length marks.old) }
+    ensures { Carries (carried_answer (length out.old) v (stored formula.now) (lines_in lines.now) (stored standing.now) (marked marks.old)) out.old result out.new }
 {
     if satisfied(marks, formula, standing, true) {
         carry_back(marks, lines);
@@ -222,8 +222,8 @@ fn carry_plan<'a>(
     standing: &'a [i32],
     marks: &mut [u8],
 ) -> Carried
-    requires { (x < 2 ^ 31) × Loaded lines.now × Formed standing.now × (highest-in (lines-in lines.now) < length marks.old) }
-    ensures { Carries (carried_plan (length out.old) x (lines-in lines.now) (stored standing.now) (marked marks.old)) out.old result out.new }
+    requires { (x < 2 ^ 31) × Loaded lines.now × Formed standing.now × (highest_in (lines_in lines.now) < length marks.old) }
+    ensures { Carries (carried_plan (length out.old) x (lines_in lines.now) (stored standing.now) (marked marks.old)) out.old result out.new }
 {
     carry_forward(marks, lines);
     write_tested(out, x, formula, standing, true, 46, marks)
@@ -241,7 +241,7 @@ fn carry_parts(
     forward: bool,
 ) -> Carried
     requires { Parts work.now n m end v marks.old }
-    ensures { Carries (carried-over forward (length out.old) v (stored (take n work.now)) (lines-in (between n m work.now)) (stored (between m end work.now)) (marked marks.old)) out.old result out.new }
+    ensures { Carries (carried_over forward (length out.old) v (stored (take n work.now)) (lines_in (between n m work.now)) (stored (between m end work.now)) (marked marks.old)) out.old result out.new }
 {
     let formula = &work[..n];
     let lines = &work[n..m];
@@ -263,7 +263,7 @@ pub fn replay_and_carry(
     forward: bool,
 ) -> Carried
     requires { Carryable work.old n m v marks.old }
-    ensures { Carries (replayed-text forward (length out.old) v (stored (take n work.old)) (lines-in (between n m work.old)) (marked marks.old)) out.old result out.new }
+    ensures { Carries (replayed_text forward (length out.old) v (stored (take n work.old)) (lines_in (between n m work.old)) (marked marks.old)) out.old result out.new }
 {
     match replay::replay(work, n, m) {
         Replayed::NoClause => Carried::Refused(32),
@@ -273,7 +273,7 @@ pub fn replay_and_carry(
 
 // Makes the buffer zero where the outcome is a refusal.
 pub fn settle(out: &mut [u8], r: Carried) -> Carried
-    ensures { (o : Checked Bytes) (old : Bytes) → Carries o old r out.old → length out.old ≡ length old → (result ≡ carried_of o) × (out.new ≡ buffer-after 0 o (λ t. t) old) }
+    ensures { (o : Checked Bytes) (old : Bytes) → Carries o old r out.old → length out.old ≡ length old → (result ≡ carried_of o) × (out.new ≡ buffer_after 0 o (λ t. t) old) }
 {
     match r {
         Carried::Line(n) => Carried::Line(n),

@@ -6,24 +6,24 @@ use lib.ListN.{set}
 use Rattle.counts.specs.Counts.{overwritten}
 
 -- one count, three counts, six counts
-pub one-count : (t : List ℕ) (a : ℕ) → set t 0 a ≡ overwritten (a ∷ []) t
+pub one_count : (t : List ℕ) (a : ℕ) → set t 0 a ≡ overwritten (a ∷ []) t
 unfolding overwritten
-one-count [] a = refl
-one-count (x ∷ t) a = refl
+one_count [] a = refl
+one_count (x ∷ t) a = refl
 
-pub three-counts : (t : List ℕ) (a b c : ℕ) → set (set (set t 0 a) 1 b) 2 c ≡ overwritten (a ∷ b ∷ c ∷ []) t
+pub three_counts : (t : List ℕ) (a b c : ℕ) → set (set (set t 0 a) 1 b) 2 c ≡ overwritten (a ∷ b ∷ c ∷ []) t
 unfolding overwritten
-three-counts [] a b c = refl
-three-counts (x ∷ []) a b c = refl
-three-counts (x ∷ y ∷ []) a b c = refl
-three-counts (x ∷ y ∷ z ∷ t) a b c = refl
+three_counts [] a b c = refl
+three_counts (x ∷ []) a b c = refl
+three_counts (x ∷ y ∷ []) a b c = refl
+three_counts (x ∷ y ∷ z ∷ t) a b c = refl
 
-pub six-counts : (t : List ℕ) (a b c d e f : ℕ) → set (set (set (set (set (set t 0 a) 1 b) 2 c) 3 d) 4 e) 5 f ≡ overwritten (a ∷ b ∷ c ∷ d ∷ e ∷ f ∷ []) t
+pub six_counts : (t : List ℕ) (a b c d e f : ℕ) → set (set (set (set (set (set t 0 a) 1 b) 2 c) 3 d) 4 e) 5 f ≡ overwritten (a ∷ b ∷ c ∷ d ∷ e ∷ f ∷ []) t
 unfolding overwritten
-six-counts [] a b c d e f = refl
-six-counts (x ∷ []) a b c d e f = refl
-six-counts (x ∷ y ∷ []) a b c d e f = refl
-six-counts (x ∷ y ∷ z ∷ []) a b c d e f = refl
-six-counts (x ∷ y ∷ z ∷ u ∷ []) a b c d e f = refl
-six-counts (x ∷ y ∷ z ∷ u ∷ v ∷ []) a b c d e f = refl
-six-counts (x ∷ y ∷ z ∷ u ∷ v ∷ w ∷ t) a b c d e f = refl
+six_counts [] a b c d e f = refl
+six_counts (x ∷ []) a b c d e f = refl
+six_counts (x ∷ y ∷ []) a b c d e f = refl
+six_counts (x ∷ y ∷ z ∷ []) a b c d e f = refl
+six_counts (x ∷ y ∷ z ∷ u ∷ []) a b c d e f = refl
+six_counts (x ∷ y ∷ z ∷ u ∷ v ∷ []) a b c d e f = refl
+six_counts (x ∷ y ∷ z ∷ u ∷ v ∷ w ∷ t) a b c d e f = refl

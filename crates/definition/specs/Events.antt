@@ -14,22 +14,22 @@ pub record Choice : Type 0 where
   pub below : ℕ
 
 -- M-118: what is written down of a choice: its first new variable, its length, and how many input clauses were resolved into it
-pub record Choice-record : Type 0 where
+pub record TableRecord : Type 0 where
   pub first : ℕ
   pub length : ℕ
   pub clauses : ℕ
 
-abbrev pub choice-of : Clause → ℕ → Choice
-choice-of l n = record { literals = l; below = n }
+abbrev pub choice_of : Clause → ℕ → Choice
+choice_of l n = record { literals = l; below = n }
 
 pub data Event : Type 0 where
   -- a clash is cleared
-  clash-cleared : Clash → Event
+  clash_cleared : Clash → Event
   -- a ULC is deleted for its pure literal
-  pure-deleted : ℤ → Clause → Event
+  pure_deleted : ℤ → Clause → Event
   -- a standing clause is taken as a choice: the copies of its pairs that stand then
-  choice-taken : Clause → Choice → List Clause → Event
+  choice_taken : Clause → Choice → List Clause → Event
   -- "Order form": a clause with negated choice literals is replaced
-  clause-replaced : Clause → Clause → Event
+  clause_replaced : Clause → Clause → Event
   -- "Order form": the clauses with a choice's literals are deleted
-  literals-deleted : Choice → Event
+  literals_deleted : Choice → Event

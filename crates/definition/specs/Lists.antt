@@ -45,22 +45,22 @@ module _ {A : Type 0} where
   or_else (some a) b = some a
 
   -- the first that f gives for i, i + 1, .. : n numbers
-  unfoldable pub first-from : ℕ → ℕ → (ℕ → Option A) → Option A
-  first-from i zero f = none
-  first-from i (suc n) f = or_else (f i) (first-from (suc i) n f)
+  unfoldable pub first_from : ℕ → ℕ → (ℕ → Option A) → Option A
+  first_from i zero f = none
+  first_from i (suc n) f = or_else (f i) (first_from (suc i) n f)
 
   -- what f gives for i, i + 1, .. : n numbers
-  unfoldable pub for-from : ℕ → ℕ → (ℕ → List A) → List A
-  for-from i zero f = []
-  for-from i (suc n) f = f i ++ for-from (suc i) n f
+  unfoldable pub for_from : ℕ → ℕ → (ℕ → List A) → List A
+  for_from i zero f = []
+  for_from i (suc n) f = f i ++ for_from (suc i) n f
 
 module _ {A B : Type 0} where
   -- what f gives for each, one after the other
-  unfoldable pub for-each : List A → (A → List B) → List B
-  for-each [] f = []
-  for-each (x ∷ xs) f = f x ++ for-each xs f
+  unfoldable pub for_each : List A → (A → List B) → List B
+  for_each [] f = []
+  for_each (x ∷ xs) f = f x ++ for_each xs f
 
 -- all of this file, for a proof that computes: `unfolding computing` opens every name of the next line
 unfoldable pub computing : Unit {0}
-unfolding all any those first count sum_of only_if or_else first-from for-from for-each
+unfolding all any those first count sum_of only_if or_else first_from for_from for_each
 computing = tt

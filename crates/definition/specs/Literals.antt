@@ -31,8 +31,8 @@ unfoldable pub with_first : ℤ → Clause → Clause
 with_first l c = l ∷ without l c
 
 -- l at the end, unless it is there already
-abbrev pub with-literal : ℤ → Clause → Clause
-with-literal l c = cond (holds l c) c (c ++ (l ∷ []))
+abbrev pub with_literal : ℤ → Clause → Clause
+with_literal l c = cond (holds l c) c (c ++ (l ∷ []))
 
 -- a literal of c whose negation is in d
 unfoldable pub opposes : Clause → Clause → Bool
@@ -51,15 +51,15 @@ unfoldable pub highest : Clause → ℕ
 highest [] = 0
 highest (l ∷ c) = max (nat_abs l) (highest c)
 
-unfoldable pub highest-of : Formula → ℕ
-highest-of [] = 0
-highest-of (c ∷ f) = max (highest c) (highest-of f)
+unfoldable pub highest_of : Formula → ℕ
+highest_of [] = 0
+highest_of (c ∷ f) = max (highest c) (highest_of f)
 
 -- the literals of a formula, counted
-unfoldable pub literals-of : Formula → ℕ
-literals-of f = sum_of length f
+unfoldable pub literals_of : Formula → ℕ
+literals_of f = sum_of length f
 
 -- all of this file, for a proof that computes: `unfolding computing` opens every name of the next line
 unfoldable pub computing : Unit {0}
-unfolding same holds same_set without with_first opposes opposed repeated highest highest-of literals-of
+unfolding same holds same_set without with_first opposes opposed repeated highest highest_of literals_of
 computing = tt

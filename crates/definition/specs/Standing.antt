@@ -1,7 +1,7 @@
 -- "Standing and carried back": log lines, and how they change the standing clauses.
 use Rattle.std.specs.Prelude.{Bool, not, cond, List, [], ◌∷◌, ◌++◌, ℕ, max}
 use Rattle.definition.specs.Lists.{any}
-use Rattle.definition.specs.Checked.{Checked, value, refuse-if, through}
+use Rattle.definition.specs.Checked.{Checked, value, refuse_if, through}
 use Rattle.definition.specs.Literals.{Clause, Formula, same_set, highest}
 
 -- a line of the log
@@ -14,9 +14,9 @@ literals (addition c) = c
 literals (deletion c) = c
 
 -- the highest variable in the lines
-unfoldable pub highest-in : List Line → ℕ
-highest-in [] = 0
-highest-in (s ∷ ss) = max (highest (literals s)) (highest-in ss)
+unfoldable pub highest_in : List Line → ℕ
+highest_in [] = 0
+highest_in (s ∷ ss) = max (highest (literals s)) (highest_in ss)
 
 -- a clause with the same set of literals stands
 unfoldable pub stands : Clause → Formula → Bool
@@ -38,14 +38,14 @@ after f [] = f
 after f (s ∷ ss) = after (changed f s) ss
 
 -- a deletion without its clause: number 32
-unfoldable pub replay-line : Formula → Line → Checked Formula
-replay-line f (addition c) = value (changed f (addition c))
-replay-line f (deletion c) = refuse-if (not (stands c f)) 32 (value (changed f (deletion c)))
+unfoldable pub replay_line : Formula → Line → Checked Formula
+replay_line f (addition c) = value (changed f (addition c))
+replay_line f (deletion c) = refuse_if (not (stands c f)) 32 (value (changed f (deletion c)))
 
 unfoldable pub replay : Formula → List Line → Checked Formula
-replay f ss = through replay-line f ss
+replay f ss = through replay_line f ss
 
 -- all of this file, for a proof that computes: `unfolding computing` opens every name of the next line
 unfoldable pub computing : Unit {0}
-unfolding literals highest-in stands take_out changed after replay-line replay
+unfolding literals highest_in stands take_out changed after replay_line replay
 computing = tt

@@ -10,114 +10,114 @@ use lib.IntN.{ℤ, nat_abs}
 use lib.ListN.{length}
 use borrow.Author.Tests.{le-leb, lt-leb, lt-ltb, le-ltb, ltb-true, ltb-false}
 use Rattle.definition.specs.Lists.{any}
-use Rattle.definition.specs.Checked.{Checked, fault, value, ◌>>=◌, refuse-if, or-fault, through}
-use Rattle.definition.specs.Literals.{Clause, Formula, with-literal, opposes, opposed, literals-of}
+use Rattle.definition.specs.Checked.{Checked, fault, value, ◌>>=◌, refuse_if, or_fault, through}
+use Rattle.definition.specs.Literals.{Clause, Formula, with_literal, opposes, opposed, literals_of}
 use Rattle.definition.specs.Text.{Bytes, number}
-use Rattle.definition.specs.Reading.{Limits, Input, as_read, Reader, kept_of, read-literal, end-clause, read_word, end-text}
-use Rattle.theory_base.proofs.Tests.{by-test}
-use Rattle.theory_base.proofs.Clauses.{literals-++, opposed-with}
+use Rattle.definition.specs.Reading.{Limits, Input, as_read, Reader, kept_of, read_literal, end_clause, read_word, end_text}
+use Rattle.theory_base.proofs.Tests.{by_test}
+use Rattle.theory_base.proofs.Clauses.{literals-++, opposed_with}
 use Rattle.dimacs.specs.declared.Item.{Item}
 use Rattle.dimacs.specs.declared.Item.TheVariants as Item
-use Rattle.dimacs.specs.Clause.{number-item, Clause-read, finished, ended, clause-by, first-clause, past_by, past-clause, Kept-read, kept-within, first-kept}
+use Rattle.dimacs.specs.Clause.{number_item, ClauseIsRead, finished, ended, clause_by, first_clause, past_by, past_clause, KeptRead, kept_within, first_kept}
 
 abbrev reader : ℕ → Formula → Clause → Reader
 reader count done here = record { count = count; done = done; here = here }
 
 -- the literals before leave so much room
-room-test : (most : ℕ) (done kept : Formula) → literals-of done ≤ most → ltb most (literals-of (done ++ kept)) ≡ ltb (most - literals-of done) (literals-of kept)
-room-test most done kept low =
-    let n = literals-of done in
-    let m = literals-of kept in
-    by-test (ltb (most - n) m)
-    (λ e. lt-ltb most (literals-of (done ++ kept)) (omega (arith, literals-++ done kept, ltb-true (most - n) m e)) ∙ sym e)
-    (λ e. le-ltb most (literals-of (done ++ kept)) (omega (arith, literals-++ done kept, ltb-false (most - n) m e)) ∙ sym e)
+room_test : (most : ℕ) (done kept : Formula) → literals_of done ≤ most → ltb most (literals_of (done ++ kept)) ≡ ltb (most - literals_of done) (literals_of kept)
+room_test most done kept low =
+    let n = literals_of done in
+    let m = literals_of kept in
+    by_test (ltb (most - n) m)
+    (λ e. lt-ltb most (literals_of (done ++ kept)) (omega (arith, literals-++ done kept, ltb-true (most - n) m e)) ∙ sym e)
+    (λ e. le-ltb most (literals_of (done ++ kept)) (omega (arith, literals-++ done kept, ltb-false (most - n) m e)) ∙ sym e)
 
 module _ (most : Limits) (v c : ℕ) where
   -- the outcome, from a reader over the rest of the words
-  unfoldable pub read-rest : ℕ → Formula → Clause → List Bytes → Checked Input
-  read-rest count done here ws = through (read_word most v c) (reader count done here) ws >>= λ r. end-text c r >>= λ f. value (as_read v c f)
+  unfoldable pub read_rest : ℕ → Formula → Clause → List Bytes → Checked Input
+  read_rest count done here ws = through (read_word most v c) (reader count done here) ws >>= λ r. end_text c r >>= λ f. value (as_read v c f)
 
   -- all clauses are read
   module _ (count : ℕ) (done : Formula) (h : c ≤ count) where
-    pub rest-none : read-rest count done [] [] ≡ value (as_read v c done)
-    unfolding read-rest through ◌>>=◌ end-text refuse-if
-    rest-none = rw (le-ltb count c h) refl
+    pub rest_none : read_rest count done [] [] ≡ value (as_read v c done)
+    unfolding read_rest through ◌>>=◌ end_text refuse_if
+    rest_none = rw (le-ltb count c h) refl
 
-    pub rest_some : (w : Bytes) (ws : List Bytes) → read-rest count done [] (w ∷ ws) ≡ fault 8
-    unfolding read-rest through read_word refuse-if ◌>>=◌
+    pub rest_some : (w : Bytes) (ws : List Bytes) → read_rest count done [] (w ∷ ws) ≡ fault 8
+    unfolding read_rest through read_word refuse_if ◌>>=◌
     rest_some w ws = rw (le-leb c count h) refl
 
-  module _ (count : ℕ) (done : Formula) (h : count < c) (low : literals-of done ≤ most.literals) where
+  module _ (count : ℕ) (done : Formula) (h : count < c) (low : literals_of done ≤ most.literals) where
     abbrev room : ℕ
-    room = most.literals - literals-of done
+    room = most.literals - literals_of done
 
     -- the reader after a word
-    abbrev after-item : Clause → Item → Checked Reader
-    after-item here (Item.Fault n) = fault n
-    after-item here Item.Zero = end-clause most (reader count done here)
-    after-item here (Item.Literal l) = value (reader count done (with-literal l here))
+    abbrev after_item : Clause → Item → Checked Reader
+    after_item here (Item.Fault n) = fault n
+    after_item here Item.Zero = end_clause most (reader count done here)
+    after_item here (Item.Literal l) = value (reader count done (with_literal l here))
 
-    word-step : (here : Clause) (w : Bytes) → read_word most v c (reader count done here) w ≡ after-item here (number-item v (number w))
-    unfolding read_word refuse-if or-fault ◌>>=◌ read-literal
-    word-step here w = rw (lt-leb c count h) (step (number w))
+    word_step : (here : Clause) (w : Bytes) → read_word most v c (reader count done here) w ≡ after_item here (number_item v (number w))
+    unfolding read_word refuse_if or_fault ◌>>=◌ read_literal
+    word_step here w = rw (lt-leb c count h) (step (number w))
       where
-        literal : (l : ℤ) (z a : Bool) → cond z (end-clause most (reader count done here)) (refuse-if a 4 (value (reader count done (with-literal l here)))) ≡ after-item here (cond z Item.Zero (cond a (Item.Fault 4) (Item.Literal l)))
+        literal : (l : ℤ) (z a : Bool) → cond z (end_clause most (reader count done here)) (refuse_if a 4 (value (reader count done (with_literal l here)))) ≡ after_item here (cond z Item.Zero (cond a (Item.Fault 4) (Item.Literal l)))
         literal l true a = refl
         literal l false true = refl
         literal l false false = refl
 
-        step : (o : Option ℤ) → (or-fault o 3 >>= λ n. cond (eqb 0 (nat_abs n)) (end-clause most (reader count done here)) (read-literal v (reader count done here) n)) ≡ after-item here (number-item v o)
+        step : (o : Option ℤ) → (or_fault o 3 >>= λ n. cond (eqb 0 (nat_abs n)) (end_clause most (reader count done here)) (read_literal v (reader count done here) n)) ≡ after_item here (number_item v o)
         step none = refl
         step (some l) = literal l (eqb 0 (nat_abs l)) (ltb v (nat_abs l))
 
     -- the outcome after what is kept of the next clause
-    abbrev on : Checked Kept-read → Checked Input
-    on o = o >>= λ k. read-rest (count + 1) (done ++ k.kept) [] k.after
+    abbrev on : Checked KeptRead → Checked Input
+    on o = o >>= λ k. read_rest (count + 1) (done ++ k.kept) [] k.after
 
-    closed : (here : Clause) (ws : List Bytes) → ((end-clause most (reader count done here) >>= λ t. through (read_word most v c) t ws) >>= λ r. end-text c r >>= λ f. value (as_read v c f)) ≡ on (kept-within room (record { clause = here; after = ws }))
-    unfolding end-clause read-rest ◌>>=◌ refuse-if
-    closed here ws = rw (room-test most.literals done (kept_of here) low) (by (ltb room (literals-of (kept_of here))))
+    closed : (here : Clause) (ws : List Bytes) → ((end_clause most (reader count done here) >>= λ t. through (read_word most v c) t ws) >>= λ r. end_text c r >>= λ f. value (as_read v c f)) ≡ on (kept_within room (record { clause = here; after = ws }))
+    unfolding end_clause read_rest ◌>>=◌ refuse_if
+    closed here ws = rw (room_test most.literals done (kept_of here) low) (by (ltb room (literals_of (kept_of here))))
       where
-        by : (b : Bool) → ((refuse-if b 9 (value (reader (count + 1) (done ++ kept_of here) [])) >>= λ t. through (read_word most v c) t ws) >>= λ r. end-text c r >>= λ f. value (as_read v c f)) ≡ on (refuse-if b 9 (value (record { kept = kept_of here; after = ws })))
+        by : (b : Bool) → ((refuse_if b 9 (value (reader (count + 1) (done ++ kept_of here) [])) >>= λ t. through (read_word most v c) t ws) >>= λ r. end_text c r >>= λ f. value (as_read v c f)) ≡ on (refuse_if b 9 (value (record { kept = kept_of here; after = ws })))
         by true = refl
         by false = refl
 
-    pub by-clause : (here : Clause) (ws : List Bytes) → read-rest count done here ws ≡ on (first-kept v room here ws)
-    unfolding read-rest through first-kept first-clause ◌>>=◌ end-text refuse-if
-    by-clause [] [] = rw (lt-ltb count c h) refl
-    by-clause (l ∷ here) [] = rw (lt-ltb 0 (length (l ∷ here)) (omega arith)) refl
-    by-clause here (w ∷ ws) = rw (word-step here w) (go (number-item v (number w)) (λ d. by-clause d ws))
+    pub by_clause : (here : Clause) (ws : List Bytes) → read_rest count done here ws ≡ on (first_kept v room here ws)
+    unfolding read_rest through first_kept first_clause ◌>>=◌ end_text refuse_if
+    by_clause [] [] = rw (lt-ltb count c h) refl
+    by_clause (l ∷ here) [] = rw (lt-ltb 0 (length (l ∷ here)) (omega arith)) refl
+    by_clause here (w ∷ ws) = rw (word_step here w) (go (number_item v (number w)) (λ d. by_clause d ws))
       where
-        go : (i : Item) → ((d : Clause) → read-rest count done d ws ≡ on (first-kept v room d ws))
-            → ((after-item here i >>= λ t. through (read_word most v c) t ws) >>= λ r. end-text c r >>= λ f. value (as_read v c f)) ≡ on (clause-by here ws (λ d. first-clause v d ws) i >>= kept-within room)
+        go : (i : Item) → ((d : Clause) → read_rest count done d ws ≡ on (first_kept v room d ws))
+            → ((after_item here i >>= λ t. through (read_word most v c) t ws) >>= λ r. end_text c r >>= λ f. value (as_read v c f)) ≡ on (clause_by here ws (λ d. first_clause v d ws) i >>= kept_within room)
         go (Item.Fault n) ih = refl
         go Item.Zero ih = closed here ws
-        go (Item.Literal l) ih = ih (with-literal l here)
+        go (Item.Literal l) ih = ih (with_literal l here)
 
 -- ---- a clause that is left out
 
 -- a clause with a literal and its negation, whatever follows in it
-pub record Tautology (o : Checked Clause-read) (ws : List Bytes) : Type 0 where
+pub record Tautology (o : Checked ClauseIsRead) (ws : List Bytes) : Type 0 where
   pub clause : Clause
   pub is : o ≡ finished clause ws
   pub opposes : opposed clause ≡ true
 
 -- the clause goes on as its rest does
-abbrev pub Rest-of : Checked Clause-read → Checked (List Bytes) → Type 0
-Rest-of o (fault n) = o ≡ fault n
-Rest-of o (value ws) = Tautology o ws
+abbrev pub RestOf : Checked ClauseIsRead → Checked (List Bytes) → Type 0
+RestOf o (fault n) = o ≡ fault n
+RestOf o (value ws) = Tautology o ws
 
-opposed-ended : (c : Clause) → opposed c ≡ true → ended (length c) ≡ 7
+opposed_ended : (c : Clause) → opposed c ≡ true → ended (length c) ≡ 7
 unfolding opposed opposes any
-opposed-ended [] e = cc
-opposed-ended (l ∷ c) e = refl
+opposed_ended [] e = cc
+opposed_ended (l ∷ c) e = refl
 
-pub opposed-rest : (v : ℕ) (here : Clause) (ws : List Bytes) → opposed here ≡ true → Rest-of (first-clause v here ws) (past-clause v ws)
-unfolding first-clause past-clause
-opposed-rest v here [] e = rw (opposed-ended here e) refl
-opposed-rest v here (w ∷ ws) e = go (number-item v (number w)) (λ d q. opposed-rest v d ws q)
+pub opposed_rest : (v : ℕ) (here : Clause) (ws : List Bytes) → opposed here ≡ true → RestOf (first_clause v here ws) (past_clause v ws)
+unfolding first_clause past_clause
+opposed_rest v here [] e = rw (opposed_ended here e) refl
+opposed_rest v here (w ∷ ws) e = go (number_item v (number w)) (λ d q. opposed_rest v d ws q)
   where
-    go : (i : Item) → ((d : Clause) → opposed d ≡ true → Rest-of (first-clause v d ws) (past-clause v ws)) → Rest-of (clause-by here ws (λ d. first-clause v d ws) i) (past_by ws (past-clause v ws) i)
+    go : (i : Item) → ((d : Clause) → opposed d ≡ true → RestOf (first_clause v d ws) (past_clause v ws)) → RestOf (clause_by here ws (λ d. first_clause v d ws) i) (past_by ws (past_clause v ws) i)
     go (Item.Fault n) ih = refl
     go Item.Zero ih = record { clause = here; is = refl; opposes = e }
-    go (Item.Literal l) ih = ih (with-literal l here) (opposed-with l here e)
+    go (Item.Literal l) ih = ih (with_literal l here) (opposed_with l here e)

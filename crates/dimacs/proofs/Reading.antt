@@ -8,20 +8,20 @@ use lib.IntN.{ℤ}
 use lib.ListN.{length, take, drop, replicate, length-append, length-drop}
 use lib.Seq.{sets, length-sets, drop-drop}
 use borrow.Author.Tests.{lt-ltb, le-ltb}
-use Rattle.definition.specs.Lists.{for-each, sum_of}
-use Rattle.definition.specs.Checked.{Checked, fault, value, ◌>>=◌, refuse-if}
-use Rattle.definition.specs.Literals.{Clause, Formula, literals-of}
-use Rattle.definition.specs.Text.{Bytes, blank, words-by, words}
-use Rattle.definition.specs.Reading.{Limits, Input, as_read, kept_of, read-clauses, read-header, read-formula}
+use Rattle.definition.specs.Lists.{for_each, sum_of}
+use Rattle.definition.specs.Checked.{Checked, fault, value, ◌>>=◌, refuse_if}
+use Rattle.definition.specs.Literals.{Clause, Formula, literals_of}
+use Rattle.definition.specs.Text.{Bytes, blank, words_by, words}
+use Rattle.definition.specs.Reading.{Limits, Input, as_read, kept_of, read_clauses, read_header, read_formula}
 use Rattle.definition.specs.Calls.{numbers_of}
 use Rattle.theory_base.proofs.Clauses.{literals-++, numbers-++}
-use Rattle.theory_base.proofs.Outcomes.{fault-value, value_same}
-use Rattle.theory_base.proofs.Parts.{sets-capped}
+use Rattle.theory_base.proofs.Outcomes.{fault_value, value_same}
+use Rattle.theory_base.proofs.Parts.{sets_capped}
 use Rattle.theory_base.proofs.Slices.{sets_then}
-use Rattle.theory_text.proofs.Accepted.{Header-few, header-few, kept-opposed, kept-proper}
-use Rattle.theory_text.proofs.Runs.{words-blank}
-use Rattle.tables.specs.Stamps.{At-most, Fresh}
-use Rattle.tables.proofs.Laws.{zeros-at-most, fresh-more}
+use Rattle.theory_text.proofs.Accepted.{HeaderFew, header_few, kept_opposed, kept_proper}
+use Rattle.theory_text.proofs.Runs.{words_blank}
+use Rattle.tables.specs.Stamps.{AtMost, Fresh}
+use Rattle.tables.proofs.Laws.{zeros_at_most, fresh_more}
 use Rattle.dimacs.specs.declared.Gathered.{Gathered}
 use Rattle.dimacs.specs.declared.Gathered.TheVariants as Gathered
 use Rattle.dimacs.specs.declared.ClauseRead.{ClauseRead}
@@ -29,54 +29,54 @@ use Rattle.dimacs.specs.declared.ClauseRead.TheVariants as ClauseRead
 use Rattle.dimacs.specs.declared.FormulaRead.{FormulaRead}
 use Rattle.dimacs.specs.declared.FormulaRead.TheVariants as FormulaRead
 use Rattle.dimacs.specs.declared.Limits as Code
-use Rattle.dimacs.specs.declared.Header as Code-header
-use Rattle.dimacs.specs.declared.Header.TheVariants as Found-header
+use Rattle.dimacs.specs.declared.Header as CodeHeader
+use Rattle.dimacs.specs.declared.Header.TheVariants as FoundHeader
 use Rattle.dimacs.specs.Limits.{limits_of}
-use Rattle.dimacs.specs.HeaderLine.{Header-post}
+use Rattle.dimacs.specs.HeaderLine.{HeaderPost}
 use Rattle.dimacs.specs.Entries.{entries}
-use Rattle.dimacs.specs.Clause.{finished, first-clause, Kept, Gather-post, Kept-read, first-kept, Read, Clause-post}
+use Rattle.dimacs.specs.Clause.{finished, first_clause, Kept, GatherPost, KeptRead, first_kept, Read, ClausePost}
 use Rattle.dimacs.specs.Outcome.{header_of, read_of, Filled}
-use Rattle.dimacs.proofs.Entries.{entries-one, entries-numbers, entries-++}
-use Rattle.dimacs.proofs.Clauses.{read-rest, by-clause, rest-none, rest_some}
+use Rattle.dimacs.proofs.Entries.{entries_one, entries_numbers, entries-++}
+use Rattle.dimacs.proofs.Clauses.{read_rest, by_clause, rest_none, rest_some}
 
 -- ---- the answers
 
 module _ {o : Checked Input} (old new : List ℤ) where
-  pub read-refused : {n : ℕ} → o ≡ fault n → (FormulaRead.Fault n ≡ read_of o) × Filled o old new
-  read-refused {n} e = (sym (ap read_of e), λ i q. fault-value n i (sym e ∙ q))
+  pub read_refused : {n : ℕ} → o ≡ fault n → (FormulaRead.Fault n ≡ read_of o) × Filled o old new
+  read_refused {n} e = (sym (ap read_of e), λ i q. fault_value n i (sym e ∙ q))
 
-  read-accepted : {i : Input} → o ≡ value i → new ≡ sets old 0 (entries i.formula) → (read_of (value i) ≡ read_of o) × Filled o old new
-  read-accepted {i} e s = (sym (ap read_of e), λ j q. s ∙ ap (λ (k : Input). sets old 0 (entries k.formula)) (value_same i j (sym e ∙ q)))
+  read_accepted : {i : Input} → o ≡ value i → new ≡ sets old 0 (entries i.formula) → (read_of (value i) ≡ read_of o) × Filled o old new
+  read_accepted {i} e s = (sym (ap read_of e), λ j q. s ∙ ap (λ (k : Input). sets old 0 (entries k.formula)) (value_same i j (sym e ∙ q)))
 
-numbers-is : (f : Formula) → numbers_of f ≡ literals-of f + length f
+numbers_is : (f : Formula) → numbers_of f ≡ literals_of f + length f
 unfolding numbers_of
-numbers-is f = refl
+numbers_is f = refl
 
 -- ---- the clauses
 
 -- what is kept of a clause, by how its reading ended
-module _ (t : Bytes) (v stamp : ℕ) (held : List ℤ) (table : List ℕ) (a : Gathered) (p : Gather-post t (first-clause v [] (words t)) held table stamp v a) (room : ℕ) where
-  abbrev kept_here : Checked Kept-read
-  kept_here = first-kept v room [] (words t)
+module _ (t : Bytes) (v stamp : ℕ) (held : List ℤ) (table : List ℕ) (a : Gathered) (p : GatherPost t (first_clause v [] (words t)) held table stamp v a) (room : ℕ) where
+  abbrev kept_here : Checked KeptRead
+  kept_here = first_kept v room [] (words t)
 
   abbrev Ends : Gathered → Type 0
-  Ends x = Gather-post t (first-clause v [] (words t)) held table stamp v x
+  Ends x = GatherPost t (first_clause v [] (words t)) held table stamp v x
 
-  by-kept : {c : Clause} {ws : List Bytes} {f : Formula} → first-clause v [] (words t) ≡ finished c ws → kept_of c ≡ f → kept_here ≡ refuse-if (ltb room (literals-of f)) 9 (value (record { kept = f; after = ws }))
-  unfolding first-kept ◌>>=◌
-  by-kept e k = rw (e, k) refl
+  by_kept : {c : Clause} {ws : List Bytes} {f : Formula} → first_clause v [] (words t) ≡ finished c ws → kept_of c ≡ f → kept_here ≡ refuse_if (ltb room (literals_of f)) 9 (value (record { kept = f; after = ws }))
+  unfolding first_kept ◌>>=◌
+  by_kept e k = rw (e, k) refl
 
-  pub kept-fault : {n : ℕ} → a ≡ Gathered.Fault n → kept_here ≡ fault n
-  unfolding first-kept ◌>>=◌
-  kept-fault q = rw (subst Ends q p) refl
+  pub kept_fault : {n : ℕ} → a ≡ Gathered.Fault n → kept_here ≡ fault n
+  unfolding first_kept ◌>>=◌
+  kept_fault q = rw (subst Ends q p) refl
 
-  pub kept-nothing : {next : ℕ} → a ≡ Gathered.LeftOut next → (old : List ℤ) → Read t kept_here room old old table stamp next 0 0
-  unfolding literals-of numbers_of sum_of entries for-each refuse-if
-  kept-nothing {next} q old =
+  pub kept_nothing : {next : ℕ} → a ≡ Gathered.LeftOut next → (old : List ℤ) → Read t kept_here room old old table stamp next 0 0
+  unfolding literals_of numbers_of sum_of entries for_each refuse_if
+  kept_nothing {next} q old =
       let e = subst Ends q p in
       record {
         kept = [];
-        is = by-kept e.is (kept-opposed e.clause e.tautology) ∙ rw (le-ltb room 0 (omega arith)) refl;
+        is = by_kept e.is (kept_opposed e.clause e.tautology) ∙ rw (le-ltb room 0 (omega arith)) refl;
         one = omega arith;
         literals = refl;
         numbers = refl;
@@ -87,35 +87,35 @@ module _ (t : Bytes) (v stamp : ℕ) (held : List ℤ) (table : List ℕ) (a : G
       }
 
   module _ {next n : ℕ} (q : a ≡ Gathered.Kept next n) where
-    told : Kept t (first-clause v [] (words t)) held table stamp v next n
+    told : Kept t (first_clause v [] (words t)) held table stamp v next n
     told = subst Ends q p
 
-    one-literals : literals-of (told.clause ∷ []) ≡ n
-    unfolding literals-of sum_of
-    one-literals = omega (arith, told.size)
+    one_literals : literals_of (told.clause ∷ []) ≡ n
+    unfolding literals_of sum_of
+    one_literals = omega (arith, told.size)
 
-    by_size : kept_here ≡ refuse-if (ltb room n) 9 (value (record { kept = told.clause ∷ []; after = words (drop next t) }))
-    by_size = by-kept told.is (kept-proper told.clause told.proper) ∙ ap (λ (k : ℕ). refuse-if (ltb room k) 9 (value (record { kept = told.clause ∷ []; after = words (drop next t) }))) one-literals
+    by_size : kept_here ≡ refuse_if (ltb room n) 9 (value (record { kept = told.clause ∷ []; after = words (drop next t) }))
+    by_size = by_kept told.is (kept_proper told.clause told.proper) ∙ ap (λ (k : ℕ). refuse_if (ltb room k) 9 (value (record { kept = told.clause ∷ []; after = words (drop next t) }))) one_literals
 
-    pub kept-few : n ≤ v
-    kept-few = told.few
+    pub kept_few : n ≤ v
+    kept_few = told.few
 
     pub kept_full : room < n → kept_here ≡ fault 9
-    unfolding refuse-if
+    unfolding refuse_if
     kept_full h = by_size ∙ rw (lt-ltb room n h) refl
 
-    pub kept-stored : n ≤ room → {old new : List ℤ} → new ≡ sets old 0 (take (n + 1) held) → Read t kept_here room old new table stamp next n (n + 1)
-    unfolding numbers_of refuse-if
-    kept-stored h {old} {new} z =
+    pub kept_stored : n ≤ room → {old new : List ℤ} → new ≡ sets old 0 (take (n + 1) held) → Read t kept_here room old new table stamp next n (n + 1)
+    unfolding numbers_of refuse_if
+    kept_stored h {old} {new} z =
         record {
           kept = told.clause ∷ [];
           is = by_size ∙ rw (le-ltb room n h) refl;
           one = omega arith;
-          literals = sym one-literals;
-          numbers = omega (arith, one-literals);
+          literals = sym one_literals;
+          numbers = omega (arith, one_literals);
           within = told.within;
           few = h;
-          stored = z ∙ ap (sets old 0) (told.entered ∙ sym (entries-one told.clause));
+          stored = z ∙ ap (sets old 0) (told.entered ∙ sym (entries_one told.clause));
           below = told.below;
         }
 
@@ -125,17 +125,17 @@ pub record Reading (most : Limits) (v c : ℕ) (text : Bytes) (old : List ℤ) (
   pub inside : at ≤ length text
   pub few : done ≤ c
   pub fewer : length read ≤ done
-  pub literals : total ≡ literals-of read
+  pub literals : total ≡ literals_of read
   pub low : total ≤ most.literals
   pub filled : end ≡ numbers_of read
-  pub below : At-most table done
+  pub below : AtMost table done
   pub size : length store ≡ length old
   pub stored : store ≡ sets old 0 (entries read)
-  pub same : read-rest most v c done read [] (words (drop at text)) ≡ read-clauses most (header_of v c text)
+  pub same : read_rest most v c done read [] (words (drop at text)) ≡ read_clauses most (header_of v c text)
 
-pub reading-start : (most : Limits) (v c : ℕ) (text : Bytes) (old : List ℤ) (n : ℕ) → Reading most v c text old (replicate n 0) old 0 0 0 0
-unfolding read-rest read-clauses literals-of numbers_of sum_of entries for-each
-reading-start most v c text old n = record {
+pub reading_start : (most : Limits) (v c : ℕ) (text : Bytes) (old : List ℤ) (n : ℕ) → Reading most v c text old (replicate n 0) old 0 0 0 0
+unfolding read_rest read_clauses literals_of numbers_of sum_of entries for_each
+reading_start most v c text old n = record {
   read = [];
   inside = omega arith;
   few = omega arith;
@@ -143,7 +143,7 @@ reading-start most v c text old n = record {
   literals = refl;
   low = omega arith;
   filled = refl;
-  below = zeros-at-most n 0;
+  below = zeros_at_most n 0;
   size = refl;
   stored = refl;
   same = refl;
@@ -151,56 +151,56 @@ reading-start most v c text old n = record {
 
 module _ {most : Limits} {v c : ℕ} {text : Bytes} {old : List ℤ} {table : List ℕ} {store : List ℤ} {at done total end : ℕ} (g : Reading most v c text old table store at done total end) where
   abbrev whole : Checked Input
-  whole = read-clauses most (header_of v c text)
+  whole = read_clauses most (header_of v c text)
 
-  pub reading-filled : end ≤ total + done
-  reading-filled = omega (arith, g.filled, g.literals, g.fewer, numbers-is g.read)
+  pub reading_filled : end ≤ total + done
+  reading_filled = omega (arith, g.filled, g.literals, g.fewer, numbers_is g.read)
 
-  pub reading-fresh : Fresh table (done + 1)
-  reading-fresh = fresh-more table done g.below
+  pub reading_fresh : Fresh table (done + 1)
+  reading_fresh = fresh_more table done g.below
 
   -- all clauses are read
-  rest-is : (ws : List Bytes) → words-by blank (drop at text) ≡ ws → read-rest most v c done g.read [] ws ≡ whole
-  rest-is ws e = ap (read-rest most v c done g.read []) (sym (words-blank (drop at text) ∙ e)) ∙ g.same
+  rest_is : (ws : List Bytes) → words_by blank (drop at text) ≡ ws → read_rest most v c done g.read [] ws ≡ whole
+  rest_is ws e = ap (read_rest most v c done g.read []) (sym (words_blank (drop at text) ∙ e)) ∙ g.same
 
-  pub reading-end : c ≤ done → words-by blank (drop at text) ≡ [] → (FormulaRead.Formula v c total end ≡ read_of whole) × Filled whole old store
-  reading-end h e =
-      let o : whole ≡ value (as_read v c g.read) = sym (rest-is [] e) ∙ rest-none most v c done g.read h in
-      rw (g.literals, g.filled) (read-accepted old store o g.stored)
+  pub reading_end : c ≤ done → words_by blank (drop at text) ≡ [] → (FormulaRead.Formula v c total end ≡ read_of whole) × Filled whole old store
+  reading_end h e =
+      let o : whole ≡ value (as_read v c g.read) = sym (rest_is [] e) ∙ rest_none most v c done g.read h in
+      rw (g.literals, g.filled) (read_accepted old store o g.stored)
 
-  pub reading-more : c ≤ done → {w : Bytes} {ws : List Bytes} → words-by blank (drop at text) ≡ w ∷ ws → (FormulaRead.Fault 8 ≡ read_of whole) × Filled whole old store
-  reading-more h {w} {ws} e = read-refused old store (sym (rest-is (w ∷ ws) e) ∙ rest_some most v c done g.read h w ws)
+  pub reading_more : c ≤ done → {w : Bytes} {ws : List Bytes} → words_by blank (drop at text) ≡ w ∷ ws → (FormulaRead.Fault 8 ≡ read_of whole) × Filled whole old store
+  reading_more h {w} {ws} e = read_refused old store (sym (rest_is (w ∷ ws) e) ∙ rest_some most v c done g.read h w ws)
 
   -- a clause more, read from the rest of the text into the rest of the store
   module _ (h : done < c) {rest : Bytes} (r : rest ≡ drop at text) {to : ℕ} (m : to ≡ min end (length store)) where
-    abbrev read-on : Checked Kept-read
-    read-on = first-kept v (most.literals - total) [] (words rest)
+    abbrev read_on : Checked KeptRead
+    read_on = first_kept v (most.literals - total) [] (words rest)
 
-    next : (o : Checked Kept-read) → read-on ≡ o → (o >>= λ d. read-rest most v c (done + 1) (g.read ++ d.kept) [] d.after) ≡ whole
+    next : (o : Checked KeptRead) → read_on ≡ o → (o >>= λ d. read_rest most v c (done + 1) (g.read ++ d.kept) [] d.after) ≡ whole
     next o q =
-        ap (λ (x : Checked Kept-read). x >>= λ d. read-rest most v c (done + 1) (g.read ++ d.kept) [] d.after) (sym q ∙ ap (λ (n : ℕ). first-kept v (most.literals - n) [] (words rest)) g.literals)
-        ∙ sym (by-clause most v c done g.read h (omega (arith, g.low, g.literals)) [] (words rest))
-        ∙ ap (λ (u : Bytes). read-rest most v c done g.read [] (words u)) r
+        ap (λ (x : Checked KeptRead). x >>= λ d. read_rest most v c (done + 1) (g.read ++ d.kept) [] d.after) (sym q ∙ ap (λ (n : ℕ). first_kept v (most.literals - n) [] (words rest)) g.literals)
+        ∙ sym (by_clause most v c done g.read h (omega (arith, g.low, g.literals)) [] (words rest))
+        ∙ ap (λ (u : Bytes). read_rest most v c done g.read [] (words u)) r
         ∙ g.same
 
-    module _ (after : List ℕ) (new : List ℤ) (a : ClauseRead) (p : Clause-post rest read-on (most.literals - total) (take (length store - to) (drop to store)) new after (done + 1) a) where
+    module _ (after : List ℕ) (new : List ℤ) (a : ClauseRead) (p : ClausePost rest read_on (most.literals - total) (take (length store - to) (drop to store)) new after (done + 1) a) where
       abbrev Told : ClauseRead → Type 0
-      Told x = Clause-post rest read-on (most.literals - total) (take (length store - to) (drop to store)) new after (done + 1) x
+      Told x = ClausePost rest read_on (most.literals - total) (take (length store - to) (drop to store)) new after (done + 1) x
 
       abbrev stored_on : List ℤ
       stored_on = take to store ++ (new ++ drop (length store - to) (drop to store))
 
-      pub reading-fault : {n : ℕ} → a ≡ ClauseRead.Fault n → (FormulaRead.Fault n ≡ read_of whole) × Filled whole old stored_on
+      pub reading_fault : {n : ℕ} → a ≡ ClauseRead.Fault n → (FormulaRead.Fault n ≡ read_of whole) × Filled whole old stored_on
       unfolding ◌>>=◌
-      reading-fault {n} q = read-refused old stored_on (sym (next (fault n) (subst Told q p)))
+      reading_fault {n} q = read_refused old stored_on (sym (next (fault n) (subst Told q p)))
 
-      pub reading-on : {j n k : ℕ} → a ≡ ClauseRead.Done j n k → Reading most v c text old after stored_on (at + j) (done + 1) (total + n) (end + k)
+      pub reading_on : {j n k : ℕ} → a ≡ ClauseRead.Done j n k → Reading most v c text old after stored_on (at + j) (done + 1) (total + n) (end + k)
       unfolding ◌>>=◌
-      reading-on {j} {n} {k} q =
+      reading_on {j} {n} {k} q =
           let e = subst Told q p in
           let f = e.kept in
-          let s : stored_on ≡ sets store end (entries f) = sets-capped (entries f) store new end to m e.stored in
-          let z : end ≡ 0 + length (entries g.read) = omega (arith, g.filled, entries-numbers g.read) in
+          let s : stored_on ≡ sets store end (entries f) = sets_capped (entries f) store new end to m e.stored in
+          let z : end ≡ 0 + length (entries g.read) = omega (arith, g.filled, entries_numbers g.read) in
           record {
             read = g.read ++ f;
             inside = omega (arith, e.within, ap length r, length-drop at text);
@@ -217,31 +217,31 @@ module _ {most : Limits} {v c : ℕ} {text : Bytes} {old : List ℤ} {table : Li
                 ∙ ap (λ (x : ℕ). sets (sets old 0 (entries g.read)) x (entries f)) z
                 ∙ sets_then (entries g.read) (entries f) old 0
                 ∙ ap (sets old 0) (sym (entries-++ g.read f));
-            same = ap (λ (u : Bytes). read-rest most v c (done + 1) (g.read ++ f) [] (words u)) (sym (ap (drop j) r ∙ drop-drop j at text)) ∙ next (value (record { kept = f; after = words (drop j rest) })) e.is;
+            same = ap (λ (u : Bytes). read_rest most v c (done + 1) (g.read ++ f) [] (words u)) (sym (ap (drop j) r ∙ drop-drop j at text)) ∙ next (value (record { kept = f; after = words (drop j rest) })) e.is;
           }
 
 -- ---- after the header
 
-module _ (m : Code.Limits) (t : Bytes) (a : Code-header.Header) (p : Header-post t (read-header (limits_of m) t) a) where
-  abbrev Found : Code-header.Header → Type 0
-  Found x = Header-post t (read-header (limits_of m) t) x
+module _ (m : Code.Limits) (t : Bytes) (a : CodeHeader.Header) (p : HeaderPost t (read_header (limits_of m) t) a) where
+  abbrev Found : CodeHeader.Header → Type 0
+  Found x = HeaderPost t (read_header (limits_of m) t) x
 
-  pub header-fault : (old new : List ℤ) {n : ℕ} → a ≡ Found-header.Fault n → (FormulaRead.Fault n ≡ read_of (read-formula (limits_of m) t)) × Filled (read-formula (limits_of m) t) old new
-  unfolding read-formula ◌>>=◌
-  header-fault old new q = read-refused old new (rw (subst Found q p) refl)
+  pub header_fault : (old new : List ℤ) {n : ℕ} → a ≡ FoundHeader.Fault n → (FormulaRead.Fault n ≡ read_of (read_formula (limits_of m) t)) × Filled (read_formula (limits_of m) t) old new
+  unfolding read_formula ◌>>=◌
+  header_fault old new q = read_refused old new (rw (subst Found q p) refl)
 
-  module _ {v c next : ℕ} (q : a ≡ Found-header.Numbers v c next) where
-    pub header-next : next ≤ length t
-    header-next = (subst Found q p).1
+  module _ {v c next : ℕ} (q : a ≡ FoundHeader.Numbers v c next) where
+    pub header_next : next ≤ length t
+    header_next = (subst Found q p).1
 
-    pub header-within : Header-few (limits_of m) (header_of v c (drop next t))
-    header-within = header-few (limits_of m) t _ (subst Found q p).0
+    pub header_within : HeaderFew (limits_of m) (header_of v c (drop next t))
+    header_within = header_few (limits_of m) t _ (subst Found q p).0
 
-    formula-clauses : {rest : Bytes} → rest ≡ drop next t → read-clauses (limits_of m) (header_of v c rest) ≡ read-formula (limits_of m) t
-    unfolding read-formula ◌>>=◌
-    formula-clauses r = rw ((subst Found q p).0, r) refl
+    formula_clauses : {rest : Bytes} → rest ≡ drop next t → read_clauses (limits_of m) (header_of v c rest) ≡ read_formula (limits_of m) t
+    unfolding read_formula ◌>>=◌
+    formula_clauses r = rw ((subst Found q p).0, r) refl
 
-    pub header-clauses : {rest : Bytes} → rest ≡ drop next t → (x : FormulaRead) (old new : List ℤ) →
-        (x ≡ read_of (read-clauses (limits_of m) (header_of v c rest))) × Filled (read-clauses (limits_of m) (header_of v c rest)) old new →
-        (x ≡ read_of (read-formula (limits_of m) t)) × Filled (read-formula (limits_of m) t) old new
-    header-clauses r x old new e = subst (λ (o : Checked Input). (x ≡ read_of o) × Filled o old new) (formula-clauses r) e
+    pub header_clauses : {rest : Bytes} → rest ≡ drop next t → (x : FormulaRead) (old new : List ℤ) →
+        (x ≡ read_of (read_clauses (limits_of m) (header_of v c rest))) × Filled (read_clauses (limits_of m) (header_of v c rest)) old new →
+        (x ≡ read_of (read_formula (limits_of m) t)) × Filled (read_formula (limits_of m) t) old new
+    header_clauses r x old new e = subst (λ (o : Checked Input). (x ≡ read_of o) × Filled o old new) (formula_clauses r) e

@@ -3,16 +3,16 @@ use Rattle.std.specs.Prelude.{◌≡◌, refl, true, cond, List, [], ◌∷◌, 
 use Rattle.std.proofs.Math.Option.{Option, some, none}
 use Rattle.std.proofs.lemmas.List.Edits.{sets}
 use Rattle.definition.specs.Lists as Lists
-use Rattle.definition.specs.Checked.{Checked, fault, value, ◌>>=◌, refuse-if}
+use Rattle.definition.specs.Checked.{Checked, fault, value, ◌>>=◌, refuse_if}
 use Rattle.definition.specs.Checked as Checked
-use Rattle.definition.specs.Literals.{Clause, Formula, with-literal, opposed, literals-of}
+use Rattle.definition.specs.Literals.{Clause, Formula, with_literal, opposed, literals_of}
 use Rattle.definition.specs.Literals as Literals
 use Rattle.definition.specs.Text.{Bytes, bytes, words, number}
 use Rattle.definition.specs.Text as Text
 use Rattle.definition.specs.Reading.{kept_of}
 use Rattle.definition.specs.Calls.{numbers_of}
 use Rattle.theory_base.specs.Clauses.{Proper}
-use Rattle.tables.specs.Stamps.{At-most, Marks}
+use Rattle.tables.specs.Stamps.{AtMost, Marks}
 use Rattle.dimacs.specs.Entries.{entry, entries}
 use Rattle.dimacs.specs.declared.Item.{Item}
 use Rattle.dimacs.specs.declared.Item.TheVariants as Item
@@ -26,18 +26,18 @@ use Rattle.dimacs.specs.declared.ClauseRead.{ClauseRead}
 use Rattle.dimacs.specs.declared.ClauseRead.TheVariants as ClauseRead
 
 -- ---- a word: 3, the clause's end, 4, or a literal
-abbrev pub number-item : ℕ → Option ℤ → Item
-number-item v none = Item.Fault 3
-number-item v (some l) = cond (eqb 0 (nat_abs l)) Item.Zero (cond (ltb v (nat_abs l)) (Item.Fault 4) (Item.Literal l))
+abbrev pub number_item : ℕ → Option ℤ → Item
+number_item v none = Item.Fault 3
+number_item v (some l) = cond (eqb 0 (nat_abs l)) Item.Zero (cond (ltb v (nat_abs l)) (Item.Fault 4) (Item.Literal l))
 
 -- ---- the literals of a clause
 
 -- each literal at its first place, and the words after the clause
-pub record Clause-read : Type 0 where
+pub record ClauseIsRead : Type 0 where
   pub clause : Clause
   pub after : List Bytes
 
-abbrev pub finished : Clause → List Bytes → Checked Clause-read
+abbrev pub finished : Clause → List Bytes → Checked ClauseIsRead
 finished c ws = value (record { clause = c; after = ws })
 
 -- the text ends after so many literals of a clause: 7, or 8 where the clause is missing
@@ -46,15 +46,15 @@ ended zero = 8
 ended (suc n) = 7
 
 -- by what the next word says; more goes on with one literal more
-abbrev pub clause-by : Clause → List Bytes → (Clause → Checked Clause-read) → Item → Checked Clause-read
-clause-by here ws more (Item.Fault n) = fault n
-clause-by here ws more Item.Zero = finished here ws
-clause-by here ws more (Item.Literal l) = more (with-literal l here)
+abbrev pub clause_by : Clause → List Bytes → (Clause → Checked ClauseIsRead) → Item → Checked ClauseIsRead
+clause_by here ws more (Item.Fault n) = fault n
+clause_by here ws more Item.Zero = finished here ws
+clause_by here ws more (Item.Literal l) = more (with_literal l here)
 
 -- the clause at the start of words, after the literals in here
-unfoldable pub first-clause : ℕ → Clause → List Bytes → Checked Clause-read
-first-clause v here [] = fault (ended (length here))
-first-clause v here (w ∷ ws) = clause-by here ws (λ h. first-clause v h ws) (number-item v (number w))
+unfoldable pub first_clause : ℕ → Clause → List Bytes → Checked ClauseIsRead
+first_clause v here [] = fault (ended (length here))
+first_clause v here (w ∷ ws) = clause_by here ws (λ h. first_clause v h ws) (number_item v (number w))
 
 -- ---- the rest of a clause that is left out: 3, 4, 7, or the words after it
 
@@ -63,14 +63,14 @@ past_by ws more (Item.Fault n) = fault n
 past_by ws more Item.Zero = value ws
 past_by ws more (Item.Literal l) = more
 
-unfoldable pub past-clause : ℕ → List Bytes → Checked (List Bytes)
-past-clause v [] = fault 7
-past-clause v (w ∷ ws) = past_by ws (past-clause v ws) (number-item v (number w))
+unfoldable pub past_clause : ℕ → List Bytes → Checked (List Bytes)
+past_clause v [] = fault 7
+past_clause v (w ∷ ws) = past_by ws (past_clause v ws) (number_item v (number w))
 
 -- the words after it are those of the text after the next place
-abbrev pub Skip-post : Bytes → Checked (List Bytes) → Skipped → Type 0
-Skip-post t o (Skipped.Fault n) = o ≡ fault n
-Skip-post t o (Skipped.To next) = (o ≡ value (words (drop next t))) × (next ≤ length t)
+abbrev pub SkipPost : Bytes → Checked (List Bytes) → Skipped → Type 0
+SkipPost t o (Skipped.Fault n) = o ≡ fault n
+SkipPost t o (Skipped.To next) = (o ≡ value (words (drop next t))) × (next ≤ length t)
 
 abbrev pub left_out : Skipped → Gathered
 left_out (Skipped.To next) = Gathered.LeftOut next
@@ -86,12 +86,12 @@ pub record Holding (old held : List ℤ) (table : List ℕ) (stamp : ℕ) (here 
   pub marks : Marks table stamp here
 
 -- with a literal more, the literals are held, or one is opposed
-abbrev pub Hold-post : List ℤ → List ℤ → List ℕ → ℕ → Clause → ℤ → Held → Type 0
-Hold-post old held table stamp here l (Held.Count n) = Holding old held table stamp (with-literal l here) n
-Hold-post old held table stamp here l Held.Opposed = (opposed (with-literal l here) ≡ true) × At-most table stamp
+abbrev pub HoldPost : List ℤ → List ℤ → List ℕ → ℕ → Clause → ℤ → Held → Type 0
+HoldPost old held table stamp here l (Held.Count n) = Holding old held table stamp (with_literal l here) n
+HoldPost old held table stamp here l Held.Opposed = (opposed (with_literal l here) ≡ true) × AtMost table stamp
 
 -- a proper clause that is held
-pub record Kept (t : Bytes) (o : Checked Clause-read) (held : List ℤ) (table : List ℕ) (stamp v next count : ℕ) : Type 0 where
+pub record Kept (t : Bytes) (o : Checked ClauseIsRead) (held : List ℤ) (table : List ℕ) (stamp v next count : ℕ) : Type 0 where
   pub clause : Clause
   pub is : o ≡ finished clause (words (drop next t))
   pub size : count ≡ length clause
@@ -99,56 +99,56 @@ pub record Kept (t : Bytes) (o : Checked Clause-read) (held : List ℤ) (table :
   pub few : count ≤ v
   pub within : next ≤ length t
   pub entered : take (count + 1) held ≡ entry clause
-  pub below : At-most table stamp
+  pub below : AtMost table stamp
 
-pub record Left-out (t : Bytes) (o : Checked Clause-read) (table : List ℕ) (stamp next : ℕ) : Type 0 where
+pub record LeftOut (t : Bytes) (o : Checked ClauseIsRead) (table : List ℕ) (stamp next : ℕ) : Type 0 where
   pub clause : Clause
   pub is : o ≡ finished clause (words (drop next t))
   pub tautology : opposed clause ≡ true
   pub within : next ≤ length t
-  pub below : At-most table stamp
+  pub below : AtMost table stamp
 
-abbrev pub Gather-post : Bytes → Checked Clause-read → List ℤ → List ℕ → ℕ → ℕ → Gathered → Type 0
-Gather-post t o held table stamp v (Gathered.Fault n) = o ≡ fault n
-Gather-post t o held table stamp v (Gathered.LeftOut next) = Left-out t o table stamp next
-Gather-post t o held table stamp v (Gathered.Kept next count) = Kept t o held table stamp v next count
+abbrev pub GatherPost : Bytes → Checked ClauseIsRead → List ℤ → List ℕ → ℕ → ℕ → Gathered → Type 0
+GatherPost t o held table stamp v (Gathered.Fault n) = o ≡ fault n
+GatherPost t o held table stamp v (Gathered.LeftOut next) = LeftOut t o table stamp next
+GatherPost t o held table stamp v (Gathered.Kept next count) = Kept t o held table stamp v next count
 
 -- ---- what is kept of a clause
 
 -- and the words after the clause
-pub record Kept-read : Type 0 where
+pub record KeptRead : Type 0 where
   pub kept : Formula
   pub after : List Bytes
 
 -- 9 where it has more literals than there is room for
-abbrev pub kept-within : ℕ → Clause-read → Checked Kept-read
-kept-within room r =
-    refuse-if (ltb room (literals-of (kept_of r.clause))) 9
+abbrev pub kept_within : ℕ → ClauseIsRead → Checked KeptRead
+kept_within room r =
+    refuse_if (ltb room (literals_of (kept_of r.clause))) 9
     (value (record { kept = kept_of r.clause; after = r.after }))
 
-unfoldable pub first-kept : ℕ → ℕ → Clause → List Bytes → Checked Kept-read
-first-kept v room here ws = first-clause v here ws >>= kept-within room
+unfoldable pub first_kept : ℕ → ℕ → Clause → List Bytes → Checked KeptRead
+first_kept v room here ws = first_clause v here ws >>= kept_within room
 
 -- it is stored; the words after it are those of the text after the next place
-pub record Read (t : Bytes) (o : Checked Kept-read) (room : ℕ) (old new : List ℤ) (table : List ℕ) (stamp next count filled : ℕ) : Type 0 where
+pub record Read (t : Bytes) (o : Checked KeptRead) (room : ℕ) (old new : List ℤ) (table : List ℕ) (stamp next count filled : ℕ) : Type 0 where
   pub kept : Formula
   pub is : o ≡ value (record { kept = kept; after = words (drop next t) })
   pub one : length kept ≤ 1
-  pub literals : count ≡ literals-of kept
+  pub literals : count ≡ literals_of kept
   pub numbers : filled ≡ numbers_of kept
   pub within : next ≤ length t
   pub few : count ≤ room
   pub stored : new ≡ sets old 0 (entries kept)
-  pub below : At-most table stamp
+  pub below : AtMost table stamp
 
-abbrev pub Clause-post : Bytes → Checked Kept-read → ℕ → List ℤ → List ℤ → List ℕ → ℕ → ClauseRead → Type 0
-Clause-post t o room old new table stamp (ClauseRead.Fault n) = o ≡ fault n
-Clause-post t o room old new table stamp (ClauseRead.Done next count filled) = Read t o room old new table stamp next count filled
+abbrev pub ClausePost : Bytes → Checked KeptRead → ℕ → List ℤ → List ℤ → List ℕ → ℕ → ClauseRead → Type 0
+ClausePost t o room old new table stamp (ClauseRead.Fault n) = o ≡ fault n
+ClausePost t o room old new table stamp (ClauseRead.Done next count filled) = Read t o room old new table stamp next count filled
 
 examples :
-    (first-clause 3 [] (words (bytes "1 -2 1 0 3 0")) ≡ finished (pos 1 ∷ negsuc 1 ∷ []) (words (bytes "3 0")))
-    × (past-clause 3 (words (bytes "1 2 0 3 0")) ≡ value (words (bytes "3 0")))
-    × (first-kept 1 0 [] (words (bytes "1 -1 0")) ≡ value (record { kept = []; after = [] }))
-    × (first-kept 3 1 [] (words (bytes "1 2 0")) ≡ fault 9) × (first-clause 3 [] (words (bytes "1")) ≡ fault 7)
-unfolding first-clause past-clause first-kept kept_of Checked.computing Text.computing Lists.computing Literals.computing
+    (first_clause 3 [] (words (bytes "1 -2 1 0 3 0")) ≡ finished (pos 1 ∷ negsuc 1 ∷ []) (words (bytes "3 0")))
+    × (past_clause 3 (words (bytes "1 2 0 3 0")) ≡ value (words (bytes "3 0")))
+    × (first_kept 1 0 [] (words (bytes "1 -1 0")) ≡ value (record { kept = []; after = [] }))
+    × (first_kept 3 1 [] (words (bytes "1 2 0")) ≡ fault 9) × (first_clause 3 [] (words (bytes "1")) ≡ fault 7)
+unfolding first_clause past_clause first_kept kept_of Checked.computing Text.computing Lists.computing Literals.computing
 examples = (refl, refl, refl, refl, refl)

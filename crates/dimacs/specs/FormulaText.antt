@@ -2,17 +2,17 @@
 use Rattle.std.specs.Prelude.{◌≡◌, refl, cond, List, [], ◌++◌, ℕ, ℤ}
 use Rattle.definition.specs.Text.{Bytes, bytes, digits}
 use Rattle.definition.specs.Text as Text
-use Rattle.definition.specs.Log.{clause-text}
-use Rattle.store.specs.Store.{deleted-at, clause-at}
+use Rattle.definition.specs.Log.{clause_text}
+use Rattle.store.specs.Store.{deleted_at, clause_at}
 
 -- the header line of a formula
-unfoldable pub header-text : ℕ → ℕ → Bytes
-header-text h m = bytes "p cnf " ++ digits h ++ bytes " " ++ digits m ++ bytes "\n"
+unfoldable pub header_text : ℕ → ℕ → Bytes
+header_text h m = bytes "p cnf " ++ digits h ++ bytes " " ++ digits m ++ bytes "\n"
 
 -- the clause at a place of a store, if it stands
-abbrev pub entry-text : List ℤ → ℕ → Bytes
-entry-text s at = cond (deleted-at s at) [] (clause-text (clause-at s at))
+abbrev pub entry_text : List ℤ → ℕ → Bytes
+entry_text s at = cond (deleted_at s at) [] (clause_text (clause_at s at))
 
-example : header-text 10 8 ≡ bytes "p cnf 10 8\n"
-unfolding header-text Text.computing
+example : header_text 10 8 ≡ bytes "p cnf 10 8\n"
+unfolding header_text Text.computing
 example = refl

@@ -11,20 +11,20 @@ use Rattle.dimacs.specs.declared.Counts.TheVariants as Counts
 use Rattle.dimacs.specs.declared.Header as Code
 use Rattle.dimacs.specs.declared.Header.TheVariants as Header
 
-abbrev pub counts-by : Limits → Natural → Natural → Counts
-counts-by most Natural.NotANumber c = Counts.Fault 1
-counts-by most Natural.Large Natural.NotANumber = Counts.Fault 1
-counts-by most Natural.Large Natural.Large = Counts.Fault 2
-counts-by most Natural.Large (Natural.Value y) = Counts.Fault 2
-counts-by most (Natural.Value x) Natural.NotANumber = Counts.Fault 1
-counts-by most (Natural.Value x) Natural.Large = Counts.Fault 2
-counts-by most (Natural.Value x) (Natural.Value y) = cond (ltb most.variables x || ltb most.clauses y) (Counts.Fault 2) (Counts.Numbers x y)
+abbrev pub counts_by : Limits → Natural → Natural → Counts
+counts_by most Natural.NotANumber c = Counts.Fault 1
+counts_by most Natural.Large Natural.NotANumber = Counts.Fault 1
+counts_by most Natural.Large Natural.Large = Counts.Fault 2
+counts_by most Natural.Large (Natural.Value y) = Counts.Fault 2
+counts_by most (Natural.Value x) Natural.NotANumber = Counts.Fault 1
+counts_by most (Natural.Value x) Natural.Large = Counts.Fault 2
+counts_by most (Natural.Value x) (Natural.Value y) = cond (ltb most.variables x || ltb most.clauses y) (Counts.Fault 2) (Counts.Numbers x y)
 
 abbrev pub counts_of : Checked Header → Counts
 counts_of (fault n) = Counts.Fault n
 counts_of (value h) = Counts.Numbers h.variables h.clauses
 
 -- the answer, and the outcome that it tells; the words after the header are those of the text after the next place
-abbrev pub Header-post : Bytes → Checked Header → Code.Header → Type 0
-Header-post t o (Header.Fault n) = o ≡ fault n
-Header-post t o (Header.Numbers v c next) = (o ≡ value (record { variables = v; clauses = c; after = words (drop next t) })) × (next ≤ length t)
+abbrev pub HeaderPost : Bytes → Checked Header → Code.Header → Type 0
+HeaderPost t o (Header.Fault n) = o ≡ fault n
+HeaderPost t o (Header.Numbers v c next) = (o ≡ value (record { variables = v; clauses = c; after = words (drop next t) })) × (next ≤ length t)

@@ -1,10 +1,10 @@
 -- The most that a text may have.
 use Rattle.std.specs.Prelude.{◌≤◌}
-use Rattle.definition.specs.Reading.{Limits as Definition-limits}
+use Rattle.definition.specs.Reading.{Limits as DefinitionLimits}
 use Rattle.dimacs.specs.declared.Limits.{Limits}
 
 -- as the definition names it
-abbrev pub limits_of : Limits → Definition-limits
+abbrev pub limits_of : Limits → DefinitionLimits
 limits_of m = record { variables = m.variables; clauses = m.clauses; literals = m.literals }
 
 -- limits that the reader's numbers can tell

@@ -1,22 +1,22 @@
 // DIMACS CNF: a formula read into a store, and written from one.
 ghost use Rattle.std.specs.Prelude.{◌≡◌, false, List, [], ◌++◌, ◌+◌, ◌*◌, ◌-◌, ◌≤◌, ◌<◌, ◌^◌, ℤ, length, drop};
-ghost use Rattle.definition.specs.Lists.{for-each};
+ghost use Rattle.definition.specs.Lists.{for_each};
 ghost use Rattle.definition.specs.Literals.{Clause};
-ghost use Rattle.definition.specs.Text.{is, number, past-comments, words, fields};
-ghost use Rattle.definition.specs.Reading.{input-limits, read-back-limits, read-header-fields, read-header, read-clauses, read-formula};
-ghost use Rattle.definition.specs.Log.{clause-text, formula-text};
+ghost use Rattle.definition.specs.Text.{is, number, past_comments, words, fields};
+ghost use Rattle.definition.specs.Reading.{input_limits, read_back_limits, read_header_fields, read_header, read_clauses, read_formula};
+ghost use Rattle.definition.specs.Log.{clause_text, formula_text};
 ghost use Rattle.theory_text.specs.Runs.{letters};
 ghost use Rattle.theory_text.specs.HeaderLine.{marker};
 ghost use Rattle.text.specs.Output.{Put};
 ghost use Rattle.store.specs.Store.{Formed, stored, past};
-ghost use Rattle.tables.specs.Sizes.{log-reach, log-size};
+ghost use Rattle.tables.specs.Sizes.{log_reach, log_size};
 ghost use Rattle.theory_base.specs.Clauses.{Fit};
 ghost use Rattle.tables.specs.Stamps.{Fresh};
 ghost use Rattle.dimacs.specs.Limits.{limits_of, Countable};
-ghost use Rattle.dimacs.specs.HeaderLine.{counts-by, counts_of, Header-post};
-ghost use Rattle.dimacs.specs.Clause.{number-item, ended, first-clause, past-clause, Skip-post, Holding, Hold-post, left_out, Gather-post, first-kept, Clause-post};
+ghost use Rattle.dimacs.specs.HeaderLine.{counts_by, counts_of, HeaderPost};
+ghost use Rattle.dimacs.specs.Clause.{number_item, ended, first_clause, past_clause, SkipPost, Holding, HoldPost, left_out, GatherPost, first_kept, ClausePost};
 ghost use Rattle.dimacs.specs.Outcome.{header_of, read_of, Filled};
-ghost use Rattle.dimacs.specs.FormulaText.{header-text, entry-text};
+ghost use Rattle.dimacs.specs.FormulaText.{header_text, entry_text};
 
 use tables::Marked;
 use text::{Line, Natural, Number, Word};
@@ -33,7 +33,7 @@ pub struct Limits {
 
 // Document 01's limits for the formula.
 pub fn input_limits() -> Limits
-    ensures { (limits_of result ≡ input-limits) × Countable result }
+    ensures { (limits_of result ≡ input_limits) × Countable result }
 {
     Limits {
         variables: tables::INPUT_REACH,
@@ -44,7 +44,7 @@ pub fn input_limits() -> Limits
 
 // Document 01's limits for the new formula read back.
 pub fn read_back_limits() -> Limits
-    ensures { (limits_of result ≡ read-back-limits) × Countable result }
+    ensures { (limits_of result ≡ read_back_limits) × Countable result }
 {
     Limits {
         variables: tables::LOG_REACH,
@@ -79,7 +79,7 @@ enum Header {
 // The place past the lines at the start that begin with `c`.
 fn skip_comments(text: &[u8]) -> usize
     ensures within { result ≤ length text.now }
-    ensures rest { drop result text.now ≡ past-comments false text.now }
+    ensures rest { drop result text.now ≡ past_comments false text.now }
 {
     let mut commented = false;
     let mut at = 0;
@@ -101,7 +101,7 @@ fn skip_comments(text: &[u8]) -> usize
 
 // V and C by what their words say.
 fn counts_from(v: Natural, c: Natural, most: Limits) -> Counts
-    ensures { result ≡ counts-by most v c }
+    ensures { result ≡ counts_by most v c }
 {
     match v {
         Natural::NotANumber => Counts::Fault(1),
@@ -143,7 +143,7 @@ fn first_blank(text: &[u8]) -> usize
 // V and C of a line that begins with `p cnf `, from what follows.
 fn split_counts(rest: &[u8], most: Limits) -> Counts
     requires { Countable most }
-    ensures { result ≡ counts_of (read-header-fields (limits_of most) (fields (marker ++ rest.now)) []) }
+    ensures { result ≡ counts_of (read_header_fields (limits_of most) (fields (marker ++ rest.now)) []) }
 {
     let first = first_blank(rest);
     if first == rest.len() {
@@ -158,7 +158,7 @@ fn split_counts(rest: &[u8], most: Limits) -> Counts
 // V and C of a line.
 fn read_counts(line: &[u8], most: Limits) -> Counts
     requires { Countable most }
-    ensures { result ≡ counts_of (read-header-fields (limits_of most) (fields line.now) []) }
+    ensures { result ≡ counts_of (read_header_fields (limits_of most) (fields line.now) []) }
 {
     if text::begins(line, b"p cnf ") {
         split_counts(&line[6..], most)
@@ -170,7 +170,7 @@ fn read_counts(line: &[u8], most: Limits) -> Counts
 // The header of a text, after the lines that begin with `c`.
 fn read_header(text: &[u8], most: Limits) -> Header
     requires { Countable most }
-    ensures { Header-post text.now (read-header (limits_of most) text.now) result }
+    ensures { HeaderPost text.now (read_header (limits_of most) text.now) result }
 {
     let at = skip_comments(text);
     match text::next_line(text, at) {
@@ -194,8 +194,8 @@ enum Item {
 
 // What a word says: 3, 4.
 fn number_item(word: &[u8], variables: u32) -> Item
-    requires { variables ≤ log-reach }
-    ensures { result ≡ number-item variables (number word.now) }
+    requires { variables ≤ log_reach }
+    ensures { result ≡ number_item variables (number word.now) }
 {
     match text::read_number(word) {
         Number::NotANumber => Item::Fault(3),
@@ -228,9 +228,9 @@ enum Skipped {
 
 // Reads from a place inside a clause to its end: 3, 4, 7.
 fn skip_clause(text: &[u8], from: usize, variables: u32) -> Skipped
-    requires variables_le_log_reach { variables ≤ log-reach }
+    requires variables_le_log_reach { variables ≤ log_reach }
     requires from_in_bounds { from ≤ length text.now }
-    ensures { Skip-post text.now (past-clause variables (words (drop from text.now))) result }
+    ensures { SkipPost text.now (past_clause variables (words (drop from text.now))) result }
 {
     let mut at = from;
     loop {
@@ -263,10 +263,10 @@ enum Held {
 // Holds a literal behind n others unless it is one of them. The table seen has an entry for each literal, the stamp of the
 // clause in which it was last read.
 fn hold_literal(seen: &mut [u32], stamp: u32, held: &mut [i32], n: usize, l: i32) -> Held
-    requires fit { Fit log-reach l }
-    requires log_size_in_bounds { log-size ≤ length seen.old }
+    requires fit { Fit log_reach l }
+    requires log_size_in_bounds { log_size ≤ length seen.old }
     requires n_bound { n + 1 < 2 ^ 64 }
-    ensures { (old : List ℤ) (here : Clause) → Holding old held.old seen.old stamp here n → Hold-post old held.new seen.new stamp here l result }
+    ensures { (old : List ℤ) (here : Clause) → Holding old held.old seen.old stamp here n → HoldPost old held.new seen.new stamp here l result }
 {
     match tables::mark(seen, stamp, l) {
         Marked::Repeated => Held::Count(n),
@@ -306,11 +306,11 @@ fn gather_clause(
     variables: u32,
     held: &mut [i32],
 ) -> Gathered
-    requires variables_le_log_reach { variables ≤ log-reach }
-    requires log_size_in_bounds { log-size ≤ length seen.old }
+    requires variables_le_log_reach { variables ≤ log_reach }
+    requires log_size_in_bounds { log_size ≤ length seen.old }
     requires fresh { Fresh seen.old stamp }
-    requires log_reach_in_bounds { log-reach < length held.old }
-    ensures { Gather-post text.now (first-clause variables [] (words text.now)) held.new seen.new stamp variables result }
+    requires log_reach_in_bounds { log_reach < length held.old }
+    ensures { GatherPost text.now (first_clause variables [] (words text.now)) held.new seen.new stamp variables result }
 {
     let mut at = 0;
     let mut n: usize = 0;
@@ -359,11 +359,11 @@ fn read_clause(
     held: &mut [i32],
     store: &mut [i32],
 ) -> ClauseRead
-    requires variables_le_log_reach { variables ≤ log-reach }
-    requires log_size_in_bounds { log-size ≤ length seen.old }
+    requires variables_le_log_reach { variables ≤ log_reach }
+    requires log_size_in_bounds { log_size ≤ length seen.old }
     requires fresh { Fresh seen.old stamp }
-    requires log_reach_in_bounds { log-reach < length held.old }
-    ensures { Clause-post text.now (first-kept variables room [] (words text.now)) room store.old store.new seen.new stamp result }
+    requires log_reach_in_bounds { log_reach < length held.old }
+    ensures { ClausePost text.now (first_kept variables room [] (words text.now)) room store.old store.new seen.new stamp result }
 {
     match gather_clause(text, seen, stamp, variables, held) {
         Gathered::Fault(n) => ClauseRead::Fault(n),
@@ -400,11 +400,11 @@ fn read_clauses(
     most: Limits,
     store: &mut [i32],
 ) -> FormulaRead
-    requires variables_le_log_reach { variables ≤ log-reach }
+    requires variables_le_log_reach { variables ≤ log_reach }
     requires clauses_bound { clauses ≤ 1000000 }
     requires literals_bound { most.literals ≤ 1000000 }
-    ensures outcome { result ≡ read_of (read-clauses (limits_of most) (header_of variables clauses text.now)) }
-    ensures stored { Filled (read-clauses (limits_of most) (header_of variables clauses text.now)) store.old store.new }
+    ensures outcome { result ≡ read_of (read_clauses (limits_of most) (header_of variables clauses text.now)) }
+    ensures stored { Filled (read_clauses (limits_of most) (header_of variables clauses text.now)) store.old store.new }
 {
     let mut seen = [0u32; tables::LOG_SIZE];
     let mut held = [0i32; HELD];
@@ -445,8 +445,8 @@ fn read_clauses(
 // on, as far as the store goes.
 pub fn read(text: &[u8], most: Limits, store: &mut [i32]) -> FormulaRead
     requires { Countable most }
-    ensures outcome { result ≡ read_of (read-formula (limits_of most) text.now) }
-    ensures stored { Filled (read-formula (limits_of most) text.now) store.old store.new }
+    ensures outcome { result ≡ read_of (read_formula (limits_of most) text.now) }
+    ensures stored { Filled (read_formula (limits_of most) text.now) store.old store.new }
 {
     match read_header(text, most) {
         Header::Fault(n) => FormulaRead::Fault(n),
@@ -459,7 +459,7 @@ pub fn read(text: &[u8], most: Limits, store: &mut [i32]) -> FormulaRead
 // Writes the header line of a formula.
 fn put_header(buf: &mut [u8], at: usize, h: u32, m: u32) -> usize
     requires { at + 28 < 2 ^ 64 }
-    ensures written { Put buf.old at (header-text h m) result buf.new }
+    ensures written { Put buf.old at (header_text h m) result buf.new }
     ensures within { result ≤ at + 28 }
 {
     let a = text::put_text(buf, at, b"p cnf ");
@@ -473,7 +473,7 @@ fn put_header(buf: &mut [u8], at: usize, h: u32, m: u32) -> usize
 fn put_entry(buf: &mut [u8], end: usize, store: &[i32], at: usize) -> usize
     requires at_in_bounds { (at < length store.now) × Formed (drop at store.now) }
     requires at_bound { end + 12 * (length store.now - at) < 2 ^ 64 }
-    ensures written { Put buf.old end (entry-text store.now at) result buf.new }
+    ensures written { Put buf.old end (entry_text store.now at) result buf.new }
     ensures within { result ≤ end + 12 * (past store.now at - at) }
 {
     if literals::is_negative(store[at]) {
@@ -488,7 +488,7 @@ fn put_entry(buf: &mut [u8], end: usize, store: &[i32], at: usize) -> usize
 fn put_entries(buf: &mut [u8], from: usize, store: &[i32]) -> usize
     requires formed { Formed store.now }
     requires store_bound { from + 12 * length store.now < 2 ^ 64 }
-    ensures { Put buf.old from (for-each (stored store.now) clause-text) result buf.new }
+    ensures { Put buf.old from (for_each (stored store.now) clause_text) result buf.new }
 {
     let mut end = from;
     let mut at = 0;
@@ -504,7 +504,7 @@ pub fn write_formula(buf: &mut [u8], h: u32, m: u32, store: &[i32]) -> usize
     requires formed { Formed store.now }
     requires m_value { m ≡ length (stored store.now) }
     requires store_bound { 12 * length store.now + 28 < 2 ^ 64 }
-    ensures { Put buf.old 0 (formula-text h (stored store.now)) result buf.new }
+    ensures { Put buf.old 0 (formula_text h (stored store.now)) result buf.new }
 {
     let end = put_header(buf, 0, h, m);
     put_entries(buf, end, store)

@@ -5,7 +5,7 @@ use Rattle.definition.specs.Literals.{Clause}
 use Rattle.definition.specs.Text.{bytes}
 use Rattle.definition.specs.Text as Text
 use Rattle.definition.specs.Standing.{Line, addition, deletion}
-use Rattle.definition.specs.Log.{log-line-text}
+use Rattle.definition.specs.Log.{log_line_text}
 use Rattle.definition.specs.Log as Log
 
 -- the line of a clause, by whether it is a deletion
@@ -13,6 +13,6 @@ abbrev pub line_of : Bool → Clause → Line
 line_of true c = deletion c
 line_of false c = addition c
 
-examples : (log-line-text (line_of true (pos 12 ∷ negsuc 6 ∷ [])) ≡ bytes "d 12 -7 0\n") × (log-line-text (line_of false []) ≡ bytes "0\n")
+examples : (log_line_text (line_of true (pos 12 ∷ negsuc 6 ∷ [])) ≡ bytes "d 12 -7 0\n") × (log_line_text (line_of false []) ≡ bytes "0\n")
 unfolding Log.computing Text.computing Lists.computing
 examples = (refl, refl)

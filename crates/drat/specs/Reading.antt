@@ -6,9 +6,9 @@ use Rattle.definition.specs.Checked.{Checked, fault, value}
 use Rattle.definition.specs.Literals.{Clause, highest}
 use Rattle.definition.specs.Text.{Bytes, bytes, is, same_bytes, number}
 use Rattle.definition.specs.Text as Text
-use Rattle.definition.specs.Standing.{Line, literals, highest-in}
-use Rattle.definition.specs.LogReading.{numbers-in}
-use Rattle.text.specs.Numbers.{number-class}
+use Rattle.definition.specs.Standing.{Line, literals, highest_in}
+use Rattle.definition.specs.LogReading.{numbers_in}
+use Rattle.text.specs.Numbers.{number_class}
 use Rattle.theory_text.specs.Runs.{run_end, leading}
 use Rattle.text.specs.declared.Number.{Number}
 use Rattle.text.specs.declared.Number.TheVariants as Number
@@ -18,7 +18,7 @@ use Rattle.drat.specs.declared.LineRead.{LineRead}
 use Rattle.drat.specs.declared.LineRead.TheVariants as Read
 use Rattle.drat.specs.declared.LogRead.{LogRead}
 use Rattle.drat.specs.declared.LogRead.TheVariants as Log
-use Rattle.drat.specs.Loaded.{closed, line-entry, line-entries}
+use Rattle.drat.specs.Loaded.{closed, line_entry, line_entries}
 
 -- ---- a word
 
@@ -27,30 +27,30 @@ abbrev pub stops : ℕ → Bool
 stops b = is " " b || is "\n" b
 
 -- a word with a blank after it: a literal of a variable up to 70,000
-abbrev pub literal-answer : ℕ → Number → LineWord
-literal-answer next (Number.Value l) = cond (eqb 0 (nat_abs l)) Word.Fault (Word.Literal next l)
-literal-answer next Number.Large = Word.Fault
-literal-answer next Number.NotANumber = Word.Fault
+abbrev pub literal_answer : ℕ → Number → LineWord
+literal_answer next (Number.Value l) = cond (eqb 0 (nat_abs l)) Word.Fault (Word.Literal next l)
+literal_answer next Number.Large = Word.Fault
+literal_answer next Number.NotANumber = Word.Fault
 
 -- a word with an LF after it: `0`
-abbrev pub last-answer : ℕ → Bool → LineWord
-last-answer next true = Word.End next
-last-answer next false = Word.Fault
+abbrev pub last_answer : ℕ → Bool → LineWord
+last_answer next true = Word.End next
+last_answer next false = Word.Fault
 
 -- a word that ends at e, and what follows it
-abbrev pub word-answer : ℕ → Bytes → Bytes → LineWord
-word-answer e w [] = Word.Fault
-word-answer e w (b ∷ t) = cond (is " " b) (literal-answer (e + 1) (number-class (number w))) (last-answer (e + 1) (same_bytes w (bytes "0")))
+abbrev pub word_answer : ℕ → Bytes → Bytes → LineWord
+word_answer e w [] = Word.Fault
+word_answer e w (b ∷ t) = cond (is " " b) (literal_answer (e + 1) (number_class (number w))) (last_answer (e + 1) (same_bytes w (bytes "0")))
 
 -- the word at a place of a text
 unfoldable pub line_word : Bytes → ℕ → LineWord
 line_word t at =
     let e = run_end stops false t at in
-    word-answer e (take (e - at) (drop at t)) (drop e t)
+    word_answer e (take (e - at) (drop at t)) (drop e t)
 
 -- ---- a clause or a line: read up to a place, and its entry stored from a place on
 
-pub record Stored-read {A : Type 0} (clause : A → Clause) (entry : A → List ℤ) (o : Checked (ℕ × A)) (next count top : ℕ) (old : List ℤ) (to : ℕ) (new : List ℤ) : Type 0 where
+pub record StoredRead {A : Type 0} (clause : A → Clause) (entry : A → List ℤ) (o : Checked (ℕ × A)) (next count top : ℕ) (old : List ℤ) (to : ℕ) (new : List ℤ) : Type 0 where
   pub s : A
   pub read : o ≡ value (next, s)
   pub size : count ≡ length (clause s)
@@ -58,27 +58,27 @@ pub record Stored-read {A : Type 0} (clause : A → Clause) (entry : A → List 
   pub room : count + 2 ≤ next
   pub stored : new ≡ sets old to (entry s)
 
-abbrev pub Clause-reads : Checked (ℕ × Clause) → LineRead → List ℤ → ℕ → List ℤ → Type 0
-Clause-reads o (Read.Line next count top) old to new = Stored-read (λ c. c) closed o next count top old to new
-Clause-reads o Read.Fault old to new = o ≡ fault 31
+abbrev pub ClauseReads : Checked (ℕ × Clause) → LineRead → List ℤ → ℕ → List ℤ → Type 0
+ClauseReads o (Read.Line next count top) old to new = StoredRead (λ c. c) closed o next count top old to new
+ClauseReads o Read.Fault old to new = o ≡ fault 31
 
-abbrev pub Line-reads : Checked (ℕ × Line) → LineRead → List ℤ → ℕ → List ℤ → Type 0
-Line-reads o (Read.Line next count top) old to new = Stored-read literals line-entry o next count top old to new
-Line-reads o Read.Fault old to new = o ≡ fault 31
+abbrev pub LineReads : Checked (ℕ × Line) → LineRead → List ℤ → ℕ → List ℤ → Type 0
+LineReads o (Read.Line next count top) old to new = StoredRead literals line_entry o next count top old to new
+LineReads o Read.Fault old to new = o ≡ fault 31
 
 -- ---- a log: G, the highest variable and how many elements the lines' entries fill, which are stored from a place on
 
 pub record Kept (o : Checked (List Line)) (numbers top filled : ℕ) (old : List ℤ) (to : ℕ) (new : List ℤ) : Type 0 where
   pub ss : List Line
   pub read : o ≡ value ss
-  pub sum : numbers ≡ numbers-in ss
-  pub high : top ≡ highest-in ss
-  pub size : filled ≡ length (line-entries ss)
-  pub stored : new ≡ sets old to (line-entries ss)
+  pub sum : numbers ≡ numbers_in ss
+  pub high : top ≡ highest_in ss
+  pub size : filled ≡ length (line_entries ss)
+  pub stored : new ≡ sets old to (line_entries ss)
 
-abbrev pub Log-reads : Checked (List Line) → LogRead → List ℤ → ℕ → List ℤ → Type 0
-Log-reads o (Log.Kept numbers top filled) old to new = Kept o numbers top filled old to new
-Log-reads o (Log.Fault n) old to new = o ≡ fault n
+abbrev pub LogReads : Checked (List Line) → LogRead → List ℤ → ℕ → List ℤ → Type 0
+LogReads o (Log.Kept numbers top filled) old to new = Kept o numbers top filled old to new
+LogReads o (Log.Fault n) old to new = o ≡ fault n
 
 examples : (line_word (bytes "d -12 0\n") 2 ≡ Word.Literal 6 (negsuc 11)) × (line_word (bytes "d -12 0\n") 6 ≡ Word.End 8) × (line_word (bytes "1  0\n") 2 ≡ Word.Fault)
 unfolding line_word leading Text.computing Lists.computing

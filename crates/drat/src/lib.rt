@@ -2,16 +2,16 @@
 ghost use Rattle.std.specs.Prelude.{◌≡◌, [], ◌+◌, ◌*◌, ◌≤◌, ◌<◌, ◌^◌, length, drop, false, cond};
 ghost use Rattle.definition.specs.Text.{bytes, same_bytes, number};
 ghost use Rattle.definition.specs.LogReading.{read_log};
-ghost use Rattle.definition.specs.Log.{log-line-text};
-ghost use Rattle.text.specs.Numbers.{number-class};
+ghost use Rattle.definition.specs.Log.{log_line_text};
+ghost use Rattle.text.specs.Numbers.{number_class};
 ghost use Rattle.theory_text.specs.Runs.{run_end};
 ghost use Rattle.text.specs.Output.{Put};
-ghost use Rattle.theory_text.specs.LogLines.{first_read, begins-deletion, rest_read};
-ghost use Rattle.tables.specs.Sizes.{log-size};
-ghost use Rattle.tables.specs.Stamps.{Fresh, At-most};
+ghost use Rattle.theory_text.specs.LogLines.{first_read, begins_deletion, rest_read};
+ghost use Rattle.tables.specs.Sizes.{log_size};
+ghost use Rattle.tables.specs.Stamps.{Fresh, AtMost};
 ghost use Rattle.drat.specs.Lines.{line_of};
-ghost use Rattle.drat.specs.Loaded.{line-header};
-ghost use Rattle.drat.specs.Reading.{stops, literal-answer, line_word, Clause-reads, Line-reads, Log-reads};
+ghost use Rattle.drat.specs.Loaded.{line_header};
+ghost use Rattle.drat.specs.Reading.{stops, literal_answer, line_word, ClauseReads, LineReads, LogReads};
 
 use tables::Marked;
 
@@ -20,7 +20,7 @@ use tables::Marked;
 // Writes a proof line from the start of a buffer: an added clause, or a deleted one with `d` before.
 pub fn write_line(buf: &mut [u8], is_deletion: bool, clause: &[i32]) -> usize
     requires { 12 * length clause.now + 4 < 2 ^ 64 }
-    ensures written { Put buf.old 0 (log-line-text (line_of is_deletion clause.now)) result buf.new }
+    ensures written { Put buf.old 0 (log_line_text (line_of is_deletion clause.now)) result buf.new }
     ensures within { result ≤ 12 * length clause.now + 4 }
 {
     if is_deletion {
@@ -35,7 +35,7 @@ pub fn write_line(buf: &mut [u8], is_deletion: bool, clause: &[i32]) -> usize
 // Writes a proof line into what is left of the log's buffer.
 pub fn log_line(log: &mut [u8], at: usize, is_deletion: bool, clause: &[i32]) -> usize
     requires { at + 12 * length clause.now + 4 < 2 ^ 64 }
-    ensures written { Put log.old at (log-line-text (line_of is_deletion clause.now)) result log.new }
+    ensures written { Put log.old at (log_line_text (line_of is_deletion clause.now)) result log.new }
     ensures within { result ≤ at + 12 * length clause.now + 4 }
 {
     if at <= log.len() {
@@ -89,7 +89,7 @@ fn is_zero_word(word: &[u8]) -> bool
 
 // The literal that a word with a blank after it says.
 fn literal_word(word: &[u8], next: usize) -> LineWord
-    ensures { result ≡ literal-answer next (number-class (number word.now)) }
+    ensures { result ≡ literal_answer next (number_class (number word.now)) }
 {
     match text::read_number(word) {
         text::Number::Value(l) => {
@@ -138,11 +138,11 @@ fn read_clause(
     store: &mut [i32],
     to: usize,
 ) -> LineRead
-    requires log_size_in_bounds { log-size ≤ length seen.old }
+    requires log_size_in_bounds { log_size ≤ length seen.old }
     requires fresh { Fresh seen.old stamp }
     requires text_bound { to + length text.now ≤ 2 ^ 64 }
-    ensures read { Clause-reads (rest_read from [] (drop from text.now)) result store.old to store.new }
-    ensures table { At-most seen.new stamp }
+    ensures read { ClauseReads (rest_read from [] (drop from text.now)) result store.old to store.new }
+    ensures table { AtMost seen.new stamp }
 {
     let mut at = from;
     let mut count: usize = 0;
@@ -176,7 +176,7 @@ fn read_clause(
 
 // Whether a text begins with `d` and a blank.
 fn starts_deletion(text: &[u8]) -> bool
-    ensures { result ≡ begins-deletion text.now }
+    ensures { result ≡ begins_deletion text.now }
 {
     if text.len() < 2 {
         return false;
@@ -193,7 +193,7 @@ fn clause_start(is_deletion: bool) -> usize
 
 // The header of a line.
 fn line_header(is_deletion: bool, count: usize) -> i32
-    ensures { result ≡ line-header is_deletion count }
+    ensures { result ≡ line_header is_deletion count }
 {
     let h = literals::header(count);
     if is_deletion { literals::flipped(h) } else { h }
@@ -201,11 +201,11 @@ fn line_header(is_deletion: bool, count: usize) -> i32
 
 // Reads the first line of a text, each literal looked up in a table of stamps; the line's entry is stored.
 fn read_line(text: &[u8], seen: &mut [u32], stamp: u32, store: &mut [i32], to: usize) -> LineRead
-    requires log_size_in_bounds { log-size ≤ length seen.old }
+    requires log_size_in_bounds { log_size ≤ length seen.old }
     requires fresh { Fresh seen.old stamp }
     requires text_nonzero { (0 < length text.now) × (to + length text.now < 2 ^ 64) }
-    ensures read { Line-reads (first_read text.now) result store.old to store.new }
-    ensures table { At-most seen.new stamp }
+    ensures read { LineReads (first_read text.now) result store.old to store.new }
+    ensures table { AtMost seen.new stamp }
 {
     let deletes = starts_deletion(text);
     let from = clause_start(deletes);
@@ -228,7 +228,7 @@ pub enum LogRead {
 
 // Reads the kept lines of a log, each with a stamp of its own; their entries are stored from the store's start on, as far as it reaches.
 pub fn read_log(log: &[u8], kept: usize, store: &mut [i32]) -> LogRead
-    ensures { Log-reads (read_log kept log.now) result store.old 0 store.new }
+    ensures { LogReads (read_log kept log.now) result store.old 0 store.new }
 {
     let mut seen = [0u32; tables::LOG_SIZE];
     let mut stamp: u32 = 1;
@@ -258,7 +258,7 @@ pub fn read_log(log: &[u8], kept: usize, store: &mut [i32]) -> LogRead
 
 // Reads the kept lines of a log; their entries are stored behind what fills the store up to a place, which may lie past its end.
 pub fn read_log_behind(log: &[u8], kept: usize, store: &mut [i32], to: usize) -> LogRead
-    ensures { Log-reads (read_log kept log.now) result store.old to store.new }
+    ensures { LogReads (read_log kept log.now) result store.old to store.new }
 {
     let start = literals::lower(to, store.len());
     read_log(log, kept, &mut store[start..])

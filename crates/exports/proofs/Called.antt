@@ -29,21 +29,21 @@ use denote.Triple.Clauses.{ensured, lasts}
 use Rattle.definition.specs.Checked.{Checked}
 use Rattle.definition.specs.Calls.{Reencoded}
 use Rattle.run.specs.declared.Settings.{Settings}
-use Rattle.run.specs.Settings.{settings-of}
+use Rattle.run.specs.Settings.{settings_of}
 use Rattle.run.specs.contracts.Settings as S
 use Rattle.run.proofs.Settings.TheLaws as S'
-use Rattle.formula_run.specs.Outcome.{outcome-of}
+use Rattle.formula_run.specs.Outcome.{outcome_of}
 use Rattle.formula_run.specs.contracts.Tallied as E
 use Rattle.formula_run.proofs.Tallied.TheLaws as E'
-use Rattle.call_reencode.proofs.Called.{settings-val, answer-val}
-use Rattle.exports.specs.Numbers.{settings-number, number_of}
-use Rattle.exports.specs.Counts.{tally-after, reencoding-counts}
-use Rattle.exports.specs.contracts.settings_named as settings-named
+use Rattle.call_reencode.proofs.Called.{settings_val, answer_val}
+use Rattle.exports.specs.Numbers.{settings_number, number_of}
+use Rattle.exports.specs.Counts.{tally_after, reencoding_counts}
+use Rattle.exports.specs.contracts.settings_named as settings_named
 use Rattle.exports.specs.contracts.answered as answered
 
 -- the contracts that the call cites
 abbrev pub Named : {M : Type 1} {𝓤 : Ura M} (𝓛 : Logic 𝓤) (mem : Memory → SProp 𝓤) (run : Routine → Fun 𝓤) → Contract 𝓤
-Named 𝓛 mem run = triple_of 𝓛 settings-named.signature (settings-named.spec 𝓛 mem run)
+Named 𝓛 mem run = triple_of 𝓛 settings_named.signature (settings_named.spec 𝓛 mem run)
 
 abbrev pub Answered : {M : Type 1} {𝓤 : Ura M} (𝓛 : Logic 𝓤) (mem : Memory → SProp 𝓤) (run : Routine → Fun 𝓤) → Contract 𝓤
 Answered 𝓛 mem run = triple_of 𝓛 answered.signature (answered.spec 𝓛 mem run)
@@ -59,66 +59,66 @@ module _ {M : Type 1} {𝓤 : Ura M} (𝓛 : Logic 𝓤) (mem : Memory → SProp
     abbrev pub to_named : (Named 𝓛 mem run).Ghost
     to_named = ((tt, tt, tt, arg, (vint w32 form ∷ [], (vint w32 arrangement ∷ [], (vint w32 step ∷ [], tt)))), tt)
 
-    pub asks-named : form < 2 ^ 32 → arrangement < 2 ^ 32 → step < 2 ^ 32 → ent 𝓤 (⋆ 𝓛 []) ((Named 𝓛 mem run).pre to_named)
-    asks-named form-fits arrangement-fits step_fits =
-        qed 𝓛 [] ∵ nothing ! $ owned ! u32 (Is u32) (uint_Makes 𝓛 w32) step _ (refl, step_fits) $ fjoin ! $ owned ! u32 (Is u32) (uint_Makes 𝓛 w32) arrangement _ (refl, arrangement-fits) $ fjoin ! $
-        owned ! u32 (Is u32) (uint_Makes 𝓛 w32) form _ (refl, form-fits) $ fjoin ! $ nothing ! $ join ! $ frame ! $ done !
+    pub asks_named : form < 2 ^ 32 → arrangement < 2 ^ 32 → step < 2 ^ 32 → ent 𝓤 (⋆ 𝓛 []) ((Named 𝓛 mem run).pre to_named)
+    asks_named form_fits arrangement_fits step_fits =
+        qed 𝓛 [] ∵ nothing ! $ owned ! u32 (Is u32) (uint_Makes 𝓛 w32) step _ (refl, step_fits) $ fjoin ! $ owned ! u32 (Is u32) (uint_Makes 𝓛 w32) arrangement _ (refl, arrangement_fits) $ fjoin ! $
+        owned ! u32 (Is u32) (uint_Makes 𝓛 w32) form _ (refl, form_fits) $ fjoin ! $ nothing ! $ join ! $ frame ! $ done !
 
-    abbrev Named-settings : Settings → Type 0
-    Named-settings s = settings-of s ≡ settings-number form arrangement step
+    abbrev NamedSettings : Settings → Type 0
+    NamedSettings s = settings_of s ≡ settings_number form arrangement step
 
-    told_named : (s : Settings) → ent 𝓤 (ensured 𝓛 settings-named.ended (settings-named.clauses 𝓛 mem run) tt arg tt s) (fact 𝓤 (Named-settings s))
-    told_named s = ex_e 𝓤 _ (λ ws. snd∗ 𝓤 (sem 𝓛 (lasts settings-named.ended tt arg ws)) (fact 𝓤 (Named-settings s)))
+    told_named : (s : Settings) → ent 𝓤 (ensured 𝓛 settings_named.ended (settings_named.clauses 𝓛 mem run) tt arg tt s) (fact 𝓤 (NamedSettings s))
+    told_named s = ex_e 𝓤 _ (λ ws. snd∗ 𝓤 (sem 𝓛 (lasts settings_named.ended tt arg ws)) (fact 𝓤 (NamedSettings s)))
 
     -- what is known of the settings s and the value w that `settings_named` returned
-    abbrev pub Told-named : Val → Settings → Type 0
-    Told-named w s = (w ≡ settings-val s) × Is S.the_row s (settings-val s ∷ []) × Named-settings s
+    abbrev pub ToldNamed : Val → Settings → Type 0
+    ToldNamed w s = (w ≡ settings_val s) × Is S.the_row s (settings_val s ∷ []) × NamedSettings s
 
     abbrev Promised : Val → Settings → SProp 𝓤
-    Promised w s = guard 𝓤 (Told-named w s) (⋆ 𝓛 [])
+    Promised w s = guard 𝓤 (ToldNamed w s) (⋆ 𝓛 [])
 
-    pub gives-named : (w : Val) → ent 𝓤 ((Named 𝓛 mem run).post to_named w) (H.⇛ (ex 𝓤 (λ (s : Settings). Promised w s)))
-    gives-named w =
+    pub gives_named : (w : Val) → ent 𝓤 ((Named 𝓛 mem run).post to_named w) (H.⇛ (ex 𝓤 (λ (s : Settings). Promised w s)))
+    gives_named w =
         qed 𝓛 (raw ((Named 𝓛 mem run).post to_named w) ∷ []) ∵ updating ! $
-        use1 𝓛 (later (some (λ (s : Settings). (‵ ftrue ⊛ ‵ ((S.the_row).own_val s (w ∷ []))) ⊛ raw (ensured 𝓛 settings-named.ended (settings-named.clauses 𝓛 mem run) tt arg tt s)))) (id⊢ 𝓤 _) $ await ! tt $ pick ! (λ s.
-        split ! $ move ! (1 ∷ []) $ use1 𝓛 (raw (fact 𝓤 (Named-settings s))) (told_named s) $ heard ! (Named-settings s) (λ e. split ! $ move ! (1 ∷ []) $
+        use1 𝓛 (later (some (λ (s : Settings). (‵ ftrue ⊛ ‵ ((S.the_row).own_val s (w ∷ []))) ⊛ raw (ensured 𝓛 settings_named.ended (settings_named.clauses 𝓛 mem run) tt arg tt s)))) (id⊢ 𝓤 _) $ await ! tt $ pick ! (λ s.
+        split ! $ move ! (1 ∷ []) $ use1 𝓛 (raw (fact 𝓤 (NamedSettings s))) (told_named s) $ heard ! (NamedSettings s) (λ e. split ! $ move ! (1 ∷ []) $
         peeks ! S.the_row (Is S.the_row) (shows 𝓛 S.the_row) s (w ∷ []) (λ is.
         let told = LL.tells S.the_type S'.the_laws s (w ∷ []) is in
         at_once ! $ show ! (Promised w) s $ check ! (ap only told, subst (Is S.the_row s) told is, e) $ keep ! [] $ done !)))
 
   -- ---- `answered`, at the answer of an outcome o
   module _ (κ : Lft) (q : Share) (tally : MutBor (List ℕ)) (o : Checked Reencoded) where
-    abbrev pub to-answered : (Answered 𝓛 mem run).Ghost
-    to-answered = (((κ, tt), (q, tt), tt, (tally, (outcome-of o, tt)), (mut_slice_vals tally, (answer-val (outcome-of o) ∷ [], tt))), tt)
+    abbrev pub to_answered : (Answered 𝓛 mem run).Ghost
+    to_answered = (((κ, tt), (q, tt), tt, (tally, (outcome_of o, tt)), (mut_slice_vals tally, (answer_val (outcome_of o) ∷ [], tt))), tt)
 
-    abbrev pub For-answered : List (Item 𝓤)
-    For-answered = ‵ (flft κ q) ∷ ‵ ((MutSlice (named 0) κ u64).own_val tally (mut_slice_vals tally)) ∷ []
+    abbrev pub ForAnswered : List (Item 𝓤)
+    ForAnswered = ‵ (flft κ q) ∷ ‵ ((MutSlice (named 0) κ u64).own_val tally (mut_slice_vals tally)) ∷ []
 
-    pub asks-answered : Is E.the_row (outcome-of o) (answer-val (outcome-of o) ∷ []) → ent 𝓤 (⋆ 𝓛 For-answered) ((Answered 𝓛 mem run).pre to-answered)
-    asks-answered is =
-        qed 𝓛 For-answered ∵ nothing ! $ move ! (1 ∷ 0 ∷ []) $ join ! $ nothing ! $ owned ! E.the_row (Is E.the_row) (EL.makes E.the_type E'.the_plain 𝓛) (outcome-of o) _ is $ fjoin ! $ move ! (2 ∷ 0 ∷ []) $ fjoin ! $ move ! (1 ∷ 0 ∷ []) $ join ! $ frame ! $ done !
+    pub asks_answered : Is E.the_row (outcome_of o) (answer_val (outcome_of o) ∷ []) → ent 𝓤 (⋆ 𝓛 ForAnswered) ((Answered 𝓛 mem run).pre to_answered)
+    asks_answered is =
+        qed 𝓛 ForAnswered ∵ nothing ! $ move ! (1 ∷ 0 ∷ []) $ join ! $ nothing ! $ owned ! E.the_row (Is E.the_row) (EL.makes E.the_type E'.the_plain 𝓛) (outcome_of o) _ is $ fjoin ! $ move ! (2 ∷ 0 ∷ []) $ fjoin ! $ move ! (1 ∷ 0 ∷ []) $ join ! $ frame ! $ done !
 
     -- the tally's last list
     abbrev pub counted : List ℕ
-    counted = tally-after o reencoding-counts tally.now
+    counted = tally_after o reencoding_counts tally.now
 
-    abbrev pub Of-answered : List (Item 𝓤)
-    Of-answered = ‵ (flft κ q) ∷ ‵ (finally u64 tally.name counted) ∷ []
+    abbrev pub OfAnswered : List (Item 𝓤)
+    OfAnswered = ‵ (flft κ q) ∷ ‵ (finally u64 tally.name counted) ∷ []
 
     -- what is known of the value w that `answered` returned, and of the tally
-    abbrev pub Told-answered : Val → Type 0
-    Told-answered w = (w ≡ vint w32 (number_of o)) × (number_of o < 2 ^ 32) × (length counted ≡ length tally.now)
+    abbrev pub ToldAnswered : Val → Type 0
+    ToldAnswered w = (w ≡ vint w32 (number_of o)) × (number_of o < 2 ^ 32) × (length counted ≡ length tally.now)
 
     -- of each outcome with this answer
-    abbrev Answers-all : ℕ → List ℕ → Type 0
-    Answers-all n after = (o' : Checked Reencoded) → outcome-of o ≡ outcome-of o' → (n ≡ number_of o') × (after ≡ tally-after o' reencoding-counts tally.now)
+    abbrev AnswersAll : ℕ → List ℕ → Type 0
+    AnswersAll n after = (o' : Checked Reencoded) → outcome_of o ≡ outcome_of o' → (n ≡ number_of o') × (after ≡ tally_after o' reencoding_counts tally.now)
 
-    pub gives-answered : (w : Val) → ent 𝓤 ((Answered 𝓛 mem run).post to-answered w) (H.⇛ (guard 𝓤 (Told-answered w) (⋆ 𝓛 Of-answered)))
-    gives-answered w =
-        qed 𝓛 (raw ((Answered 𝓛 mem run).post to-answered w) ∷ []) ∵ updating ! $
-        use1 𝓛 (later (some (λ (n : ℕ). ((‵ (flft κ q) ⊛ ‵ ftrue) ⊛ ‵ (u32.own_val n (w ∷ []))) ⊛ raw (ensured 𝓛 answered.ended (answered.clauses 𝓛 mem run) (κ, tt) (tally, (outcome-of o, tt)) tt n)))) (id⊢ 𝓤 _) $ await ! tt $ pick ! (λ n.
-        split ! $ move ! (1 ∷ []) $ use1 𝓛 (some (λ (ls : List ℕ × (Unit {0} × Unit {0})). ‵ (lasts answered.ended (κ, tt) (tally, (outcome-of o, tt)) ls) ⊛ raw (fact 𝓤 (Answers-all n ls.0)))) (id⊢ 𝓤 _) $ pick ! (λ ls.
-        split ! $ move ! (1 ∷ []) $ heard ! (Answers-all n ls.0) (λ all.
+    pub gives_answered : (w : Val) → ent 𝓤 ((Answered 𝓛 mem run).post to_answered w) (H.⇛ (guard 𝓤 (ToldAnswered w) (⋆ 𝓛 OfAnswered)))
+    gives_answered w =
+        qed 𝓛 (raw ((Answered 𝓛 mem run).post to_answered w) ∷ []) ∵ updating ! $
+        use1 𝓛 (later (some (λ (n : ℕ). ((‵ (flft κ q) ⊛ ‵ ftrue) ⊛ ‵ (u32.own_val n (w ∷ []))) ⊛ raw (ensured 𝓛 answered.ended (answered.clauses 𝓛 mem run) (κ, tt) (tally, (outcome_of o, tt)) tt n)))) (id⊢ 𝓤 _) $ await ! tt $ pick ! (λ n.
+        split ! $ move ! (1 ∷ []) $ use1 𝓛 (some (λ (ls : List ℕ × (Unit {0} × Unit {0})). ‵ (lasts answered.ended (κ, tt) (tally, (outcome_of o, tt)) ls) ⊛ raw (fact 𝓤 (AnswersAll n ls.0)))) (id⊢ 𝓤 _) $ pick ! (λ ls.
+        split ! $ move ! (1 ∷ []) $ heard ! (AnswersAll n ls.0) (λ all.
         fsplit ! $ fsplit ! $ rewrite ! 0 (λ (l : List ℕ). ‵ (finally u64 tally.name l)) (all o refl).1 refl $ move ! (1 ∷ []) $ feq_l ! (λ long.
         -- [tally; true; the token and the result]
         move ! (2 ∷ []) $ split ! $ move ! (1 ∷ []) $ rewrite ! 0 (λ (v : ℕ). ‵ (u32.own_val v (w ∷ []))) (all o refl).0 refl $ peeks ! u32 (Is u32) (shows 𝓛 u32) (number_of o) (w ∷ []) (λ is.

@@ -3,19 +3,19 @@
 ghost use Rattle.std.specs.Prelude.{◌≡◌, [], ◌∷◌, pos, length};
 ghost use Rattle.definition.specs.Checked.{Checked};
 ghost use Rattle.definition.specs.Text.{Bytes};
-ghost use Rattle.definition.specs.Calls.{Reencoded, buffer-after};
-ghost use Rattle.dimacs.specs.Entries.{entries-of};
-ghost use Rattle.run.specs.Settings.{named-form, named-arrangement, settings-of};
+ghost use Rattle.definition.specs.Calls.{Reencoded, buffer_after};
+ghost use Rattle.dimacs.specs.Entries.{entries_of};
+ghost use Rattle.run.specs.Settings.{named_form, named_arrangement, settings_of};
 ghost use Rattle.records.specs.Rows.{no_record};
-ghost use Rattle.formula_run.specs.Outcome.{outcome-of};
-ghost use Rattle.call_reencode.specs.Outcome.{shown-table};
+ghost use Rattle.formula_run.specs.Outcome.{outcome_of};
+ghost use Rattle.call_reencode.specs.Outcome.{shown_table};
 ghost use Rattle.carry.specs.Carried.{carried_of};
-ghost use Rattle.call_walk_back.specs.Outcome.{outcome as walk-back-outcome};
-ghost use Rattle.call_carry_forward.specs.Outcome.{outcome as carry-forward-outcome};
-ghost use Rattle.call_read_back.specs.Outcome.{outcome as read-back-outcome};
-ghost use Rattle.exports.specs.Numbers.{form-number, arrangement-number, settings-number, number_of, reencoding, sizing};
+ghost use Rattle.call_walk_back.specs.Outcome.{outcome as walk_back_outcome};
+ghost use Rattle.call_carry_forward.specs.Outcome.{outcome as carry_forward_outcome};
+ghost use Rattle.call_read_back.specs.Outcome.{outcome as read_back_outcome};
+ghost use Rattle.exports.specs.Numbers.{form_number, arrangement_number, settings_number, number_of, reencoding, sizing};
 ghost use Rattle.counts.specs.Counts.{overwritten};
-ghost use Rattle.exports.specs.Counts.{tally-after, sizes-counts, reencoding-counts, done-counts, line-counts, read-back-counts};
+ghost use Rattle.exports.specs.Counts.{tally_after, sizes_counts, reencoding_counts, done_counts, line_counts, read_back_counts};
 
 use carry::Carried;
 use formula_run::{Tallied, Tally};
@@ -26,7 +26,7 @@ use run::{Arrangement, Form, Settings};
 
 // The form that a number names: 0 the counter form, any other the order form.
 fn form_named(form: u32) -> Form
-    ensures { named-form result ≡ form-number form }
+    ensures { named_form result ≡ form_number form }
 {
     if form == 0 {
         return Form::Counter;
@@ -36,7 +36,7 @@ fn form_named(form: u32) -> Form
 
 // The arrangement that a number names: 0 as they stand, any other alignment.
 fn arrangement_named(arrangement: u32) -> Arrangement
-    ensures { named-arrangement result ≡ arrangement-number arrangement }
+    ensures { named_arrangement result ≡ arrangement_number arrangement }
 {
     if arrangement == 0 {
         return Arrangement::AsListed;
@@ -46,7 +46,7 @@ fn arrangement_named(arrangement: u32) -> Arrangement
 
 // The settings that two numbers name, with a step.
 fn settings_named(form: u32, arrangement: u32, step: u32) -> Settings
-    ensures { settings-of result ≡ settings-number form arrangement step }
+    ensures { settings_of result ≡ settings_number form arrangement step }
 {
     let f = form_named(form);
     let a = arrangement_named(arrangement);
@@ -59,7 +59,7 @@ fn settings_named(form: u32, arrangement: u32, step: u32) -> Settings
 
 // Writes the counts of a reencoding.
 fn put_done(tally: &mut [u64], t: Tally)
-    ensures { tally.new ≡ overwritten (done-counts t) tally.old }
+    ensures { tally.new ≡ overwritten (done_counts t) tally.old }
 {
     counts::put_six(
         tally,
@@ -74,7 +74,7 @@ fn put_done(tally: &mut [u64], t: Tally)
 
 // The number of an outcome; its counts go into the tally.
 fn answered(tally: &mut [u64], r: Tallied) -> u32
-    ensures { (o : Checked Reencoded) → r ≡ outcome-of o → (result ≡ number_of o) × (tally.new ≡ tally-after o reencoding-counts tally.old) }
+    ensures { (o : Checked Reencoded) → r ≡ outcome_of o → (result ≡ number_of o) × (tally.new ≡ tally_after o reencoding_counts tally.old) }
 {
     match r {
         Tallied::Done(t) => {
@@ -103,10 +103,10 @@ pub extern "C" fn sirgholyn_reencode(
     tally: &mut [u64],
 ) -> u32
     ensures number { result ≡ number_of (reencoding form arrangement step text.now work.old log.old formula.old (length table.old)) }
-    ensures log_after { log.new ≡ buffer-after 0 (reencoding form arrangement step text.now work.old log.old formula.old (length table.old)) (λ o. o.log) log.old }
-    ensures formula_after { formula.new ≡ buffer-after 0 (reencoding form arrangement step text.now work.old log.old formula.old (length table.old)) (λ o. o.formula) formula.old }
-    ensures table_after { table.new ≡ buffer-after no_record (reencoding form arrangement step text.now work.old log.old formula.old (length table.old)) shown-table table.old }
-    ensures counts { tally.new ≡ tally-after (reencoding form arrangement step text.now work.old log.old formula.old (length table.old)) reencoding-counts tally.old }
+    ensures log_after { log.new ≡ buffer_after 0 (reencoding form arrangement step text.now work.old log.old formula.old (length table.old)) (λ o. o.log) log.old }
+    ensures formula_after { formula.new ≡ buffer_after 0 (reencoding form arrangement step text.now work.old log.old formula.old (length table.old)) (λ o. o.formula) formula.old }
+    ensures table_after { table.new ≡ buffer_after no_record (reencoding form arrangement step text.now work.old log.old formula.old (length table.old)) shown_table table.old }
+    ensures counts { tally.new ≡ tally_after (reencoding form arrangement step text.now work.old log.old formula.old (length table.old)) reencoding_counts tally.old }
 {
     let settings = settings_named(form, arrangement, step);
     let r = call_reencode::reencode(text, settings, work, log, formula, table);
@@ -125,7 +125,7 @@ pub extern "C" fn sirgholyn_sizes(
     tally: &mut [u64],
 ) -> u32
     ensures number { result ≡ number_of (sizing form arrangement step text.now work.old) }
-    ensures counts { tally.new ≡ tally-after (sizing form arrangement step text.now work.old) sizes-counts tally.old }
+    ensures counts { tally.new ≡ tally_after (sizing form arrangement step text.now work.old) sizes_counts tally.old }
 {
     let settings = settings_named(form, arrangement, step);
     let r = call_sizes::sizes(text, settings, work);
@@ -136,7 +136,7 @@ pub extern "C" fn sirgholyn_sizes(
 
 // The number of an outcome; the bytes of its line go into the tally.
 fn line_answered(tally: &mut [u64], r: Carried) -> u32
-    ensures { (o : Checked Bytes) → r ≡ carried_of o → (result ≡ number_of o) × (tally.new ≡ tally-after o line-counts tally.old) }
+    ensures { (o : Checked Bytes) → r ≡ carried_of o → (result ≡ number_of o) × (tally.new ≡ tally_after o line_counts tally.old) }
 {
     match r {
         Carried::Line(n) => {
@@ -161,9 +161,9 @@ pub extern "C" fn sirgholyn_walk_back(
     out: &mut [u8],
     tally: &mut [u64],
 ) -> u32
-    ensures number { result ≡ number_of (walk-back-outcome work.old out.old kept formula.now log.now answer.now) }
-    ensures buffer { out.new ≡ buffer-after 0 (walk-back-outcome work.old out.old kept formula.now log.now answer.now) (λ t. t) out.old }
-    ensures counts { tally.new ≡ tally-after (walk-back-outcome work.old out.old kept formula.now log.now answer.now) line-counts tally.old }
+    ensures number { result ≡ number_of (walk_back_outcome work.old out.old kept formula.now log.now answer.now) }
+    ensures buffer { out.new ≡ buffer_after 0 (walk_back_outcome work.old out.old kept formula.now log.now answer.now) (λ t. t) out.old }
+    ensures counts { tally.new ≡ tally_after (walk_back_outcome work.old out.old kept formula.now log.now answer.now) line_counts tally.old }
 {
     let r = call_walk_back::walk_back(formula, log, kept, answer, work, out);
     line_answered(tally, r)
@@ -180,9 +180,9 @@ pub extern "C" fn sirgholyn_carry_forward(
     out: &mut [u8],
     tally: &mut [u64],
 ) -> u32
-    ensures number { result ≡ number_of (carry-forward-outcome work.old out.old kept formula.now log.now plan.now) }
-    ensures buffer { out.new ≡ buffer-after 0 (carry-forward-outcome work.old out.old kept formula.now log.now plan.now) (λ t. t) out.old }
-    ensures counts { tally.new ≡ tally-after (carry-forward-outcome work.old out.old kept formula.now log.now plan.now) line-counts tally.old }
+    ensures number { result ≡ number_of (carry_forward_outcome work.old out.old kept formula.now log.now plan.now) }
+    ensures buffer { out.new ≡ buffer_after 0 (carry_forward_outcome work.old out.old kept formula.now log.now plan.now) (λ t. t) out.old }
+    ensures counts { tally.new ≡ tally_after (carry_forward_outcome work.old out.old kept formula.now log.now plan.now) line_counts tally.old }
 {
     let r = call_carry_forward::carry_forward(formula, log, kept, plan, work, out);
     line_answered(tally, r)
@@ -193,9 +193,9 @@ pub extern "C" fn sirgholyn_carry_forward(
 // Reads the new formula back into a store of clauses. The tally gets V, the clauses and the literals.
 #[unsafe(no_mangle)]
 pub extern "C" fn sirgholyn_read_back(text: &[u8], store: &mut [i32], tally: &mut [u64]) -> u32
-    ensures number { result ≡ number_of (read-back-outcome store.old text.now) }
-    ensures buffer { store.new ≡ buffer-after (pos 0) (read-back-outcome store.old text.now) entries-of store.old }
-    ensures counts { tally.new ≡ tally-after (read-back-outcome store.old text.now) read-back-counts tally.old }
+    ensures number { result ≡ number_of (read_back_outcome store.old text.now) }
+    ensures buffer { store.new ≡ buffer_after (pos 0) (read_back_outcome store.old text.now) entries_of store.old }
+    ensures counts { tally.new ≡ tally_after (read_back_outcome store.old text.now) read_back_counts tally.old }
 {
     match call_read_back::read_back(text, store) {
         call_read_back::ReadBack::Read(v, c, l) => {

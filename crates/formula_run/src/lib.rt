@@ -1,11 +1,11 @@
 // A formula's text read, run over, and what then stands written: what reencoding and sizes share. Texts go as far as the buffers do, and are counted whole.
 ghost use Rattle.std.specs.Prelude.{◌≡◌, ◌<◌, length};
-ghost use Rattle.definition.specs.Calls.{reencoded, step-allowed, limited};
+ghost use Rattle.definition.specs.Calls.{reencoded, step_allowed, limited};
 ghost use Rattle.store.specs.Store.{Formed, stored};
-ghost use Rattle.run.specs.Settings.{settings-of};
-ghost use Rattle.run.specs.Run.{input-in, row-numbers, Run-ready};
-ghost use Rattle.formula_run.specs.Counting.{standing-bit};
-ghost use Rattle.formula_run.specs.Outcome.{run-outcome};
+ghost use Rattle.run.specs.Settings.{settings_of};
+ghost use Rattle.run.specs.Run.{input_in, row_numbers, RunReady};
+ghost use Rattle.formula_run.specs.Counting.{standing_bit};
+ghost use Rattle.formula_run.specs.Outcome.{run_outcome};
 ghost use Rattle.formula_run.specs.Result.{Left, Finishes, Stepped, Answers};
 
 use run::{Ran, Reached, Settings};
@@ -33,7 +33,7 @@ pub enum Tallied {
 // 1 if the clause at a place stands, else 0.
 fn standing_at(store: &[i32], at: usize) -> usize
     requires { at < length store.now }
-    ensures { result ≡ standing-bit store.now at }
+    ensures { result ≡ standing_bit store.now at }
 {
     if literals::is_negative(store[at]) {
         return 0;
@@ -85,8 +85,8 @@ fn run_all(
     highest: u32,
     settings: Settings,
 ) -> Tallied
-    requires { Run-ready work.old end highest settings.step rows.old }
-    ensures { Answers (limited (reencoded (settings-of settings) (input-in work.old end highest))) log.old formula.old rows.old result log.new formula.new rows.new }
+    requires { RunReady work.old end highest settings.step rows.old }
+    ensures { Answers (limited (reencoded (settings_of settings) (input_in work.old end highest))) log.old formula.old rows.old result log.new formula.new rows.new }
 {
     match run::run(work, log, rows, end, highest, settings) {
         Ran::Done(r) => Tallied::Done(write_standing(work, formula, r)),
@@ -103,8 +103,8 @@ fn read_and_run(
     formula: &mut [u8],
     rows: &mut [u32],
 ) -> Tallied
-    requires { Stepped settings.step × (length rows.old ≡ row-numbers) }
-    ensures { Answers (run-outcome settings text.now work.old) log.old formula.old rows.old result log.new formula.new rows.new }
+    requires { Stepped settings.step × (length rows.old ≡ row_numbers) }
+    ensures { Answers (run_outcome settings text.now work.old) log.old formula.old rows.old result log.new formula.new rows.new }
 {
     let most = dimacs::input_limits();
     match dimacs::read(text, most, work) {
@@ -121,7 +121,7 @@ fn read_and_run(
 
 // Whether a step is from 1 to 100.
 fn is_step(g: u32) -> bool
-    ensures { result ≡ step-allowed g }
+    ensures { result ≡ step_allowed g }
 {
     if 1 <= g { g <= 100 } else { false }
 }
@@ -135,8 +135,8 @@ pub fn run_formula(
     formula: &mut [u8],
     rows: &mut [u32],
 ) -> Tallied
-    requires { length rows.old ≡ row-numbers }
-    ensures { Answers (run-outcome settings text.now work.old) log.old formula.old rows.old result log.new formula.new rows.new }
+    requires { length rows.old ≡ row_numbers }
+    ensures { Answers (run_outcome settings text.now work.old) log.old formula.old rows.old result log.new formula.new rows.new }
 {
     let g = settings.step;
     if is_step(g) {

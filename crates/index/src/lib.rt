@@ -2,17 +2,17 @@
 ghost use Rattle.std.specs.Prelude.{◌≡◌, ◌+◌, ◌-◌, ◌*◌, ◌≤◌, ◌<◌, ◌^◌, length, take, drop, set};
 ghost use Rattle.theory_base.specs.Cells.{cells_of};
 ghost use Rattle.literals.specs.Literal.{index_of, header_of, largest};
-ghost use Rattle.tables.specs.Sizes.{log-size};
+ghost use Rattle.tables.specs.Sizes.{log_size};
 ghost use Rattle.tables.specs.Entries.{entry_of};
-ghost use Rattle.tables.specs.Stamps.{At-most};
+ghost use Rattle.tables.specs.Stamps.{AtMost};
 ghost use Rattle.store.specs.Store.{Formed, stored, past};
-ghost use Rattle.index.specs.Index.{nodes as nodes-in, node-place, older-node, literals-in, Indexed, Made-room, Roomy};
+ghost use Rattle.index.specs.Index.{nodes as nodes_in, node_place, older_node, literals_in, Indexed, MadeRoom, Roomy};
 
 // ---- nodes, from 1 on
 
 // How many nodes there are.
 pub fn nodes(newest: &[u32]) -> usize
-    ensures { result ≡ nodes-in newest.now }
+    ensures { result ≡ nodes_in newest.now }
 {
     tables::entry_at(newest, 1) as usize
 }
@@ -27,7 +27,7 @@ pub fn last_node(newest: &[u32], l: i32) -> usize
 // The place of a node's clause.
 pub fn place_at(work: &[i32], node: usize) -> usize
     requires { (1 ≤ node) × (2 * node ≤ length work.now) }
-    ensures { result ≡ node-place work.now node }
+    ensures { result ≡ node_place work.now node }
 {
     literals::header_length(work[work.len() - 2 * node])
 }
@@ -35,7 +35,7 @@ pub fn place_at(work: &[i32], node: usize) -> usize
 // The node before with the same literal, 0 where there is none.
 pub fn older(work: &[i32], node: usize) -> usize
     requires { (1 ≤ node) × (2 * node ≤ length work.now) }
-    ensures { result ≡ older-node work.now node }
+    ensures { result ≡ older_node work.now node }
 {
     literals::header_length(work[work.len() - 2 * node + 1])
 }
@@ -44,9 +44,9 @@ pub fn older(work: &[i32], node: usize) -> usize
 
 // Enters a literal of the clause at a place.
 fn enter_literal(work: &mut [i32], newest: &mut [u32], at: usize, l: i32)
-    requires { (2 * (nodes-in newest.old + 1) ≤ length work.old) × (length work.old < 2 ^ 31) × (2 ≤ length newest.old) }
-    ensures node { work.new ≡ set (set work.old (length work.old - 2 * (nodes-in newest.old + 1)) (header_of at)) (length work.old - 2 * (nodes-in newest.old + 1) + 1) (header_of (entry_of newest.old l)) }
-    ensures table { newest.new ≡ set (set newest.old (index_of l) (nodes-in newest.old + 1)) 1 (nodes-in newest.old + 1) }
+    requires { (2 * (nodes_in newest.old + 1) ≤ length work.old) × (length work.old < 2 ^ 31) × (2 ≤ length newest.old) }
+    ensures node { work.new ≡ set (set work.old (length work.old - 2 * (nodes_in newest.old + 1)) (header_of at)) (length work.old - 2 * (nodes_in newest.old + 1) + 1) (header_of (entry_of newest.old l)) }
+    ensures table { newest.new ≡ set (set newest.old (index_of l) (nodes_in newest.old + 1)) 1 (nodes_in newest.old + 1) }
 {
     let n = nodes(newest) + 1;
     let first = work.len() - 2 * n;
@@ -59,11 +59,11 @@ fn enter_literal(work: &mut [i32], newest: &mut [u32], at: usize, l: i32)
 // Enters the clause at the end of the store, which reaches up to another place.
 pub fn enter(work: &mut [i32], newest: &mut [u32], at: usize, next: usize)
     requires indexed_2 { Indexed work.old at newest.old × (next ≡ past work.old at) }
-    requires at_in_bounds { next + 2 * (nodes-in newest.old + (next - (at + 1))) ≤ length work.old }
+    requires at_in_bounds { next + 2 * (nodes_in newest.old + (next - (at + 1))) ≤ length work.old }
     ensures indexed { Indexed work.new next newest.new }
     ensures kept { take next work.new ≡ take next work.old }
-    ensures nodes { nodes-in newest.new ≡ nodes-in newest.old + (next - (at + 1)) }
-    ensures below { take (length work.old - 2 * nodes-in newest.new) work.new ≡ take (length work.old - 2 * nodes-in newest.new) work.old }
+    ensures nodes { nodes_in newest.new ≡ nodes_in newest.old + (next - (at + 1)) }
+    ensures below { take (length work.old - 2 * nodes_in newest.new) work.new ≡ take (length work.old - 2 * nodes_in newest.new) work.old }
 {
     let mut i = at + 1;
     while i < next {
@@ -75,8 +75,8 @@ pub fn enter(work: &mut [i32], newest: &mut [u32], at: usize, next: usize)
 
 // Enters all clauses of a store into an empty table.
 pub fn enter_all(work: &mut [i32], newest: &mut [u32], end: usize)
-    requires formed { Formed (take end work.old) × (end + 2 * literals-in (take end work.old) ≤ length work.old) × (length work.old < 2 ^ 31) }
-    requires at_most { At-most newest.old 0 × (length newest.old ≡ log-size) }
+    requires formed { Formed (take end work.old) × (end + 2 * literals_in (take end work.old) ≤ length work.old) × (length work.old < 2 ^ 31) }
+    requires at_most { AtMost newest.old 0 × (length newest.old ≡ log_size) }
     ensures indexed { Indexed work.new end newest.new }
     ensures kept { take end work.new ≡ take end work.old }
 {
@@ -93,7 +93,7 @@ pub fn enter_all(work: &mut [i32], newest: &mut [u32], end: usize)
 // Slides the standing clauses down and enters them anew; the result is the store's end.
 fn compact(work: &mut [i32], newest: &mut [u32], end: usize, cells: usize) -> usize
     requires { Indexed work.old end newest.old × (cells_of (stored (take end work.old)) + cells ≤ length work.old) }
-    ensures { Made-room cells work.old end work.new result newest.new }
+    ensures { MadeRoom cells work.old end work.new result newest.new }
 {
     let n = store::compact(&mut work[..end]);
     tables::clear(newest);
@@ -104,7 +104,7 @@ fn compact(work: &mut [i32], newest: &mut [u32], end: usize, cells: usize) -> us
 // Makes room for so many elements behind the store, where that is less than what is asked; the result is the store's end.
 pub fn make_room(work: &mut [i32], newest: &mut [u32], end: usize, cells: usize) -> usize
     requires { Indexed work.old end newest.old × (cells_of (stored (take end work.old)) + cells ≤ length work.old) }
-    ensures { Made-room cells work.old end work.new result newest.new }
+    ensures { MadeRoom cells work.old end work.new result newest.new }
 {
     if end + 2 * nodes(newest) + cells <= work.len() {
         return end;

@@ -12,13 +12,13 @@ negative (pos n) = false
 negative (negsuc n) = true
 
 -- the literal of a sign and a variable
-abbrev pub with-sign : Bool → ℕ → ℤ
-with-sign true n = neg_ℤ (pos n)
-with-sign false n = pos n
+abbrev pub with_sign : Bool → ℕ → ℤ
+with_sign true n = neg_ℤ (pos n)
+with_sign false n = pos n
 
 -- the same, cut off at the largest i32
 abbrev pub signed_of : Bool → ℕ → ℤ
-signed_of negated n = with-sign negated (min n largest)
+signed_of negated n = with_sign negated (min n largest)
 
 -- The negation of l. The lowest i32, -2^31, has none among the i32: there it is the largest, 2^31 - 1.
 abbrev pub negation : ℤ → ℤ
@@ -37,8 +37,8 @@ abbrev pub flip : ℤ → ℤ
 flip (pos n) = negsuc n
 flip (negsuc n) = pos n
 
-abbrev pub header-literals : ℤ → ℕ
-header-literals h = mag h
+abbrev pub header_literals : ℤ → ℕ
+header_literals h = mag h
 
-examples : (index_of (negsuc 6) ≡ 15) × (negation (negsuc 2147483647) ≡ pos 2147483647) × (flip (header_of 3) ≡ negsuc 3) × (header-literals (flip (header_of 3)) ≡ 3)
+examples : (index_of (negsuc 6) ≡ 15) × (negation (negsuc 2147483647) ≡ pos 2147483647) × (flip (header_of 3) ≡ negsuc 3) × (header_literals (flip (header_of 3)) ≡ 3)
 examples = (refl, refl, refl, refl)

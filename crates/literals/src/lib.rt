@@ -1,7 +1,7 @@
 // Literals are i32, negative for a negated variable; all arithmetic on signed numbers is here.
 ghost use Rattle.std.specs.Prelude.{◌≡◌, min, max, eqb, nat_abs};
-ghost use Rattle.definition.specs.Literals.{same as same-literal};
-ghost use Rattle.literals.specs.Literal.{negative, signed_of, negation, index_of, header_of, flip, header-literals};
+ghost use Rattle.definition.specs.Literals.{same as same_literal};
+ghost use Rattle.literals.specs.Literal.{negative, signed_of, negation, index_of, header_of, flip, header_literals};
 
 // Whether a literal is a negated variable.
 pub fn is_negative(l: i32) -> bool
@@ -86,7 +86,7 @@ pub fn literal_index(l: i32) -> usize
 
 // Whether two literals are the same.
 pub fn same(a: i32, b: i32) -> bool
-    ensures { result ≡ same-literal a b }
+    ensures { result ≡ same_literal a b }
 {
     a == b
 }
@@ -100,7 +100,7 @@ pub fn header(n: usize) -> i32
 
 // How many literals follow a header.
 pub fn header_length(h: i32) -> usize
-    ensures { result ≡ header-literals h }
+    ensures { result ≡ header_literals h }
 {
     if is_negative(h) {
         variable(flipped(h)) as usize

@@ -9,139 +9,139 @@ use lib.IntN.{ℤ}
 use lib.ListN.{length, take}
 use lib.Seq.{length-sets}
 use borrow.Author.Tests.{ltb-false}
-use Rattle.definition.specs.Checked.{Checked, fault, value, refuse-if}
-use Rattle.definition.specs.Literals.{literals-of}
+use Rattle.definition.specs.Checked.{Checked, fault, value, refuse_if}
+use Rattle.definition.specs.Literals.{literals_of}
 use Rattle.definition.specs.Text.{Bytes}
-use Rattle.definition.specs.Reading.{Input, input-limits}
-use Rattle.definition.specs.Standing.{Line, highest-in}
-use Rattle.definition.specs.Calls.{numbers_of, log-workspace-need, highest-allowed, Handed, read-texts}
+use Rattle.definition.specs.Reading.{Input, input_limits}
+use Rattle.definition.specs.Standing.{Line, highest_in}
+use Rattle.definition.specs.Calls.{numbers_of, log_workspace_need, highest_allowed, Handed, read_texts}
 use Rattle.theory_base.specs.Slices.{between}
-use Rattle.theory_base.proofs.Lines.{lines-few}
-use Rattle.theory_base.proofs.Fitting.{highest-in-le}
+use Rattle.theory_base.proofs.Lines.{lines_few}
+use Rattle.theory_base.proofs.Fitting.{highest_in_le}
 use Rattle.theory_text.specs.Accepted.{Accepted}
-use Rattle.theory_text.proofs.Accepted.{input-accepted}
-use Rattle.theory_text.proofs.LogLines.{All-fit, lines_fit}
+use Rattle.theory_text.proofs.Accepted.{input_accepted}
+use Rattle.theory_text.proofs.LogLines.{AllFit, lines_fit}
 use Rattle.store.specs.Store.{stored}
-use Rattle.dimacs.specs.Entries.{entries-of}
-use Rattle.dimacs.proofs.Entries.{entries-formed, entries-stored, entries-numbers}
-use Rattle.drat.specs.Loaded.{line-entries, lines-in}
-use Rattle.drat.proofs.Loaded.{entries-size, entries-loaded}
-use Rattle.answer.proofs.Table.{marked-assigned}
+use Rattle.dimacs.specs.Entries.{entries_of}
+use Rattle.dimacs.proofs.Entries.{entries_formed, entries_stored, entries_numbers}
+use Rattle.drat.specs.Loaded.{line_entries, lines_in}
+use Rattle.drat.proofs.Loaded.{entries_size, entries_loaded}
+use Rattle.answer.proofs.Table.{marked_assigned}
 use Rattle.replay.specs.Replayed.{Replayable}
-use Rattle.log_texts.specs.declared.Words as Words-code
+use Rattle.log_texts.specs.declared.Words as WordsCode
 use Rattle.log_texts.specs.declared.Words.TheVariants as Words
-use Rattle.log_texts.specs.Handed.{most, line-end, Words-read, Words-say, need, Texts-read}
-use Rattle.log_texts.proofs.TextsRead.{texts-accepted, either-few}
+use Rattle.log_texts.specs.Handed.{most, line_end, WordsRead, WordsSay, need, TextsRead}
+use Rattle.log_texts.proofs.TextsRead.{texts_accepted, either_few}
 use Rattle.log_texts.proofs.Workspace.{first_run, second_run}
 
 -- ---- the words, by the answer
 
-module _ (forward : Bool) (kept : ℕ) (formula log answer : Bytes) (old new : List ℤ) (marks : Bytes) (r : Words-code.Words) (s : Words-say forward kept formula log answer old r new marks) where
-  pub words-fault : (k : ℕ) → r ≡ Words.Fault k → (workspace : ℕ) → read-texts (most forward) workspace kept formula log answer ≡ fault k
-  words-fault k e = rw e at s
+module _ (forward : Bool) (kept : ℕ) (formula log answer : Bytes) (old new : List ℤ) (marks : Bytes) (r : WordsCode.Words) (s : WordsSay forward kept formula log answer old r new marks) where
+  pub words_fault : (k : ℕ) → r ≡ Words.Fault k → (workspace : ℕ) → read_texts (most forward) workspace kept formula log answer ≡ fault k
+  words_fault k e = rw e at s
 
-  pub words-read : (v n g filled x : ℕ) → r ≡ Words.Read v n g filled x → Words-read forward kept formula log answer old v n g filled x new marks
-  words-read v n g filled x e = rw e at s
+  pub words_read : (v n g filled x : ℕ) → r ≡ Words.Read v n g filled x → WordsRead forward kept formula log answer old v n g filled x new marks
+  words_read v n g filled x e = rw e at s
 
 -- ---- the line's last variable, by V and X
 
-line-last : (forward : Bool) (i : Input) (ss : List Line) (v x w : ℕ) → v ≡ i.variables → x ≡ highest-allowed i ss → w ≡ cond forward x v → w ≡ line-end forward i ss
-line-last true i ss v x w p q e = e ∙ q
-line-last false i ss v x w p q e = e ∙ p
+line_last : (forward : Bool) (i : Input) (ss : List Line) (v x w : ℕ) → v ≡ i.variables → x ≡ highest_allowed i ss → w ≡ cond forward x v → w ≡ line_end forward i ss
+line_last true i ss v x w p q e = e ∙ q
+line_last false i ss v x w p q e = e ∙ p
 
 -- ---- the words read
 
-module _ (forward : Bool) (kept : ℕ) (formula log answer : Bytes) (old new : List ℤ) (v n g filled x : ℕ) (marks : Bytes) (t : Words-read forward kept formula log answer old v n g filled x new marks) where
+module _ (forward : Bool) (kept : ℕ) (formula log answer : Bytes) (old new : List ℤ) (v n g filled x : ℕ) (marks : Bytes) (t : WordsRead forward kept formula log answer old v n g filled x new marks) where
   abbrev outcome : Checked Handed
-  outcome = read-texts (most forward) (length old) kept formula log answer
+  outcome = read_texts (most forward) (length old) kept formula log answer
 
   abbrev handed : Handed
   handed = record { input = t.i; lines = t.ss; named = t.named }
 
-  input-fits : Accepted input-limits t.i
-  input-fits = input-accepted formula t.i t.formula-is
+  input_fits : Accepted input_limits t.i
+  input_fits = input_accepted formula t.i t.formula_is
 
-  literals-few : literals-of t.i.formula ≤ 60_000
-  unfolding input-limits
-  literals-few = input-fits.literals-few
+  literals_few : literals_of t.i.formula ≤ 60_000
+  unfolding input_limits
+  literals_few = input_fits.literals_few
 
-  pub n-small : n ≤ 80_000
-  unfolding numbers_of input-limits
-  n-small = omega (arith, t.formula-numbers, literals-few, input-fits.formula-few, input-fits.clauses-few)
+  pub n_small : n ≤ 80_000
+  unfolding numbers_of input_limits
+  n_small = omega (arith, t.formula_numbers, literals_few, input_fits.formula_few, input_fits.clauses_few)
 
-  fit : All-fit t.ss
+  fit : AllFit t.ss
   fit = lines_fit kept log t.ss t.log_is
 
-  lines-low : highest-in t.ss ≤ 70_000
-  lines-low = highest-in-le 70_000 t.ss (λ s i. (fit s i).1)
+  lines_low : highest_in t.ss ≤ 70_000
+  lines_low = highest_in_le 70_000 t.ss (λ s i. (fit s i).1)
 
-  v-small : v ≤ 70_000
-  unfolding input-limits
-  v-small = omega (arith, t.variables, input-fits.variables-few, input-fits.highest-few)
+  v_small : v ≤ 70_000
+  unfolding input_limits
+  v_small = omega (arith, t.variables, input_fits.variables_few, input_fits.highest_few)
 
-  x-small : x ≤ 70_000
-  unfolding highest-allowed input-limits
-  x-small = omega (arith, t.highest, input-fits.highest-few, lines-low)
+  x_small : x ≤ 70_000
+  unfolding highest_allowed input_limits
+  x_small = omega (arith, t.highest, input_fits.highest_few, lines_low)
 
-  need-is : log-workspace-need t.i t.ss (highest-allowed t.i t.ss) ≡ need n g x
-  unfolding log-workspace-need
-  need-is = rw (t.formula-numbers, t.log-numbers, t.highest) refl
+  need_is : log_workspace_need t.i t.ss (highest_allowed t.i t.ss) ≡ need n g x
+  unfolding log_workspace_need
+  need_is = rw (t.formula_numbers, t.log_numbers, t.highest) refl
 
-  outcome-is : outcome ≡ refuse-if (ltb (length old) (need n g x)) 11 (value handed)
-  outcome-is =
-      texts-accepted forward (length old) kept formula log answer t.i t.formula-is t.ss t.log_is t.named t.answer-is
-      ∙ ap (λ (k : ℕ). refuse-if (ltb (length old) k) 11 (value handed)) need-is
+  outcome_is : outcome ≡ refuse_if (ltb (length old) (need n g x)) 11 (value handed)
+  outcome_is =
+      texts_accepted forward (length old) kept formula log answer t.i t.formula_is t.ss t.log_is t.named t.answer_is
+      ∙ ap (λ (k : ℕ). refuse_if (ltb (length old) k) 11 (value handed)) need_is
 
   module _ (size : ℕ) (len : size ≡ length old) where
-    pub short-refused : ltb size (need n g x) ≡ true → outcome ≡ fault 11
-    unfolding refuse-if
-    short-refused e = outcome-is ∙ rw (← len, e)
+    pub short_refused : ltb size (need n g x) ≡ true → outcome ≡ fault 11
+    unfolding refuse_if
+    short_refused e = outcome_is ∙ rw (← len, e)
 
     module _ (enough : ltb size (need n g x) ≡ false) where
       sized : need n g x ≤ length old
       sized = omega (arith, len, ltb-false size (need n g x) enough)
 
       accepted : outcome ≡ value handed
-      unfolding refuse-if
-      accepted = outcome-is ∙ rw (← len, enough)
+      unfolding refuse_if
+      accepted = outcome_is ∙ rw (← len, enough)
 
       -- the lines fill two elements for each of their numbers at most
-      lines-size : filled ≤ g + g
-      lines-size = omega (arith, t.lines-filled, entries-size t.ss, t.log-numbers, lines-few t.ss)
+      lines_size : filled ≤ g + g
+      lines_size = omega (arith, t.lines_filled, entries_size t.ss, t.log_numbers, lines_few t.ss)
 
-      pub lines-fit-work : n + filled ≤ length old
-      lines-fit-work = omega (arith, sized, lines-size)
+      pub lines_fit_work : n + filled ≤ length old
+      lines_fit_work = omega (arith, sized, lines_size)
 
       module _ (m : ℕ) (em : m ≡ n + filled) where
-        formula-there : take n new ≡ entries-of t.i
-        formula-there = first_run (entries-of t.i) (line-entries t.ss) old new n m t.stored (t.formula-numbers ∙ sym (entries-numbers t.i.formula)) (em ∙ ap (λ (k : ℕ). n + k) t.lines-filled) (omega (arith, lines-fit-work))
+        formula_there : take n new ≡ entries_of t.i
+        formula_there = first_run (entries_of t.i) (line_entries t.ss) old new n m t.stored (t.formula_numbers ∙ sym (entries_numbers t.i.formula)) (em ∙ ap (λ (k : ℕ). n + k) t.lines_filled) (omega (arith, lines_fit_work))
 
-        lines-there : between n m new ≡ line-entries t.ss
-        lines-there = second_run (entries-of t.i) (line-entries t.ss) old new n m t.stored (t.formula-numbers ∙ sym (entries-numbers t.i.formula)) (em ∙ ap (λ (k : ℕ). n + k) t.lines-filled) (omega (arith, lines-fit-work))
+        lines_there : between n m new ≡ line_entries t.ss
+        lines_there = second_run (entries_of t.i) (line_entries t.ss) old new n m t.stored (t.formula_numbers ∙ sym (entries_numbers t.i.formula)) (em ∙ ap (λ (k : ℕ). n + k) t.lines_filled) (omega (arith, lines_fit_work))
 
-        lines_are : lines-in (between n m new) ≡ t.ss
-        lines_are = ap lines-in lines-there ∙ (entries-loaded t.ss fit).1
+        lines_are : lines_in (between n m new) ≡ t.ss
+        lines_are = ap lines_in lines_there ∙ (entries_loaded t.ss fit).1
 
-        new-length : length new ≡ length old
-        new-length = ap length t.stored ∙ length-sets old 0 (entries-of t.i ++ line-entries t.ss)
+        new_length : length new ≡ length old
+        new_length = ap length t.stored ∙ length-sets old 0 (entries_of t.i ++ line_entries t.ss)
 
-        replay-ready : Replayable new n m
-        replay-ready = record {
+        replay_ready : Replayable new n m
+        replay_ready = record {
           before = omega arith;
-          room = rw lines_are (omega (arith, em, sized, lines-size, new-length, t.log-numbers));
-          formed = rw formula-there (entries-formed t.i.formula (omega (arith, literals-few)));
-          loaded = rw lines-there (entries-loaded t.ss fit).0;
+          room = rw lines_are (omega (arith, em, sized, lines_size, new_length, t.log_numbers));
+          formed = rw formula_there (entries_formed t.i.formula (omega (arith, literals_few)));
+          loaded = rw lines_there (entries_loaded t.ss fit).0;
         }
 
-        pub handed-on : (w : ℕ) → w ≡ cond forward x v → 70_000 < length marks → Texts-read forward outcome w n m new marks
-        handed-on w e h = record {
+        pub handed_on : (w : ℕ) → w ≡ cond forward x v → 70_000 < length marks → TextsRead forward outcome w n m new marks
+        handed_on w e h = record {
           handed = handed;
           outcome = accepted;
-          last = line-last forward t.i t.ss v x w t.variables t.highest e;
-          few = omega (arith, either-few forward x v w 70_000 x-small v-small e);
-          formula = ap stored formula-there ∙ entries-stored t.i.formula (omega (arith, literals-few));
+          last = line_last forward t.i t.ss v x w t.variables t.highest e;
+          few = omega (arith, either_few forward x v w 70_000 x_small v_small e);
+          formula = ap stored formula_there ∙ entries_stored t.i.formula (omega (arith, literals_few));
           lines = lines_are;
-          assignment = marked-assigned t.named marks t.table;
-          replayable = replay-ready;
-          named = rw lines_are (omega (arith, lines-low));
+          assignment = marked_assigned t.named marks t.table;
+          replayable = replay_ready;
+          named = rw lines_are (omega (arith, lines_low));
         }

@@ -11,36 +11,36 @@ use lib.ListN.{length, take, drop, length-append}
 use lib.Seq.{sets, take-take, take_at, drop_at}
 use borrow.Author.Tests.{lt-ltb, le-ltb, ltb-true, ltb-false}
 use Rattle.theory_base.specs.Slices.{between}
-use Rattle.theory_base.proofs.Tests.{by-test}
-use Rattle.theory_base.proofs.Slices.{sets_then, taken-sets}
-use Rattle.theory_base.proofs.Parts.{drop-take}
+use Rattle.theory_base.proofs.Tests.{by_test}
+use Rattle.theory_base.proofs.Slices.{sets_then, taken_sets}
+use Rattle.theory_base.proofs.Parts.{drop_take}
 use Rattle.log_texts.specs.Handed.{need}
 
 -- ---- the test of its size, by a quotient
 
 module _ (size n g x least : ℕ) (e : least ≡ 4 * n + 4 * x + 64) where
-  pub short-at-once : size < least → true ≡ ltb size (need n g x)
-  short-at-once h = sym (lt-ltb size (need n g x) (omega arith))
+  pub short_at_once : size < least → true ≡ ltb size (need n g x)
+  short_at_once h = sym (lt-ltb size (need n g x) (omega arith))
 
-  pub short-by-quotient : least ≤ size → ltb ((size - least) / 4) g ≡ ltb size (need n g x)
-  short-by-quotient h =
-      by-test (ltb ((size - least) / 4) g)
+  pub short_by_quotient : least ≤ size → ltb ((size - least) / 4) g ≡ ltb size (need n g x)
+  short_by_quotient h =
+      by_test (ltb ((size - least) / 4) g)
       (λ t. t ∙ sym (lt-ltb size (need n g x) (omega (arith, ltb-true ((size - least) / 4) g t))))
       (λ t. t ∙ sym (le-ltb size (need n g x) (omega (arith, ltb-false ((size - least) / 4) g t))))
 
 -- ---- its parts: two runs written from its start
 
-pub runs-joined : (xs ys old mid new : List ℤ) (n : ℕ) → mid ≡ sets old 0 xs → n ≡ length xs → new ≡ sets mid n ys → new ≡ sets old 0 (xs ++ ys)
-runs-joined xs ys old mid new n e p q = q ∙ rw (e, p, ← zero-add (length xs)) (sets_then xs ys old 0)
+pub runs_joined : (xs ys old mid new : List ℤ) (n : ℕ) → mid ≡ sets old 0 xs → n ≡ length xs → new ≡ sets mid n ys → new ≡ sets old 0 (xs ++ ys)
+runs_joined xs ys old mid new n e p q = q ∙ rw (e, p, ← zero-add (length xs)) (sets_then xs ys old 0)
 
 module _ (xs ys old new : List ℤ) (n m : ℕ) (e : new ≡ sets old 0 (xs ++ ys)) (p : n ≡ length xs) (q : m ≡ n + length ys) (room : m ≤ length old) where
   both : take m new ≡ xs ++ ys
   both =
       let z : m ≡ 0 + length (xs ++ ys) = omega (arith, length-append xs ys) in
-      ap (take m) e ∙ ap (λ (k : ℕ). take k (sets old 0 (xs ++ ys))) z ∙ taken-sets (xs ++ ys) old 0 (omega (arith, length-append xs ys))
+      ap (take m) e ∙ ap (λ (k : ℕ). take k (sets old 0 (xs ++ ys))) z ∙ taken_sets (xs ++ ys) old 0 (omega (arith, length-append xs ys))
 
   pub first_run : take n new ≡ xs
   first_run = sym (take-take n m new (omega arith)) ∙ ap (take n) both ∙ take_at xs ys n (sym p)
 
   pub second_run : between n m new ≡ ys
-  second_run = sym (drop-take n m new) ∙ ap (drop n) both ∙ drop_at xs ys n (sym p)
+  second_run = sym (drop_take n m new) ∙ ap (drop n) both ∙ drop_at xs ys n (sym p)

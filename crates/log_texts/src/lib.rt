@@ -1,8 +1,8 @@
 // The three texts of a call that carries an assignment over a log: the formula, the kept lines, and an answer or a plan.
 ghost use Rattle.std.specs.Prelude.{◌≡◌, cond, ◌≤◌, ◌<◌, ltb, length};
-ghost use Rattle.definition.specs.Calls.{read-texts};
-ghost use Rattle.tables.specs.Sizes.{log-reach};
-ghost use Rattle.log_texts.specs.Handed.{most, Words-say, need, Texts-say};
+ghost use Rattle.definition.specs.Calls.{read_texts};
+ghost use Rattle.tables.specs.Sizes.{log_reach};
+ghost use Rattle.log_texts.specs.Handed.{most, WordsSay, need, TextsSay};
 
 use answer::AnswerRead;
 use dimacs::FormulaRead;
@@ -37,8 +37,8 @@ fn read_words(
     work: &mut [i32],
     marks: &mut [u8],
 ) -> Words
-    requires { log-reach < length marks.old }
-    ensures { Words-say forward kept formula.now log.now answer.now work.old result work.new marks.new }
+    requires { log_reach < length marks.old }
+    ensures { WordsSay forward kept formula.now log.now answer.now work.old result work.new marks.new }
 {
     match dimacs::read(formula, dimacs::input_limits(), work) {
         FormulaRead::Fault(k) => Words::Fault(k),
@@ -89,8 +89,8 @@ pub fn read_texts(
     work: &mut [i32],
     marks: &mut [u8],
 ) -> Texts
-    requires { log-reach < length marks.old }
-    ensures { Texts-say forward (read-texts (most forward) (length work.old) kept formula.now log.now answer.now) result work.new marks.new }
+    requires { log_reach < length marks.old }
+    ensures { TextsSay forward (read_texts (most forward) (length work.old) kept formula.now log.now answer.now) result work.new marks.new }
 {
     match read_words(formula, log, kept, answer, forward, work, marks) {
         Words::Fault(k) => Texts::Fault(k),

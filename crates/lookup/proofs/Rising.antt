@@ -11,8 +11,8 @@ use lib.Dec.{leb}
 use lib.ListN.{length}
 use borrow.Author.Tests.{leb-true, leb-false, le-leb, lt-leb}
 use Rattle.definition.specs.Lists.{those}
-use Rattle.theory_base.proofs.Tests.{by-test}
-use Rattle.theory_base.proofs.Members.{those-same}
+use Rattle.theory_base.proofs.Tests.{by_test}
+use Rattle.theory_base.proofs.Members.{those_same}
 
 abbrev pub Rising : List ℕ → Type 0
 Rising [] = Unit {0}
@@ -33,24 +33,24 @@ abbrev pub from_on : ℕ → List ℕ → List ℕ
 from_on b xs = those (leb b) xs
 
 -- it is the same from two numbers between which there is none
-pub from-same : (a b : ℕ) (xs : List ℕ) → a ≤ b → ((x : ℕ) → Memᴰ x xs → x < b → x < a) → from_on a xs ≡ from_on b xs
-from-same a b xs l h = those-same (leb a) (leb b) xs (λ x i. by-test (leb b x) (λ t. le-leb a x (omega (arith, leb-true b x t)) ∙ sym t) (λ t. lt-leb a x (h x i (leb-false b x t)) ∙ sym t))
+pub from_same : (a b : ℕ) (xs : List ℕ) → a ≤ b → ((x : ℕ) → Memᴰ x xs → x < b → x < a) → from_on a xs ≡ from_on b xs
+from_same a b xs l h = those_same (leb a) (leb b) xs (λ x i. by_test (leb b x) (λ t. le-leb a x (omega (arith, leb-true b x t)) ∙ sym t) (λ t. lt-leb a x (h x i (leb-false b x t)) ∙ sym t))
 
 -- none are left from past the last on
-pub from-none : (b : ℕ) (xs : List ℕ) → ((x : ℕ) → Memᴰ x xs → x < b) → from_on b xs ≡ []
+pub from_none : (b : ℕ) (xs : List ℕ) → ((x : ℕ) → Memᴰ x xs → x < b) → from_on b xs ≡ []
 unfolding those
-from-none b [] h = refl
-from-none b (x ∷ xs) h = rw (lt-leb b x (h x (here refl))) (from-none b xs (λ y i. h y (there i)))
+from_none b [] h = refl
+from_none b (x ∷ xs) h = rw (lt-leb b x (h x (here refl))) (from_none b xs (λ y i. h y (there i)))
 
 pub from_all : (xs : List ℕ) → from_on 0 xs ≡ xs
 unfolding those
 from_all [] = refl
 from_all (x ∷ xs) = rw (le-leb 0 x (omega arith)) (ap (λ (r : List ℕ). x ∷ r) (from_all xs))
 
-pub from-few : (b : ℕ) (xs : List ℕ) → length (from_on b xs) ≤ length xs
+pub from_few : (b : ℕ) (xs : List ℕ) → length (from_on b xs) ≤ length xs
 unfolding those
-from-few b [] = omega arith
-from-few b (x ∷ xs) = go (leb b x) (from-few b xs)
+from_few b [] = omega arith
+from_few b (x ∷ xs) = go (leb b x) (from_few b xs)
   where
     go : (t : Bool) → length (from_on b xs) ≤ length xs → length (cond t (x ∷ from_on b xs) (from_on b xs)) ≤ length (x ∷ xs)
     go true h = omega arith
@@ -61,12 +61,12 @@ pub from_more : (a b : ℕ) (xs : List ℕ) → Rising xs → Memᴰ a xs → a 
 unfolding those
 from_more a b (y ∷ ys) r (here e) l h =
     rw (le-leb a y (omega arith), lt-leb b y (omega arith))
-    (ap (λ (z : ℕ). z ∷ from_on a ys) (sym e) ∙ ap (λ (zs : List ℕ). a ∷ zs) (those-same (leb a) (leb b) ys same))
+    (ap (λ (z : ℕ). z ∷ from_on a ys) (sym e) ∙ ap (λ (zs : List ℕ). a ∷ zs) (those_same (leb a) (leb b) ys same))
   where
     same : (x : ℕ) → Memᴰ x ys → leb a x ≡ leb b x
     same x i =
         let g : a < x = omega (arith, r.0 x i) in
-        le-leb a x (omega arith) ∙ sym (by-test (leb b x) (λ t. t) (λ t. absurd (omega (arith, h x (there i) (leb-false b x t)))))
+        le-leb a x (omega arith) ∙ sym (by_test (leb b x) (λ t. t) (λ t. absurd (omega (arith, h x (there i) (leb-false b x t)))))
 from_more a b (y ∷ ys) r (there i) l h =
     let g : y < a = r.0 a i in
     rw (lt-leb a y (omega arith), lt-leb b y (omega arith)) (from_more a b ys r.1 i l (λ x j. h x (there j)))

@@ -2,17 +2,17 @@
 use Rattle.std.specs.Prelude.{◌≡◌, Bool, not, ◌&&◌, cond, ℕ, ◌+◌, ◌-◌, ◌≤◌, ◌<◌, eqb, ltb, ℤ, pos, neg_ℤ, length, get_or, take, set}
 use mathlib.Core.List.{List, Memᴰ}
 use Rattle.definition.specs.Literals.{Clause}
-use Rattle.store.specs.Store.{deleted-at}
-use Rattle.index.specs.Index.{node-place, Indexed}
-use Rattle.index.specs.Reading.{Reading, Found-with}
+use Rattle.store.specs.Store.{deleted_at}
+use Rattle.index.specs.Index.{node_place, Indexed}
+use Rattle.index.specs.Reading.{Reading, FoundWith}
 
 -- the clause at the node t stands and is before a place
-abbrev pub node-stands : List ℤ → ℕ → ℕ → Bool
-node-stands work t before = not (deleted-at work (node-place work t)) && ltb (node-place work t) before
+abbrev pub node_stands : List ℤ → ℕ → ℕ → Bool
+node_stands work t before = not (deleted_at work (node_place work t)) && ltb (node_place work t) before
 
 -- where it is and one more, 0 for no node
-abbrev pub shown-place : List ℤ → ℕ → ℕ
-shown-place work t = cond (eqb t 0) 0 (node-place work t + 1)
+abbrev pub shown_place : List ℤ → ℕ → ℕ
+shown_place work t = cond (eqb t 0) 0 (node_place work t + 1)
 
 -- ---- one cursor
 
@@ -22,12 +22,12 @@ pub record Led (work : List ℤ) (end : ℕ) (m : ℤ) (b t : ℕ) : Type 0 wher
   pub indexed : Indexed work end newest
   pub rest : List ℕ
   pub reading : Reading work end newest m t rest
-  pub each : (p : ℕ) → p < b → Found-with m (take end work) p → Memᴰ p rest
+  pub each : (p : ℕ) → p < b → FoundWith m (take end work) p → Memᴰ p rest
 
 -- and t is none, or the node of such a clause
 pub record Cursor (work : List ℤ) (end : ℕ) (m : ℤ) (b t : ℕ) : Type 0 where
   pub led : Led work end m b t
-  pub found : 0 < t → (node-place work t < b) × Found-with m (take end work) (node-place work t)
+  pub found : 0 < t → (node_place work t < b) × FoundWith m (take end work) (node_place work t)
 
 -- a node from which some literal is read
 pub record Readable (work : List ℤ) (t : ℕ) : Type 0 where
@@ -43,21 +43,21 @@ pub record Moved (work : List ℤ) (t before r : ℕ) : Type 0 where
 -- ---- the cursors and what they show
 
 -- the cursor i is at such a node, from t on
-pub record Placed (work : List ℤ) (t before i : ℕ) (cursors places new-cursors new-places : List ℕ) : Type 0 where
-  pub at-node : ℕ
-  pub moved : Moved work t before at-node
-  pub cursor : new-cursors ≡ set cursors i at-node
-  pub place : new-places ≡ set places i (shown-place work at-node)
+pub record Placed (work : List ℤ) (t before i : ℕ) (cursors places new_cursors new_places : List ℕ) : Type 0 where
+  pub at_node : ℕ
+  pub moved : Moved work t before at_node
+  pub cursor : new_cursors ≡ set cursors i at_node
+  pub place : new_places ≡ set places i (shown_place work at_node)
 
 -- the cursor i is moved if its clause is the one before `next`
-pub record Stepped (work : List ℤ) (next i : ℕ) (cursors places new-cursors new-places : List ℕ) : Type 0 where
-  pub there : get_or places i 0 ≡ next → Placed work (get_or cursors i 0) (next - 1) i cursors places new-cursors new-places
-  pub elsewhere : (get_or places i 0 ≡ next → ⊥) → (new-cursors ≡ cursors) × (new-places ≡ places)
+pub record Stepped (work : List ℤ) (next i : ℕ) (cursors places new_cursors new_places : List ℕ) : Type 0 where
+  pub there : get_or places i 0 ≡ next → Placed work (get_or cursors i 0) (next - 1) i cursors places new_cursors new_places
+  pub elsewhere : (get_or places i 0 ≡ next → ⊥) → (new_cursors ≡ cursors) × (new_places ≡ places)
 
 -- the cursors of the first n literals
 pub record Cursors (work : List ℤ) (end : ℕ) (l : Clause) (b n : ℕ) (cursors places : List ℕ) : Type 0 where
   pub each : (i : ℕ) → i < n → Cursor work end (neg_ℤ (get_or l i (pos 0))) b (get_or cursors i 0)
-  pub shown : (i : ℕ) → i < n → get_or places i 0 ≡ shown-place work (get_or cursors i 0)
+  pub shown : (i : ℕ) → i < n → get_or places i 0 ≡ shown_place work (get_or cursors i 0)
 
 -- the workspace has an index
 pub record Searchable (work : List ℤ) (newest : List ℕ) : Type 0 where
@@ -69,8 +69,8 @@ pub record Starts (work : List ℤ) (newest : List ℕ) (start : ℕ) (l : Claus
   pub starts : (end : ℕ) → Indexed work end newest → Cursors work end l start (length l) cursors places
 
 -- all those whose clause is the one before `next` are moved
-pub record Steps (work : List ℤ) (n next : ℕ) (cursors places new-cursors new-places : List ℕ) : Type 0 where
-  pub steps : (end : ℕ) (l : Clause) → Cursors work end l next n cursors places → Cursors work end l (next - 1) n new-cursors new-places
+pub record Steps (work : List ℤ) (n next : ℕ) (cursors places new_cursors new_places : List ℕ) : Type 0 where
+  pub steps : (end : ℕ) (l : Clause) → Cursors work end l next n cursors places → Cursors work end l (next - 1) n new_cursors new_places
 
 -- the greatest of the first n
 pub record Latest (n : ℕ) (places : List ℕ) (r : ℕ) : Type 0 where

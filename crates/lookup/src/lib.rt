@@ -1,13 +1,13 @@
 // Clauses looked up by a literal in the index: one that stands, the first with some literals, those with a negated literal of a choice in list order.
 ghost use Rattle.std.specs.Prelude.{◌≡◌, ℕ, ◌+◌, ◌*◌, ◌≤◌, ◌<◌, ◌^◌, nat_abs, pos, length, take, drop, get_or};
 ghost use Rattle.definition.specs.Clearing.{times};
-ghost use Rattle.theory_base.specs.Clauses.{Fit-all};
+ghost use Rattle.theory_base.specs.Clauses.{FitAll};
 ghost use Rattle.store.specs.Store.{stored, place_of};
-ghost use Rattle.tables.specs.Sizes.{log-reach};
-ghost use Rattle.index.specs.Index.{node-place, Indexed};
-ghost use Rattle.index.specs.Reading.{Found-with};
-ghost use Rattle.lookup.specs.Lookup.{Deleted-by, touched-places, Gatherable};
-ghost use Rattle.lookup.specs.Cursors.{node-stands, shown-place, Readable, Moved, Placed, Searchable, Starts, Stepped, Steps, Latest};
+ghost use Rattle.tables.specs.Sizes.{log_reach};
+ghost use Rattle.index.specs.Index.{node_place, Indexed};
+ghost use Rattle.index.specs.Reading.{FoundWith};
+ghost use Rattle.lookup.specs.Lookup.{DeletedBy, touched_places, Gatherable};
+ghost use Rattle.lookup.specs.Cursors.{node_stands, shown_place, Readable, Moved, Placed, Searchable, Starts, Stepped, Steps, Latest};
 
 use store::Found;
 
@@ -15,8 +15,8 @@ use store::Found;
 
 // Whether the clause at a node stands and is before a place.
 fn stands_before(work: &[i32], node: usize, before: usize) -> bool
-    requires { (1 ≤ node) × (2 * node ≤ length work.now) × (node-place work.now node < length work.now) }
-    ensures { result ≡ node-stands work.now node before }
+    requires { (1 ≤ node) × (2 * node ≤ length work.now) × (node_place work.now node < length work.now) }
+    ensures { result ≡ node_stands work.now node before }
 {
     let at = index::place_at(work, node);
     if literals::is_negative(work[at]) {
@@ -42,8 +42,8 @@ fn standing_before(work: &[i32], node: usize, before: usize) -> usize
 
 // The place of the last standing clause that holds a literal, if there is one.
 pub fn place_with(work: &[i32], newest: &[u32], end: usize, l: i32) -> usize
-    requires { Indexed work.now end newest.now × (nat_abs l ≤ log-reach) }
-    ensures { 1 ≤ times l (stored (take end work.now)) → Found-with l (take end work.now) result }
+    requires { Indexed work.now end newest.now × (nat_abs l ≤ log_reach) }
+    ensures { 1 ≤ times l (stored (take end work.now)) → FoundWith l (take end work.now) result }
 {
     let node = standing_before(work, index::last_node(newest, l), end);
     if node == 0 {
@@ -56,7 +56,7 @@ pub fn place_with(work: &[i32], newest: &[u32], end: usize, l: i32) -> usize
 
 // The place of the first standing clause with the same set of literals: of those with its first literal, the last that is read.
 fn find(work: &[i32], newest: &[u32], end: usize, clause: &[i32]) -> Found
-    requires { Indexed work.now end newest.now × (1 ≤ length clause.now) × (nat_abs (get_or clause.now 0 (pos 0)) ≤ log-reach) }
+    requires { Indexed work.now end newest.now × (1 ≤ length clause.now) × (nat_abs (get_or clause.now 0 (pos 0)) ≤ log_reach) }
     ensures { result ≡ place_of clause.now (take end work.now) }
 {
     let mut best = Found::Nothing;
@@ -71,8 +71,8 @@ fn find(work: &[i32], newest: &[u32], end: usize, clause: &[i32]) -> Found
 
 // Deletes the first standing clause with the same set of literals, if there is one.
 pub fn delete_clause(work: &mut [i32], newest: &[u32], end: usize, clause: &[i32])
-    requires { Indexed work.old end newest.now × (1 ≤ length clause.now) × (nat_abs (get_or clause.now 0 (pos 0)) ≤ log-reach) }
-    ensures { Deleted-by clause.now work.old end newest.now work.new }
+    requires { Indexed work.old end newest.now × (1 ≤ length clause.now) × (nat_abs (get_or clause.now 0 (pos 0)) ≤ log_reach) }
+    ensures { DeletedBy clause.now work.old end newest.now work.new }
 {
     match find(work, newest, end, clause) {
         Found::At(at) => store::mark_deleted(work, at),
@@ -84,8 +84,8 @@ pub fn delete_clause(work: &mut [i32], newest: &[u32], end: usize, clause: &[i32
 
 // The place of a node's clause and one more, 0 for no node.
 fn shown(work: &[i32], node: usize) -> usize
-    requires { (2 * node ≤ length work.now) × (0 < node → node-place work.now node < 2 ^ 31) }
-    ensures { result ≡ shown-place work.now node }
+    requires { (2 * node ≤ length work.now) × (0 < node → node_place work.now node < 2 ^ 31) }
+    ensures { result ≡ shown_place work.now node }
 {
     if node == 0 {
         return 0;
@@ -119,7 +119,7 @@ fn start_cursors(
     cursors: &mut [u32],
     places: &mut [u32],
 )
-    requires searchable { Searchable work.now newest.now × Fit-all log-reach choice.now }
+    requires searchable { Searchable work.now newest.now × FitAll log_reach choice.now }
     requires choice_in_bounds { (length choice.now ≤ length cursors.old) × (length choice.now ≤ length places.old) }
     ensures { Starts work.now newest.now start choice.now cursors.new places.new }
 {
@@ -181,7 +181,7 @@ fn gather_by(
 ) -> usize
     requires gatherable { Gatherable work.now end newest.now start choice.now list.old }
     requires choice_in_bounds { (length choice.now ≤ length cursors.old) × (length choice.now ≤ length places.old) }
-    ensures { drop result list.new ≡ touched-places choice.now (take start work.now) }
+    ensures { drop result list.new ≡ touched_places choice.now (take start work.now) }
 {
     start_cursors(work, newest, start, choice, cursors, places);
     let n = choice.len();
@@ -206,7 +206,7 @@ pub fn gather(
     list: &mut [u32],
 ) -> usize
     requires { Gatherable work.now end newest.now start choice.now list.old }
-    ensures { drop result list.new ≡ touched-places choice.now (take start work.now) }
+    ensures { drop result list.new ≡ touched_places choice.now (take start work.now) }
 {
     let mut cursors = [0u32; 64];
     let mut places = [0u32; 64];

@@ -1,6 +1,6 @@
 // Marks of variables, thirty-two to a word: set, cleared, and the lowest found by counting the trailing zeros of the first word that is not 0.
 ghost use Rattle.std.specs.Prelude.{◌≡◌, ℕ, ◌*◌, ◌/◌, ◌%◌, ◌≤◌, ◌<◌, ◌^◌, length, get_or};
-ghost use Rattle.marks.specs.Marks.{digit, With-mark, Without-mark, lowest-from as lowest-marked-from};
+ghost use Rattle.marks.specs.Marks.{digit, WithMark, WithoutMark, lowest_from as lowest_marked_from};
 
 // The words that hold the marks of an input's variables.
 pub const INPUT_WORDS: usize = 251;
@@ -29,7 +29,7 @@ fn mark_of(v: u32) -> u32
 // Marks a variable.
 pub fn set(marks: &mut [u32], v: u32)
     requires { v < 32 * length marks.old }
-    ensures { With-mark marks.old v marks.new }
+    ensures { WithMark marks.old v marks.new }
 {
     let w = word_of(v);
     marks[w] = marks[w] | mark_of(v);
@@ -37,7 +37,7 @@ pub fn set(marks: &mut [u32], v: u32)
 
 // Clears the mark of a variable.
 pub fn clear(marks: &mut [u32], v: u32)
-    ensures { Without-mark marks.old v marks.new }
+    ensures { WithoutMark marks.old v marks.new }
 {
     let w = word_of(v);
     if w < marks.len() {
@@ -74,7 +74,7 @@ fn lowest_in(word: u32) -> u32
 // The lowest marked variable, from the first of a word on.
 pub fn lowest_from(marks: &[u32], from: usize) -> Lowest
     requires { length marks.now ≤ 2 ^ 27 }
-    ensures { result ≡ lowest-marked-from marks.now (32 * from) }
+    ensures { result ≡ lowest_marked_from marks.now (32 * from) }
 {
     let w = first_word(marks, from);
     if w < marks.len() {

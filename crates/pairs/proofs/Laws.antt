@@ -8,20 +8,20 @@ use Rattle.definition.specs.Literals.{Clause, Formula}
 use Rattle.definition.specs.Standing.{deletion, take_out}
 use Rattle.definition.specs.Events.{Choice}
 use Rattle.definition.specs.Counter.{copies}
-use Rattle.theory_base.specs.Clauses.{Proper-all, Fit-all}
+use Rattle.theory_base.specs.Clauses.{ProperAll, FitAll}
 use Rattle.theory_counter.specs.Ready.{Ready}
 use Rattle.theory_counter.specs.Front.{front}
-use Rattle.tables.specs.Sizes.{input-reach}
+use Rattle.tables.specs.Sizes.{input_reach}
 use Rattle.tables.specs.Places.{Places}
 use Rattle.store.specs.Store.{stored}
-use Rattle.pairs.specs.Pairs.{Pairs-taken, pair-lines}
-use Rattle.pairs.proofs.Fronts.{front-is, counts-are}
-use Rattle.pairs.proofs.Copies.{pair-lines-are}
+use Rattle.pairs.specs.Pairs.{PairsTaken, pair_lines}
+use Rattle.pairs.proofs.Fronts.{front_is, counts_are}
+use Rattle.pairs.proofs.Copies.{pair_lines_are}
 
-module _ {F : Formula} {c : Clause} {k : Choice} (r : Ready F c k) (p : Proper-all F) (few : length k.literals ≤ 64)
-    {t : List ℕ} {s : List ℤ} {counts : List ℕ} (q : Places t k.literals) (w : Pairs-taken t (take_out k.literals F) s counts) where
-  pub front-stands : stored s ≡ front F k
-  front-stands = w.stands ∙ sym (front-is F c k r p few q)
+module _ {F : Formula} {c : Clause} {k : Choice} (r : Ready F c k) (p : ProperAll F) (few : length k.literals ≤ 64)
+    {t : List ℕ} {s : List ℤ} {counts : List ℕ} (q : Places t k.literals) (w : PairsTaken t (take_out k.literals F) s counts) where
+  pub front_stands : stored s ≡ front F k
+  front_stands = w.stands ∙ sym (front_is F c k r p few q)
 
-  pub copies-lines : Fit-all input-reach k.literals → pair-lines counts k.literals ≡ map deletion (copies F k.literals)
-  copies-lines u = pair-lines-are F k.literals counts u (counts-are F c k r p few q w)
+  pub copies_lines : FitAll input_reach k.literals → pair_lines counts k.literals ≡ map deletion (copies F k.literals)
+  copies_lines u = pair_lines_are F k.literals counts u (counts_are F c k r p few q w)

@@ -1,13 +1,13 @@
 // The pairs of a choice in a store: looked up by literal, deleted and counted, and their deletions recorded by the counts.
 ghost use Rattle.std.specs.Prelude.{◌≡◌, ◌<◌, ◌≤◌, nat_abs, length, take, drop, replicate};
 ghost use Rattle.definition.specs.Standing.{deletion};
-ghost use Rattle.theory_base.specs.Clauses.{Fit-all};
-ghost use Rattle.tables.specs.Sizes.{input-reach, log-reach};
+ghost use Rattle.theory_base.specs.Clauses.{FitAll};
+ghost use Rattle.tables.specs.Sizes.{input_reach, log_reach};
 ghost use Rattle.tables.specs.Places.{Places};
 ghost use Rattle.store.specs.Store.{Formed, stored};
 ghost use Rattle.index.specs.Index.{Indexed};
-ghost use Rattle.progress.specs.Progress.{Written, Log-room};
-ghost use Rattle.pairs.specs.Pairs.{slots, ordered-slot as slot-for, slot_of, Pair-step, Countable, Pairs-less, No-pair-with, Pairs-taken, Pair-counts, cell-lines, row-lines, pair-lines};
+ghost use Rattle.progress.specs.Progress.{Written, LogRoom};
+ghost use Rattle.pairs.specs.Pairs.{slots, ordered_slot as slot_for, slot_of, PairStep, Countable, PairsLess, NoPairWith, PairsTaken, PairCounts, cell_lines, row_lines, pair_lines};
 
 use progress::Progress;
 
@@ -18,7 +18,7 @@ pub const SLOTS: usize = 4096;
 
 // The slot of a pair by its places, of which the first is the lower.
 fn ordered_slot(a: usize, b: usize) -> usize
-    ensures { result ≡ slot-for a b }
+    ensures { result ≡ slot_for a b }
 {
     if 0 < a {
         if a < b {
@@ -52,7 +52,7 @@ fn pair_slot(places: &[u32], clause: &[i32]) -> usize
 // Deletes and counts the clause at a place if it stands and is a pair.
 fn take_pair(store: &mut [i32], at: usize, places: &[u32], counts: &mut [u32])
     requires { (at < length store.old) × Formed (drop at store.old) }
-    ensures { Pair-step places.now store.old at counts.old store.new counts.new }
+    ensures { PairStep places.now store.old at counts.old store.new counts.new }
 {
     if literals::is_negative(store[at]) {
         return;
@@ -75,10 +75,10 @@ fn take_with(
     counts: &mut [u32],
     l: i32,
 )
-    requires indexed_2 { Indexed work.old end newest.now × (nat_abs l ≤ log-reach) }
+    requires indexed_2 { Indexed work.old end newest.now × (nat_abs l ≤ log_reach) }
     requires countable { Countable places.now (stored (take end work.old)) counts.old }
-    ensures less { Pairs-less places.now (take end work.old) counts.old (take end work.new) counts.new }
-    ensures none { No-pair-with l places.now (take end work.new) }
+    ensures less { PairsLess places.now (take end work.old) counts.old (take end work.new) counts.new }
+    ensures none { NoPairWith l places.now (take end work.new) }
     ensures indexed { Indexed work.new end newest.now }
 {
     let mut node = index::last_node(newest, l);
@@ -99,9 +99,9 @@ pub fn take_pairs(
     choice: &[i32],
     counts: &mut [u32],
 )
-    requires indexed_2 { Indexed work.old end newest.now × Places places.now choice.now × Fit-all input-reach choice.now × (length choice.now ≤ 64) }
+    requires indexed_2 { Indexed work.old end newest.now × Places places.now choice.now × FitAll input_reach choice.now × (length choice.now ≤ 64) }
     requires counts_value { counts.old ≡ replicate slots 0 }
-    ensures taken { Pairs-taken places.now (stored (take end work.old)) (take end work.new) counts.new }
+    ensures taken { PairsTaken places.now (stored (take end work.old)) (take end work.new) counts.new }
     ensures indexed { Indexed work.new end newest.now }
 {
     let mut i = 0;
@@ -117,7 +117,7 @@ pub fn take_pairs(
 // Records the deletion of a pair some times.
 fn record_times(log: &mut [u8], p: Progress, pair: &[i32], times: u32) -> Progress
     requires pair_len { length pair.now ≡ 2 }
-    requires log_room { Log-room (replicate times (deletion pair.now)) p }
+    requires log_room { LogRoom (replicate times (deletion pair.now)) p }
     ensures written { Written (replicate times (deletion pair.now)) log.old p log.new result }
     ensures kept { result.end ≡ p.end }
 {
@@ -140,8 +140,8 @@ fn record_cell(
     j: usize,
 ) -> Progress
     requires i_lt_j { (i < j) × (j < length choice.now) × (length choice.now ≤ 64) }
-    requires log_room { Log-room (cell-lines counts.now choice.now i j) p }
-    ensures written { Written (cell-lines counts.now choice.now i j) log.old p log.new result }
+    requires log_room { LogRoom (cell_lines counts.now choice.now i j) p }
+    ensures written { Written (cell_lines counts.now choice.now i j) log.old p log.new result }
     ensures kept { result.end ≡ p.end }
 {
     let times = tables::entry_at(counts, i * 64 + j);
@@ -152,8 +152,8 @@ fn record_cell(
 // Records the deletions of the pairs of the literal at a place with those behind it.
 fn record_row(log: &mut [u8], p: Progress, counts: &[u32], choice: &[i32], i: usize) -> Progress
     requires i_in_bounds { (i < length choice.now) × (length choice.now ≤ 64) }
-    requires log_room { Log-room (row-lines counts.now choice.now i) p }
-    ensures written { Written (row-lines counts.now choice.now i) log.old p log.new result }
+    requires log_room { LogRoom (row_lines counts.now choice.now i) p }
+    ensures written { Written (row_lines counts.now choice.now i) log.old p log.new result }
     ensures kept { result.end ≡ p.end }
 {
     let mut q = p;
@@ -168,8 +168,8 @@ fn record_row(log: &mut [u8], p: Progress, counts: &[u32], choice: &[i32], i: us
 // Records the deletions of all pairs of a choice, each as often as it is counted.
 pub fn record_pairs(log: &mut [u8], p: Progress, counts: &[u32], choice: &[i32]) -> Progress
     requires choice_len_bound { length choice.now ≤ 64 }
-    requires log_room { Log-room (pair-lines counts.now choice.now) p }
-    ensures written { Written (pair-lines counts.now choice.now) log.old p log.new result }
+    requires log_room { LogRoom (pair_lines counts.now choice.now) p }
+    ensures written { Written (pair_lines counts.now choice.now) log.old p log.new result }
     ensures kept { result.end ≡ p.end }
 {
     let mut q = p;
@@ -185,7 +185,7 @@ pub fn record_pairs(log: &mut [u8], p: Progress, counts: &[u32], choice: &[i32])
 
 // Makes the counts of a choice's pairs zero again; there are no others.
 pub fn clear_counts(counts: &mut [u32], choice: &[i32])
-    requires { Pair-counts counts.old (length choice.now) × (length choice.now ≤ 64) }
+    requires { PairCounts counts.old (length choice.now) × (length choice.now ≤ 64) }
     ensures { counts.new ≡ replicate slots 0 }
 {
     let used = choice.len() * 64;

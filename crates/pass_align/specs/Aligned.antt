@@ -3,43 +3,43 @@ use Rattle.std.specs.Prelude.{◌≡◌, ℕ, ◌≤◌, ◌<◌, ◌^◌, T, �
 use mathlib.Core.List.{List, map, Memᴰ}
 use Rattle.definition.specs.Literals.{Clause, Formula}
 use Rattle.definition.specs.Alignment.{linked, Chain}
-use Rattle.theory_base.specs.Clauses.{Proper-all, Fits, Parted}
+use Rattle.theory_base.specs.Clauses.{ProperAll, Fits, Parted}
 use Rattle.store.specs.Store.{Formed, stored}
-use Rattle.tables.specs.Sizes.{input-reach, input-size}
+use Rattle.tables.specs.Sizes.{input_reach, input_size}
 use Rattle.tables.specs.Entries.{entry_of}
 use Rattle.theory_alignment.specs.Groups.{apart}
-use Rattle.pass_align.specs.Tables.{linked-by, Forest, root-of, group_of}
+use Rattle.pass_align.specs.Tables.{linked_by, Forest, root_of, group_of}
 
 -- ---- what alignment reads
 
 -- a store of proper clauses of an input's variables
-pub record Proper-store (s : List ℤ) : Type 0 where
+pub record ProperStore (s : List ℤ) : Type 0 where
   pub formed : Formed s
-  pub proper : Proper-all (stored s)
-  pub fits : Fits input-reach (stored s)
+  pub proper : ProperAll (stored s)
+  pub fits : Fits input_reach (stored s)
 
 -- choices without a common variable, in a store of their own
 pub record Choices (chosen : List ℤ) : Type 0 where
   pub short : length chosen < 2 ^ 31
   pub formed : Formed chosen
-  pub fits : Fits input-reach (stored chosen)
+  pub fits : Fits input_reach (stored chosen)
   pub parted : Parted (stored chosen)
 
 -- ---- what the tables say
 
 -- which literals are of different choices
 abbrev pub Owned : List Clause → List ℕ → Type 0
-Owned cs t = (a b : ℤ) → nat_abs a ≤ input-reach → nat_abs b ≤ input-reach → linked-by t a b ≡ apart cs a b
+Owned cs t = (a b : ℤ) → nat_abs a ≤ input_reach → nat_abs b ≤ input_reach → linked_by t a b ≡ apart cs a b
 
 -- each literal is a group of its own
 abbrev pub Separate : List ℕ → Type 0
-Separate groups = (length groups ≡ input-size) × ((k : ℕ) → k < length groups → get_or groups k 0 ≡ k)
+Separate groups = (length groups ≡ input_size) × ((k : ℕ) → k < length groups → get_or groups k 0 ≡ k)
 
 -- literals of one group are joined by a chain
 pub record Grouping (F : Formula) (cs : List Clause) (groups : List ℕ) : Type 0 where
-  pub size : length groups ≡ input-size
+  pub size : length groups ≡ input_size
   pub forest : Forest groups
-  pub chained : (a b : ℤ) → nat_abs a ≤ input-reach → nat_abs b ≤ input-reach → group_of groups a ≡ group_of groups b → Chain F cs a b
+  pub chained : (a b : ℤ) → nat_abs a ≤ input_reach → nat_abs b ≤ input_reach → group_of groups a ≡ group_of groups b → Chain F cs a b
 
 -- all that is linked to a is in its group
 abbrev pub Met : Formula → List Clause → List ℕ → ℤ → Type 0
@@ -48,14 +48,14 @@ Met F cs groups a = (b : ℤ) → T (linked F cs a b) → group_of groups a ≡ 
 -- all links of the literals ls are joined, and nothing but links: what was in one group is, and literals of one group are joined by a chain still
 pub record Joined (s : List ℤ) (owners : List ℕ) (ls : Clause) (old new : List ℕ) : Type 0 where
   pub forest : Forest new
-  pub coarser : (j k : ℕ) → root-of old j ≡ root-of old k → root-of new j ≡ root-of new k
+  pub coarser : (j k : ℕ) → root_of old j ≡ root_of old k → root_of new j ≡ root_of new k
   pub grouping : (cs : List Clause) → Owned cs owners → Grouping (stored s) cs old → Grouping (stored s) cs new × ((a : ℤ) → Memᴰ a ls → Met (stored s) cs new a)
 
 -- two literals have one entry exactly if a chain joins them; entries are places of the table
 pub record Grouped (F : Formula) (cs : List Clause) (groups : List ℕ) : Type 0 where
-  pub size : length groups ≡ input-size
-  pub inside : (k : ℕ) → k < length groups → get_or groups k 0 < input-size
-  pub chained : (a b : ℤ) → nat_abs a ≤ input-reach → nat_abs b ≤ input-reach → entry_of groups a ≡ entry_of groups b → Chain F cs a b
+  pub size : length groups ≡ input_size
+  pub inside : (k : ℕ) → k < length groups → get_or groups k 0 < input_size
+  pub chained : (a b : ℤ) → nat_abs a ≤ input_reach → nat_abs b ≤ input_reach → entry_of groups a ≡ entry_of groups b → Chain F cs a b
   pub joined : (a b : ℤ) → Chain F cs a b → entry_of groups a ≡ entry_of groups b
 
 -- ---- what alignment gives

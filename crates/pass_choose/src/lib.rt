@@ -2,7 +2,7 @@
 ghost use Rattle.std.specs.Prelude.{◌≡◌, [], ◌∷◌, ◌+◌, ◌<◌, ◌≤◌, length, drop};
 ghost use Rattle.definition.specs.Calls.{numbers_of};
 ghost use Rattle.definition.specs.Counter.{choices};
-ghost use Rattle.tables.specs.Sizes.{input-reach};
+ghost use Rattle.tables.specs.Sizes.{input_reach};
 ghost use Rattle.store.specs.Store.{Formed, stored, Counted};
 ghost use Rattle.progress.specs.Progress.{standing, Good};
 ghost use Rattle.pass_choose.specs.Collecting.{chosen_at, Joined, Collected};
@@ -40,7 +40,7 @@ fn collect_at(store: &[i32], at: usize, counts: &[u32], chosen: &mut [i32], end:
 
 // Collects the choices of a store by the table of its counts; the result is the place past them.
 fn collect_all(store: &[i32], counts: &[u32], chosen: &mut [i32]) -> usize
-    requires { Counted input-reach store.now counts.now × (numbers_of (choices (stored store.now)) ≤ length chosen.old) }
+    requires { Counted input_reach store.now counts.now × (numbers_of (choices (stored store.now)) ≤ length chosen.old) }
     ensures { Collected (choices (stored store.now)) (length chosen.old) result chosen.new }
 {
     let mut end = 0;
@@ -54,7 +54,7 @@ fn collect_all(store: &[i32], counts: &[u32], chosen: &mut [i32]) -> usize
 
 // Collects the choices that stand in a workspace: unique literal clauses of 5 to 64 literals. The result is the place past them.
 pub fn collect(work: &[i32], p: Progress, chosen: &mut [i32]) -> usize
-    requires { Good input-reach [] work.now p × (numbers_of (choices (standing work.now p)) ≤ length chosen.old) }
+    requires { Good input_reach [] work.now p × (numbers_of (choices (standing work.now p)) ≤ length chosen.old) }
     ensures { Collected (choices (standing work.now p)) (length chosen.old) result chosen.new }
 {
     let end = p.end;

@@ -12,22 +12,22 @@ use mir.Syntax.{w32}
 use mir.Val.{SFits, of_z, to_z}
 use Rattle.definition.specs.Lists.{those}
 use Rattle.definition.specs.Literals.{Clause, same, without}
-use Rattle.theory_base.proofs.Slices.{sets_then, sets_first, sets-before, getD-before, part-before}
+use Rattle.theory_base.proofs.Slices.{sets_then, sets_first, sets_before, getD_before, part_before}
 use Rattle.literals.specs.Literal.{signed_of, header_of}
-use Rattle.literals.proofs.Laws.{at-arg2}
+use Rattle.literals.proofs.Laws.{at_arg2}
 use Rattle.store.specs.Store.{entry}
 use Rattle.progress.proofs.Writing.{without-++}
 use Rattle.pass_clashes.specs.Resolving.{part_without, Copied, joined, Joinable}
 
 -- ---- copying one literal
 module _ (out l : ℤ) (a : SFits w32 out) (b : SFits w32 l) {r : Bool} (e : r ≡ same (to_z w32 (of_z w32 out)) (to_z w32 (of_z w32 l))) where
-  pub without-same : r ≡ true → without out (l ∷ []) ≡ []
+  pub without_same : r ≡ true → without out (l ∷ []) ≡ []
   unfolding without those
-  without-same k = let d : same out l ≡ true = sym (at-arg2 same out l a b) ∙ sym e ∙ k in rw d refl
+  without_same k = let d : same out l ≡ true = sym (at_arg2 same out l a b) ∙ sym e ∙ k in rw d refl
 
   pub without_other : r ≡ false → without out (l ∷ []) ≡ l ∷ []
   unfolding without those
-  without_other k = let d : same out l ≡ false = sym (at-arg2 same out l a b) ∙ sym e ∙ k in rw d refl
+  without_other k = let d : same out l ≡ false = sym (at_arg2 same out l a b) ∙ sym e ∙ k in rw d refl
 
 -- ---- copying literals
 
@@ -37,12 +37,12 @@ pub record Copying (old : List ℤ) (to from n : ℕ) (is_negative : Bool) (v i 
   pub size : length work ≡ length old
   pub done : Copied old to from i is_negative v work end
 
-pub copying-start : (old : List ℤ) (to from n : ℕ) (is_negative : Bool) (v : ℕ) → Copying old to from n is_negative v 0 to old
+pub copying_start : (old : List ℤ) (to from n : ℕ) (is_negative : Bool) (v : ℕ) → Copying old to from n is_negative v 0 to old
 unfolding without those
-copying-start old to from n is_negative v = record { inside = omega arith; size = refl; done = record { next = omega arith; copied = refl } }
+copying_start old to from n is_negative v = record { inside = omega arith; size = refl; done = record { next = omega arith; copied = refl } }
 
-without-part : (out : ℤ) (k : ℕ) (c : Clause) → length (without out (take k c)) ≤ length (without out c)
-without-part out k c =
+without_part : (out : ℤ) (k : ℕ) (c : Clause) → length (without out (take k c)) ≤ length (without out c)
+without_part out k c =
     omega (arith, length-append (without out (take k c)) (without out (drop k c)), ap length (without-++ out (take k c) (drop k c)), ap (λ (d : Clause). length (without out d)) (take-append-drop k c))
 
 module _ {old work : List ℤ} {to from n v i end : ℕ} {is_negative : Bool} (s : Copying old to from n is_negative v i end work) (h : i < n) (r : from + n ≤ to) (m : to + length (part_without old from n is_negative v) ≤ length old) where
@@ -55,16 +55,16 @@ module _ {old work : List ℤ} {to from n v i end : ℕ} {is_negative : Bool} (s
   abbrev one : Clause
   one = without out (get_or work (from + i) (pos 0) ∷ [])
 
-  same-literal : get_or work (from + i) (pos 0) ≡ get_or (drop from old) i (pos 0)
-  same-literal = getD-before work old to (from + i) (pos 0) (ap (take to) s.done.copied ∙ sets-before front old to to (omega arith)) (omega arith) ∙ sym (get_or-drop from old i (pos 0))
+  same_literal : get_or work (from + i) (pos 0) ≡ get_or (drop from old) i (pos 0)
+  same_literal = getD_before work old to (from + i) (pos 0) (ap (take to) s.done.copied ∙ sets_before front old to to (omega arith)) (omega arith) ∙ sym (get_or-drop from old i (pos 0))
 
   one_more : part_without old from (i + 1) is_negative v ≡ front ++ one
   one_more =
-      ap (λ (c : Clause). without out c) (ap (λ (k : ℕ). take k (drop from old)) (add-one i) ∙ take-suc (drop from old) i (pos 0) (omega (arith, length-drop from old)) ∙ ap (λ (z : ℤ). take i (drop from old) ++ (z ∷ [])) (sym same-literal))
+      ap (λ (c : Clause). without out c) (ap (λ (k : ℕ). take k (drop from old)) (add-one i) ∙ take-suc (drop from old) i (pos 0) (omega (arith, length-drop from old)) ∙ ap (λ (z : ℤ). take i (drop from old) ++ (z ∷ [])) (sym same_literal))
       ∙ without-++ out (take i (drop from old)) (get_or work (from + i) (pos 0) ∷ [])
 
-  pub copying-room : (from + i < length work) × (end + length one ≤ length work)
-  copying-room = (
+  pub copying_room : (from + i < length work) × (end + length one ≤ length work)
+  copying_room = (
     omega (arith, s.size),
     omega (
       arith,
@@ -72,13 +72,13 @@ module _ {old work : List ℤ} {to from n v i end : ℕ} {is_negative : Bool} (s
       s.size,
       ap length one_more,
       length-append front one,
-      without-part out (i + 1) (take n (drop from old)),
+      without_part out (i + 1) (take n (drop from old)),
       ap (λ (c : Clause). length (without out c)) (take-take (i + 1) n (drop from old) (omega arith)),
     ),
   )
 
-  pub copying-step : {new : List ℤ} {q : ℕ} → q ≡ end + length one → new ≡ sets work end one → Copying old to from n is_negative v (i + 1) q new
-  copying-step {new} {q} e f = record {
+  pub copying_step : {new : List ℤ} {q : ℕ} → q ≡ end + length one → new ≡ sets work end one → Copying old to from n is_negative v (i + 1) q new
+  copying_step {new} {q} e f = record {
     inside = omega arith;
     size = ap length f ∙ length-sets work end one ∙ s.size;
     done = record {
@@ -87,15 +87,15 @@ module _ {old work : List ℤ} {to from n v i end : ℕ} {is_negative : Bool} (s
     };
   }
 
-pub copying-end : {old work : List ℤ} {to from n v i end : ℕ} {is_negative : Bool} → Copying old to from n is_negative v i end work → n ≤ i → Copied old to from n is_negative v work end
-copying-end {old} {work} {to} {from} {n} {v} {i} {end} {is_negative} s h =
+pub copying_end : {old work : List ℤ} {to from n v i end : ℕ} {is_negative : Bool} → Copying old to from n is_negative v i end work → n ≤ i → Copied old to from n is_negative v work end
+copying_end {old} {work} {to} {from} {n} {v} {i} {end} {is_negative} s h =
     let k : i ≡ n = omega (arith, s.inside) in
     subst (λ (j : ℕ). Copied old to from j is_negative v work end) k s.done
 
 -- ---- the entry of the resolvent
 
-pub first-room : {old : List ℤ} {end a na b nb v : ℕ} → Joinable old end a na b nb v → (a + na ≤ end + 1) × (end + 1 + length (part_without old a na false v) ≤ length old)
-first-room {old} {end} {a} {na} {b} {nb} {v} k = (omega (arith, k.one), omega (arith, k.space, length-append (part_without old a na false v) (part_without old b nb true v)))
+pub first_room : {old : List ℤ} {end a na b nb v : ℕ} → Joinable old end a na b nb v → (a + na ≤ end + 1) × (end + 1 + length (part_without old a na false v) ≤ length old)
+first_room {old} {end} {a} {na} {b} {nb} {v} k = (omega (arith, k.one), omega (arith, k.space, length-append (part_without old a na false v) (part_without old b nb true v)))
 
 module _ {old mid : List ℤ} {end a na b nb v c : ℕ} (k : Joinable old end a na b nb v) (p : Copied old (end + 1) a na false v mid c) where
   abbrev W₁ : Clause
@@ -104,11 +104,11 @@ module _ {old mid : List ℤ} {end a na b nb v c : ℕ} (k : Joinable old end a 
   abbrev W₂ : Clause
   W₂ = part_without old b nb true v
 
-  second-part : take nb (drop b mid) ≡ take nb (drop b old)
-  second-part = ap (λ (s : List ℤ). take nb (drop b s)) p.copied ∙ part-before W₁ old (end + 1) b nb (omega (arith, k.other)) (omega (arith, k.space))
+  second_part : take nb (drop b mid) ≡ take nb (drop b old)
+  second_part = ap (λ (s : List ℤ). take nb (drop b s)) p.copied ∙ part_before W₁ old (end + 1) b nb (omega (arith, k.other)) (omega (arith, k.space))
 
-  pub second-room : (b + nb ≤ c) × (c + length (part_without mid b nb true v) ≤ length mid)
-  second-room = (
+  pub second_room : (b + nb ≤ c) × (c + length (part_without mid b nb true v) ≤ length mid)
+  second_room = (
     omega (arith, k.other, p.next),
     omega (
       arith,
@@ -117,27 +117,27 @@ module _ {old mid : List ℤ} {end a na b nb v c : ℕ} (k : Joinable old end a 
       ap length p.copied,
       length-sets old (end + 1) W₁,
       length-append W₁ W₂,
-      ap (λ (k : Clause). length (without (signed_of true v) k)) second-part,
+      ap (λ (k : Clause). length (without (signed_of true v) k)) second_part,
     ),
   )
 
   module _ {new : List ℤ} {d : ℕ} (q : Copied mid c b nb true v new d) where
     pub entry_next : d ≡ end + (length (joined old a na b nb v) + 1)
-    entry_next = omega (arith, p.next, q.next, length-append W₁ W₂, ap (λ (k : Clause). length (without (signed_of true v) k)) second-part)
+    entry_next = omega (arith, p.next, q.next, length-append W₁ W₂, ap (λ (k : Clause). length (without (signed_of true v) k)) second_part)
 
-    both-copied : new ≡ sets old (end + 1) (joined old a na b nb v)
-    both-copied =
-        q.copied ∙ ap (λ (k : Clause). sets mid c (without (signed_of true v) k)) second-part
+    both_copied : new ≡ sets old (end + 1) (joined old a na b nb v)
+    both_copied =
+        q.copied ∙ ap (λ (k : Clause). sets mid c (without (signed_of true v) k)) second_part
         ∙ ap (λ (s : List ℤ). sets s c W₂) p.copied
         ∙ ap (λ (k : ℕ). sets (sets old (end + 1) W₁) k W₂) p.next
         ∙ sets_then W₁ W₂ old (end + 1)
 
-    pub entry-written : {h : ℤ} → h ≡ header_of (d - (end + 1)) → set new end h ≡ sets old end (entry (joined old a na b nb v))
-    entry-written {h} e =
+    pub entry_written : {h : ℤ} → h ≡ header_of (d - (end + 1)) → set new end h ≡ sets old end (entry (joined old a na b nb v))
+    entry_written {h} e =
         let n : d - (end + 1) ≡ length (joined old a na b nb v) = omega (arith, entry_next) in
         ap (λ (z : ℤ). set new end z) (e ∙ ap header_of n)
-        ∙ ap (λ (s : List ℤ). set s end (header_of (length (joined old a na b nb v)))) (both-copied ∙ ap (λ (k : ℕ). sets old k (joined old a na b nb v)) (add-one end))
+        ∙ ap (λ (s : List ℤ). set s end (header_of (length (joined old a na b nb v)))) (both_copied ∙ ap (λ (k : ℕ). sets old k (joined old a na b nb v)) (add-one end))
         ∙ sets_first (joined old a na b nb v) old end (header_of (length (joined old a na b nb v)))
 
     pub entry_length : (h : ℤ) → length (set new end h) ≡ length old
-    entry_length h = length-set new end h ∙ ap length both-copied ∙ length-sets old (end + 1) (joined old a na b nb v)
+    entry_length h = length-set new end h ∙ ap length both_copied ∙ length-sets old (end + 1) (joined old a na b nb v)

@@ -15,82 +15,82 @@ use borrow.Author.Tests.{eqb-true}
 use Rattle.definition.specs.Lists.{bit, any}
 use Rattle.definition.specs.Literals.{Clause, Formula, holds}
 use Rattle.definition.specs.Clearing.{unique}
-use Rattle.theory_base.specs.Clauses.{Proper-all, Fit-all}
-use Rattle.theory_base.proofs.Tests.{each_way, or_cases, or_l, or_r, by-test}
-use Rattle.theory_base.proofs.Members.{any_snoc, natAbs-neg, same-variable, holds-mem, mem-holds}
-use Rattle.theory_clearing.specs.Clashing.{in-ulc, mentions}
-use Rattle.theory_clearing.proofs.Clashing.{mentions-mem, mem-mentions, clashes-both}
+use Rattle.theory_base.specs.Clauses.{ProperAll, FitAll}
+use Rattle.theory_base.proofs.Tests.{each_way, or_cases, or_l, or_r, by_test}
+use Rattle.theory_base.proofs.Members.{any_snoc, natAbs_neg, same_variable, holds_mem, mem_holds}
+use Rattle.theory_clearing.specs.Clashing.{in_ulc, mentions}
+use Rattle.theory_clearing.proofs.Clashing.{mentions_mem, mem_mentions, clashes_both}
 use Rattle.literals.specs.Literal.{signed_of}
-use Rattle.literals.proofs.Laws.{signed-small}
-use Rattle.marks.specs.Marks.{input-words, marked, With-mark, Without-mark}
-use Rattle.marks.proofs.Laws.{none-in-zeros}
-use Rattle.tables.specs.Sizes.{input-reach, input-size}
+use Rattle.literals.proofs.Laws.{signed_small}
+use Rattle.marks.specs.Marks.{input_words, marked, WithMark, WithoutMark}
+use Rattle.marks.proofs.Laws.{none_in_zeros}
+use Rattle.tables.specs.Sizes.{input_reach, input_size}
 use Rattle.tables.specs.Entries.{entry_of, with_entries}
-use Rattle.tables.specs.Counts.{unique-by}
-use Rattle.tables.proofs.Laws.{index-inside, entry-zeros, length-entries, entry-set-all}
-use Rattle.tables.proofs.Counting.{unique-is}
-use Rattle.store.specs.Store.{Formed, stored, Counted, deleted-at, clause-at, past, Place}
-use Rattle.store.proofs.Laws.{stored-none, place-start, place-next, prefix-deleted, prefix-stands, part-there}
-use Rattle.pass_clashes.specs.Marking.{Marks-clashes, both, Marked-both, unique-part, Taken-in, Unmarked}
-use Rattle.pass_clashes.proofs.Parents.{standing-mem}
+use Rattle.tables.specs.Counts.{unique_by}
+use Rattle.tables.proofs.Laws.{index_inside, entry_zeros, length_entries, entry_set_all}
+use Rattle.tables.proofs.Counting.{unique_is}
+use Rattle.store.specs.Store.{Formed, stored, Counted, deleted_at, clause_at, past, Place}
+use Rattle.store.proofs.Laws.{stored_none, place_start, place_next, prefix_deleted, prefix_stands, part_there}
+use Rattle.pass_clashes.specs.Marking.{MarksClashes, both, MarkedBoth, unique_part, TakenIn, Unmarked}
+use Rattle.pass_clashes.proofs.Parents.{standing_mem}
 
 -- ---- the variables of a clause
-mentions-one : (l : ℤ) (v : ℕ) → mentions (l ∷ []) v ≡ eqb (nat_abs l) v
+mentions_one : (l : ℤ) (v : ℕ) → mentions (l ∷ []) v ≡ eqb (nat_abs l) v
 unfolding any
-mentions-one l v = or-false (eqb (nat_abs l) v)
+mentions_one l v = or-false (eqb (nat_abs l) v)
 
-mentions-next : (c : Clause) (i v : ℕ) → i < length c → mentions (take (i + 1) c) v ≡ (mentions (take i c) v || eqb (nat_abs (get_or c i (pos 0))) v)
-mentions-next c i v h = rw (add-one i, take-suc c i (pos 0) h) (any_snoc (λ l. eqb (nat_abs l) v) (take i c) (get_or c i (pos 0)))
+mentions_next : (c : Clause) (i v : ℕ) → i < length c → mentions (take (i + 1) c) v ≡ (mentions (take i c) v || eqb (nat_abs (get_or c i (pos 0))) v)
+mentions_next c i v h = rw (add-one i, take-suc c i (pos 0) h) (any_snoc (λ l. eqb (nat_abs l) v) (take i c) (get_or c i (pos 0)))
 
 -- a clause mentions a variable exactly if it holds the variable or its negation
-mentions-holds : (c : Clause) (v : ℕ) → mentions c v ≡ (holds (pos v) c || holds (neg_ℤ (pos v)) c)
-mentions-holds c v = each_way to from
+mentions_holds : (c : Clause) (v : ℕ) → mentions c v ≡ (holds (pos v) c || holds (neg_ℤ (pos v)) c)
+mentions_holds c v = each_way to from
   where
     to : T (mentions c v) → T (holds (pos v) c || holds (neg_ℤ (pos v)) c)
     to t =
-        let r = mentions-mem c v t in
+        let r = mentions_mem c v t in
         ⊎_elim
-        (λ e. or_l (holds (pos v) c) _ (mem-holds (pos v) c (Memᴰ.cast (sym e) r.1)))
-        (λ e. or_r (holds (pos v) c) _ (mem-holds (neg_ℤ (pos v)) c (Memᴰ.cast (sym e) r.1)))
-        (same-variable r.0 (pos v) r.2)
+        (λ e. or_l (holds (pos v) c) _ (mem_holds (pos v) c (Memᴰ.cast (sym e) r.1)))
+        (λ e. or_r (holds (pos v) c) _ (mem_holds (neg_ℤ (pos v)) c (Memᴰ.cast (sym e) r.1)))
+        (same_variable r.0 (pos v) r.2)
 
     from : T (holds (pos v) c || holds (neg_ℤ (pos v)) c) → T (mentions c v)
     from t = ⊎_elim
-        (λ u. mem-mentions c (pos v) (holds-mem (pos v) c u))
-        (λ u. rw natAbs-neg at (mem-mentions c (neg_ℤ (pos v)) (holds-mem (neg_ℤ (pos v)) c u)))
+        (λ u. mem_mentions c (pos v) (holds_mem (pos v) c u))
+        (λ u. rw natAbs_neg at (mem_mentions c (neg_ℤ (pos v)) (holds_mem (neg_ℤ (pos v)) c u)))
         (or_cases (holds (pos v) c) _ t)
 
 -- ---- the variable of a literal
 pub both_first : (t : List ℕ) (v : ℕ) {a b : Bool} → a ≡ ltb 0 (entry_of t (signed_of false v)) → a ≡ true → b ≡ ltb 0 (entry_of t (signed_of true v)) → b ≡ both t v
 both_first t v p q r = rw (sym p ∙ q) r
 
-pub both-none : (t : List ℕ) (v : ℕ) {a : Bool} → a ≡ ltb 0 (entry_of t (signed_of false v)) → a ≡ false → false ≡ both t v
-both-none t v p q = rw (sym p ∙ q) refl
+pub both_none : (t : List ℕ) (v : ℕ) {a : Bool} → a ≡ ltb 0 (entry_of t (signed_of false v)) → a ≡ false → false ≡ both t v
+both_none t v p q = rw (sym p ∙ q) refl
 
 -- by the answer r whether the table has its variable with both signs
 module _ (m t : List ℕ) (l : ℤ) {v : ℕ} (n : v ≡ nat_abs l) {r : Bool} (f : r ≡ both t v) where
-  one-both : (b : Bool) → r ≡ b → (w : ℕ) → (mentions (l ∷ []) w && both t w) ≡ (eqb v w && b)
-  one-both b e w = rw (mentions-one l w, ← n) (go (eqb v w) refl)
+  one_both : (b : Bool) → r ≡ b → (w : ℕ) → (mentions (l ∷ []) w && both t w) ≡ (eqb v w && b)
+  one_both b e w = rw (mentions_one l w, ← n) (go (eqb v w) refl)
     where
       go : (q : Bool) → eqb v w ≡ q → (q && both t w) ≡ (q && b)
       go true k = ap (both t) (sym (eqb-true v w k)) ∙ sym f ∙ e
       go false k = refl
 
-  pub set_both : (new : List ℕ) → r ≡ true → With-mark m v new → Marked-both m t (l ∷ []) new
-  set_both new e k w = k w ∙ ap (λ (b : Bool). b || marked m w) (sym (one-both true e w ∙ and-true (eqb v w)))
+  pub set_both : (new : List ℕ) → r ≡ true → WithMark m v new → MarkedBoth m t (l ∷ []) new
+  set_both new e k w = k w ∙ ap (λ (b : Bool). b || marked m w) (sym (one_both true e w ∙ and-true (eqb v w)))
 
-  pub not-both : r ≡ false → Marked-both m t (l ∷ []) m
-  not-both e w = ap (λ (b : Bool). b || marked m w) (sym (one-both false e w ∙ and-false (eqb v w)))
+  pub not_both : r ≡ false → MarkedBoth m t (l ∷ []) m
+  not_both e w = ap (λ (b : Bool). b || marked m w) (sym (one_both false e w ∙ and-false (eqb v w)))
 
 -- ---- loops over a clause
-pub marked_start : (m t : List ℕ) → Marked-both m t [] m
+pub marked_start : (m t : List ℕ) → MarkedBoth m t [] m
 unfolding any
 marked_start m t v = refl
 
-pub marked_next : (m m₁ new t : List ℕ) (c : Clause) (i : ℕ) → i < length c → Marked-both m t (take i c) m₁ → Marked-both m₁ t (get_or c i (pos 0) ∷ []) new → Marked-both m t (take (i + 1) c) new
+pub marked_next : (m m₁ new t : List ℕ) (c : Clause) (i : ℕ) → i < length c → MarkedBoth m t (take i c) m₁ → MarkedBoth m₁ t (get_or c i (pos 0) ∷ []) new → MarkedBoth m t (take (i + 1) c) new
 marked_next m m₁ new t c i h p q v =
     q v
-    ∙ rw (mentions-one (get_or c i (pos 0)) v, p v, mentions-next c i v h) (go (mentions (take i c) v) (eqb (nat_abs (get_or c i (pos 0))) v) (both t v) (marked m v))
+    ∙ rw (mentions_one (get_or c i (pos 0)) v, p v, mentions_next c i v h) (go (mentions (take i c) v) (eqb (nat_abs (get_or c i (pos 0))) v) (both t v) (marked m v))
   where
     go : (a b x y : Bool) → ((b && x) || ((a && x) || y)) ≡ (((a || b) && x) || y)
     go true true true y = refl
@@ -103,67 +103,67 @@ neither true true y = refl
 neither true false y = refl
 neither false b y = refl
 
-pub unmarked-start : (m : List ℕ) → Unmarked m [] m
+pub unmarked_start : (m : List ℕ) → Unmarked m [] m
 unfolding any
-unmarked-start m v = refl
+unmarked_start m v = refl
 
-pub unmarked-next : (m m₁ new : List ℕ) (c : Clause) (i : ℕ) → i < length c → Unmarked m (take i c) m₁ → Without-mark m₁ (nat_abs (get_or c i (pos 0))) new → Unmarked m (take (i + 1) c) new
-unmarked-next m m₁ new c i h p q v =
-    q v ∙ rw (p v, mentions-next c i v h) (neither (mentions (take i c) v) (eqb (nat_abs (get_or c i (pos 0))) v) (marked m v))
+pub unmarked_next : (m m₁ new : List ℕ) (c : Clause) (i : ℕ) → i < length c → Unmarked m (take i c) m₁ → WithoutMark m₁ (nat_abs (get_or c i (pos 0))) new → Unmarked m (take (i + 1) c) new
+unmarked_next m m₁ new c i h p q v =
+    q v ∙ rw (p v, mentions_next c i v h) (neither (mentions (take i c) v) (eqb (nat_abs (get_or c i (pos 0))) v) (marked m v))
 
 -- ---- what is taken in at a place
 module _ (counts : List ℕ) (s : List ℤ) (at : ℕ) where
-  pub part-deleted : deleted-at s at ≡ true → unique-part counts s at ≡ []
-  part-deleted d = rw d refl
+  pub part_deleted : deleted_at s at ≡ true → unique_part counts s at ≡ []
+  part_deleted d = rw d refl
 
   -- by the answer r of the test of the slice from the header to the next entry
-  pub part-tested : deleted-at s at ≡ false → (next : ℕ) → next ≡ past s at → {r b : Bool} → r ≡ unique-by counts (take (next - (at + 1)) (drop (at + 1) s)) → r ≡ b → unique-part counts s at ≡ cond b (take (next - (at + 1)) (drop (at + 1) s)) []
-  part-tested d next e f g = let k = part-there s at next e in rw (d, k, ap (unique-by counts) (sym k) ∙ sym f ∙ g) refl
+  pub part_tested : deleted_at s at ≡ false → (next : ℕ) → next ≡ past s at → {r b : Bool} → r ≡ unique_by counts (take (next - (at + 1)) (drop (at + 1) s)) → r ≡ b → unique_part counts s at ≡ cond b (take (next - (at + 1)) (drop (at + 1) s)) []
+  part_tested d next e f g = let k = part_there s at next e in rw (d, k, ap (unique_by counts) (sym k) ∙ sym f ∙ g) refl
 
-pub part_none : {c : Clause} (m t : List ℕ) → c ≡ [] → (t ≡ with_entries t c 1) × Marked-both m t c m
+pub part_none : {c : Clause} (m t : List ℕ) → c ≡ [] → (t ≡ with_entries t c 1) × MarkedBoth m t c m
 unfolding with_entries
 part_none m t e = rw e (refl, marked_start m t)
 
 -- ---- the walk over the store
-before-too : (a b x y : Bool) → (((a || x) && (b || y)) || (a && b)) ≡ ((a || x) && (b || y))
-before-too true true x y = refl
-before-too true false x y = or-false y
-before-too false b x y = or-false (x && (b || y))
+before_too : (a b x y : Bool) → (((a || x) && (b || y)) || (a && b)) ≡ ((a || x) && (b || y))
+before_too true true x y = refl
+before_too true false x y = or-false y
+before_too false b x y = or-false (x && (b || y))
 
 -- both a and b, where a becomes a || x and b becomes b || y
-both-or : (a b x y : Bool) {z : Bool} → (T (x || y) → z ≡ ((a || x) && (b || y))) → (((x || y) && z) || (a && b)) ≡ ((a || x) && (b || y))
-both-or a b true y f = rw (f tt) (before-too a b true y)
-both-or a b false true f = rw (f tt) (before-too a b false true)
-both-or a b false false f = rw (or-false a, or-false b) refl
+both_or : (a b x y : Bool) {z : Bool} → (T (x || y) → z ≡ ((a || x) && (b || y))) → (((x || y) && z) || (a && b)) ≡ ((a || x) && (b || y))
+both_or a b true y f = rw (f tt) (before_too a b true y)
+both_or a b false true f = rw (f tt) (before_too a b false true)
+both_or a b false false f = rw (or-false a, or-false b) refl
 
 -- the table has a literal exactly where f does
-both_is : (t : List ℕ) (f : ℤ → Bool) → ((l : ℤ) → nat_abs l ≤ input-reach → entry_of t l ≡ bit (f l)) → (v : ℕ) → v ≤ input-reach → both t v ≡ (f (pos v) && f (neg_ℤ (pos v)))
-both_is t f e v h = ap₂ (λ (a b : Bool). a && b) (side false (pos v) (signed-small false v (omega arith)) h) (side true (neg_ℤ (pos v)) (signed-small true v (omega arith)) (rw natAbs-neg h))
+both_is : (t : List ℕ) (f : ℤ → Bool) → ((l : ℤ) → nat_abs l ≤ input_reach → entry_of t l ≡ bit (f l)) → (v : ℕ) → v ≤ input_reach → both t v ≡ (f (pos v) && f (neg_ℤ (pos v)))
+both_is t f e v h = ap₂ (λ (a b : Bool). a && b) (side false (pos v) (signed_small false v (omega arith)) h) (side true (neg_ℤ (pos v)) (signed_small true v (omega arith)) (rw natAbs_neg h))
   where
     positive : (b : Bool) → ltb 0 (bit b) ≡ b
     positive true = refl
     positive false = refl
 
-    side : (b : Bool) (l : ℤ) → signed_of b v ≡ l → nat_abs l ≤ input-reach → ltb 0 (entry_of t (signed_of b v)) ≡ f l
+    side : (b : Bool) (l : ℤ) → signed_of b v ≡ l → nat_abs l ≤ input_reach → ltb 0 (entry_of t (signed_of b v)) ≡ f l
     side b l q k = rw q (rw (e l k) (positive (f l)))
 
 -- the clauses before `at` are taken in
 pub record Marking (s : List ℤ) (at : ℕ) (t m : List ℕ) : Type 0 where
   pub place : Place s at
-  table-size : input-reach + input-reach + 2 ≤ length t
-  pub marks-size : length m ≡ input-words
-  pub taken : Taken-in (stored s) (stored (take at s)) t m
+  table_size : input_reach + input_reach + 2 ≤ length t
+  pub marks_size : length m ≡ input_words
+  pub taken : TakenIn (stored s) (stored (take at s)) t m
 
-pub marking-start : {s : List ℤ} {t m : List ℕ} → Formed s → m ≡ replicate input-words 0 → t ≡ replicate input-size 0 → Marking s 0 t m
+pub marking_start : {s : List ℤ} {t m : List ℕ} → Formed s → m ≡ replicate input_words 0 → t ≡ replicate input_size 0 → Marking s 0 t m
 unfolding any
-marking-start {s} {t} {m} f e g = record {
-  place = place-start f;
-  table-size = omega (arith, ap length g, length-replicate {A = ℕ} input-size 0);
-  marks-size = ap length e ∙ length-replicate {A = ℕ} input-words 0;
-  taken = rw stored-none (record { table = λ l b. rw g (entry-zeros input-size l); marks = λ v. rw e (none-in-zeros input-words v) });
+marking_start {s} {t} {m} f e g = record {
+  place = place_start f;
+  table_size = omega (arith, ap length g, length-replicate {A = ℕ} input_size 0);
+  marks_size = ap length e ∙ length-replicate {A = ℕ} input_words 0;
+  taken = rw stored_none (record { table = λ l b. rw g (entry_zeros input_size l); marks = λ v. rw e (none_in_zeros input_words v) });
 }
 
-module _ {counts : List ℕ} {s : List ℤ} {at : ℕ} {t m : List ℕ} (k : Counted input-reach s counts) (i : Marking s at t m) (h : at < length s) where
+module _ {counts : List ℕ} {s : List ℤ} {at : ℕ} {t m : List ℕ} (k : Counted input_reach s counts) (i : Marking s at t m) (h : at < length s) where
   abbrev F : Formula
   F = stored s
 
@@ -174,43 +174,43 @@ module _ {counts : List ℕ} {s : List ℤ} {at : ℕ} {t m : List ℕ} (k : Cou
   G₁ = stored (take (past s at) s)
 
   abbrev c : Clause
-  c = clause-at s at
+  c = clause_at s at
 
   abbrev part : Clause
-  part = unique-part counts s at
+  part = unique_part counts s at
 
-  clause-fits : deleted-at s at ≡ false → Fit-all input-reach c
-  clause-fits d = k.fits c (standing-mem (record { inside = h; place = i.place; stands = d }))
+  clause_fits : deleted_at s at ≡ false → FitAll input_reach c
+  clause_fits d = k.fits c (standing_mem (record { inside = h; place = i.place; stands = d }))
 
-  pub part-fits : Fit-all input-reach part
-  part-fits = by-test (deleted-at s at) (λ d. rw d none-fits) (λ d. rw d (go (unique-by counts c) (clause-fits d)))
+  pub part_fits : FitAll input_reach part
+  part_fits = by_test (deleted_at s at) (λ d. rw d none_fits) (λ d. rw d (go (unique_by counts c) (clause_fits d)))
     where
-      none-fits : Fit-all input-reach []
-      none-fits x j = absurd (Memᴰ.not-nil j)
+      none_fits : FitAll input_reach []
+      none_fits x j = absurd (Memᴰ.not-nil j)
 
-      go : (b : Bool) → Fit-all input-reach c → Fit-all input-reach (cond b c [])
+      go : (b : Bool) → FitAll input_reach c → FitAll input_reach (cond b c [])
       go true f = f
-      go false f = none-fits
+      go false f = none_fits
 
   -- the literals in unique literal clauses: those of the part are new
-  in-ulc-next : (l : ℤ) → in-ulc F G₁ l ≡ (in-ulc F G l || holds l part)
+  in_ulc_next : (l : ℤ) → in_ulc F G₁ l ≡ (in_ulc F G l || holds l part)
   unfolding holds any
-  in-ulc-next l = by-test (deleted-at s at)
-      (λ d. rw (d, prefix-deleted s at h i.place d) (sym (or-false (in-ulc F G l))))
+  in_ulc_next l = by_test (deleted_at s at)
+      (λ d. rw (d, prefix_deleted s at h i.place d) (sym (or-false (in_ulc F G l))))
       (λ d.
-      rw (d, prefix-stands s at h i.place d, any_snoc (λ b. holds l b && unique F b) G c, sym (unique-is input-reach (omega arith) counts F k.table c (λ x j. (clause-fits d x j).1)))
-      (ap (λ (b : Bool). in-ulc F G l || b) (go (unique-by counts c))))
+      rw (d, prefix_stands s at h i.place d, any_snoc (λ b. holds l b && unique F b) G c, sym (unique_is input_reach (omega arith) counts F k.table c (λ x j. (clause_fits d x j).1)))
+      (ap (λ (b : Bool). in_ulc F G l || b) (go (unique_by counts c))))
     where
       go : (b : Bool) → (holds l c && b) ≡ holds l (cond b c [])
       go true = and-true (holds l c)
       go false = and-false (holds l c)
 
   module _ {t₁ : List ℕ} (e : t₁ ≡ with_entries t part 1) where
-    entry_next : (l : ℤ) → nat_abs l ≤ input-reach → entry_of t₁ l ≡ bit (in-ulc F G₁ l)
+    entry_next : (l : ℤ) → nat_abs l ≤ input_reach → entry_of t₁ l ≡ bit (in_ulc F G₁ l)
     entry_next l b =
         ap (λ (x : List ℕ). entry_of x l) e
-        ∙ entry-set-all t part 1 l (index-inside input-reach t l i.table-size b)
-        ∙ rw (i.taken.table l b, in-ulc-next l) (go (in-ulc F G l) (holds l part))
+        ∙ entry_set_all t part 1 l (index_inside input_reach t l i.table_size b)
+        ∙ rw (i.taken.table l b, in_ulc_next l) (go (in_ulc F G l) (holds l part))
       where
         go : (a b : Bool) → cond b 1 (bit a) ≡ bit (a || b)
         go true true = refl
@@ -219,27 +219,27 @@ module _ {counts : List ℕ} {s : List ℤ} {at : ℕ} {t m : List ℕ} (k : Cou
         go false false = refl
 
     -- a variable of the part is within the table's reach
-    both-next : (v : ℕ) → T (holds (pos v) part || holds (neg_ℤ (pos v)) part) → both t₁ v ≡ (in-ulc F G₁ (pos v) && in-ulc F G₁ (neg_ℤ (pos v)))
-    both-next v u = both_is t₁ (in-ulc F G₁) entry_next v
+    both_next : (v : ℕ) → T (holds (pos v) part || holds (neg_ℤ (pos v)) part) → both t₁ v ≡ (in_ulc F G₁ (pos v) && in_ulc F G₁ (neg_ℤ (pos v)))
+    both_next v u = both_is t₁ (in_ulc F G₁) entry_next v
         (⊎_elim
-        (λ p. (part-fits (pos v) (holds-mem (pos v) part p)).1)
-        (λ p. rw natAbs-neg at (part-fits (neg_ℤ (pos v)) (holds-mem (neg_ℤ (pos v)) part p)).1)
+        (λ p. (part_fits (pos v) (holds_mem (pos v) part p)).1)
+        (λ p. rw natAbs_neg at (part_fits (neg_ℤ (pos v)) (holds_mem (neg_ℤ (pos v)) part p)).1)
         (or_cases (holds (pos v) part) _ u))
 
-    marks-next : (m₁ : List ℕ) → Marked-both m t₁ part m₁ → (v : ℕ) → marked m₁ v ≡ (in-ulc F G₁ (pos v) && in-ulc F G₁ (neg_ℤ (pos v)))
-    marks-next m₁ q v =
-        let g : (in-ulc F G₁ (pos v) && in-ulc F G₁ (neg_ℤ (pos v))) ≡ ((in-ulc F G (pos v) || holds (pos v) part) && (in-ulc F G (neg_ℤ (pos v)) || holds (neg_ℤ (pos v)) part)) = ap₂ (λ (a b : Bool). a && b) (in-ulc-next (pos v)) (in-ulc-next (neg_ℤ (pos v))) in
+    marks_next : (m₁ : List ℕ) → MarkedBoth m t₁ part m₁ → (v : ℕ) → marked m₁ v ≡ (in_ulc F G₁ (pos v) && in_ulc F G₁ (neg_ℤ (pos v)))
+    marks_next m₁ q v =
+        let g : (in_ulc F G₁ (pos v) && in_ulc F G₁ (neg_ℤ (pos v))) ≡ ((in_ulc F G (pos v) || holds (pos v) part) && (in_ulc F G (neg_ℤ (pos v)) || holds (neg_ℤ (pos v)) part)) = ap₂ (λ (a b : Bool). a && b) (in_ulc_next (pos v)) (in_ulc_next (neg_ℤ (pos v))) in
         q v
-        ∙ rw (mentions-holds part v, i.taken.marks v) (both-or (in-ulc F G (pos v)) (in-ulc F G (neg_ℤ (pos v))) (holds (pos v) part) (holds (neg_ℤ (pos v)) part) (λ u. both-next v u ∙ g))
+        ∙ rw (mentions_holds part v, i.taken.marks v) (both_or (in_ulc F G (pos v)) (in_ulc F G (neg_ℤ (pos v))) (holds (pos v) part) (holds (neg_ℤ (pos v)) part) (λ u. both_next v u ∙ g))
         ∙ sym g
 
-    pub marking-next : {m₁ : List ℕ} → Marked-both m t₁ part m₁ → length m₁ ≡ length m → Marking s (past s at) t₁ m₁
-    marking-next {m₁} q n = record {
-      place = place-next s at h i.place;
-      table-size = omega (arith, i.table-size, ap length e, length-entries t part 1);
-      marks-size = n ∙ i.marks-size;
-      taken = record { table = entry_next; marks = marks-next m₁ q };
+    pub marking_next : {m₁ : List ℕ} → MarkedBoth m t₁ part m₁ → length m₁ ≡ length m → Marking s (past s at) t₁ m₁
+    marking_next {m₁} q n = record {
+      place = place_next s at h i.place;
+      table_size = omega (arith, i.table_size, ap length e, length_entries t part 1);
+      marks_size = n ∙ i.marks_size;
+      taken = record { table = entry_next; marks = marks_next m₁ q };
     }
 
-pub marking-end : {s : List ℤ} {at : ℕ} {t m : List ℕ} → Marking s at t m → length s ≤ at → Proper-all (stored s) → Marks-clashes (stored s) m
-marking-end {s} {at} i h p v = (rw (take_all at s h) at i.taken).marks v ∙ sym (clashes-both (stored s) p v)
+pub marking_end : {s : List ℤ} {at : ℕ} {t m : List ℕ} → Marking s at t m → length s ≤ at → ProperAll (stored s) → MarksClashes (stored s) m
+marking_end {s} {at} i h p v = (rw (take_all at s h) at i.taken).marks v ∙ sym (clashes_both (stored s) p v)

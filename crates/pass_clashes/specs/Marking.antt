@@ -2,17 +2,17 @@
 use Rattle.std.specs.Prelude.{◌≡◌, Bool, true, false, not, cond, ◌&&◌, ◌||◌, List, [], ℕ, ◌≤◌, ltb, ℤ, pos, neg_ℤ, nat_abs}
 use Rattle.definition.specs.Lists.{bit}
 use Rattle.definition.specs.Literals.{Clause, Formula}
-use Rattle.theory_clearing.specs.Clashing.{clashes, in-ulc, mentions}
+use Rattle.theory_clearing.specs.Clashing.{clashes, in_ulc, mentions}
 use Rattle.literals.specs.Literal.{signed_of}
 use Rattle.marks.specs.Marks.{marked}
-use Rattle.tables.specs.Sizes.{input-reach}
+use Rattle.tables.specs.Sizes.{input_reach}
 use Rattle.tables.specs.Entries.{entry_of}
-use Rattle.tables.specs.Counts.{unique-by}
-use Rattle.store.specs.Store.{deleted-at, clause-at}
+use Rattle.tables.specs.Counts.{unique_by}
+use Rattle.store.specs.Store.{deleted_at, clause_at}
 
 -- the marks are exactly the variables that clash
-abbrev pub Marks-clashes : Formula → List ℕ → Type 0
-Marks-clashes F m = (v : ℕ) → marked m v ≡ clashes F v
+abbrev pub MarksClashes : Formula → List ℕ → Type 0
+MarksClashes F m = (v : ℕ) → marked m v ≡ clashes F v
 
 -- ---- a clause taken in
 
@@ -21,17 +21,17 @@ abbrev pub both : List ℕ → ℕ → Bool
 both t v = ltb 0 (entry_of t (signed_of false v)) && ltb 0 (entry_of t (signed_of true v))
 
 -- those variables of a clause that the table has with both signs are marked too
-abbrev pub Marked-both : List ℕ → List ℕ → Clause → List ℕ → Type 0
-Marked-both m t c new = (v : ℕ) → marked new v ≡ ((mentions c v && both t v) || marked m v)
+abbrev pub MarkedBoth : List ℕ → List ℕ → Clause → List ℕ → Type 0
+MarkedBoth m t c new = (v : ℕ) → marked new v ≡ ((mentions c v && both t v) || marked m v)
 
 -- the literals of the clause at a place if it is a unique literal clause by the table of counts, none if it is not or is deleted
-abbrev pub unique-part : List ℕ → List ℤ → ℕ → Clause
-unique-part counts s at = cond (deleted-at s at) [] (cond (unique-by counts (clause-at s at)) (clause-at s at) [])
+abbrev pub unique_part : List ℕ → List ℤ → ℕ → Clause
+unique_part counts s at = cond (deleted_at s at) [] (cond (unique_by counts (clause_at s at)) (clause_at s at) [])
 
 -- table and marks where the clauses G of F are taken in
-pub record Taken-in (F G : Formula) (t m : List ℕ) : Type 0 where
-  pub table : (l : ℤ) → nat_abs l ≤ input-reach → entry_of t l ≡ bit (in-ulc F G l)
-  pub marks : (v : ℕ) → marked m v ≡ (in-ulc F G (pos v) && in-ulc F G (neg_ℤ (pos v)))
+pub record TakenIn (F G : Formula) (t m : List ℕ) : Type 0 where
+  pub table : (l : ℤ) → nat_abs l ≤ input_reach → entry_of t l ≡ bit (in_ulc F G l)
+  pub marks : (v : ℕ) → marked m v ≡ (in_ulc F G (pos v) && in_ulc F G (neg_ℤ (pos v)))
 
 -- ---- the marks of a clause's variables cleared
 abbrev pub Unmarked : List ℕ → Clause → List ℕ → Type 0

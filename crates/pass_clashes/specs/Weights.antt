@@ -4,10 +4,10 @@ use mathlib.Core.List.{List, [], ◌∷◌, Memᴰ}
 use Rattle.definition.specs.Lists.{sum_of}
 use Rattle.definition.specs.Literals.{Clause, Formula}
 use Rattle.definition.specs.Events.{Event}
-use Rattle.definition.specs.Reencoding.{resolved-into}
+use Rattle.definition.specs.Reencoding.{resolved_into}
 use Rattle.theory_clearing.specs.Weights.{Weighs}
 use Rattle.literals.specs.Literal.{signed_of, index_of}
-use Rattle.tables.specs.Sizes.{input-size}
+use Rattle.tables.specs.Sizes.{input_size}
 use Rattle.tables.specs.Entries.{entry_of}
 
 -- a table of weights counts the input clauses of each clause that stands: 1 and the weights of its literals
@@ -37,11 +37,11 @@ weight w = sum_of (λ n. n) w
 
 -- there is an entry for each literal, and room for 1 more with each clause
 pub record Light (F : Formula) (w : List ℕ) : Type 0 where
-  pub size : length w ≡ input-size
+  pub size : length w ≡ input_size
   pub small : weight w + length F < 2 ^ 31
 
 -- the weights w of F become those of G in the course of the events: the counts stay right, and all weights together grow by no more than clauses go
 pub record Reweighs (es : List Event) (F : Formula) (w : List ℕ) (G : Formula) (new : List ℕ) : Type 0 where
-  pub counts : (count : Clause → ℕ) → Weighs count (entry_of w) F → Weighs (resolved-into count es) (entry_of new) G
+  pub counts : (count : Clause → ℕ) → Weighs count (entry_of w) F → Weighs (resolved_into count es) (entry_of new) G
   pub lighter : weight new + length G ≤ weight w + length F
   pub size : length new ≡ length w

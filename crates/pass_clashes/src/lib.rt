@@ -3,24 +3,24 @@ ghost use Rattle.std.specs.Prelude.{◌≡◌, true, false, [], ◌∷◌, ◌+�
 ghost use Rattle.std.proofs.lemmas.List.Edits.{sets};
 ghost use Rattle.definition.specs.Lists.{any};
 ghost use Rattle.definition.specs.Literals.{without, opposed};
-ghost use Rattle.definition.specs.Events.{clash-cleared};
-ghost use Rattle.definition.specs.Clearing.{clear-clashes, resolvent};
-ghost use Rattle.definition.specs.Reencoding.{resolved-into};
-ghost use Rattle.theory_base.specs.Clauses.{Proper-all, Fit-all};
+ghost use Rattle.definition.specs.Events.{clash_cleared};
+ghost use Rattle.definition.specs.Clearing.{clear_clashes, resolvent};
+ghost use Rattle.definition.specs.Reencoding.{resolved_into};
+ghost use Rattle.theory_base.specs.Clauses.{ProperAll, FitAll};
 ghost use Rattle.theory_clearing.specs.Clashing.{clashes};
 ghost use Rattle.literals.specs.Literal.{signed_of, index_of};
-ghost use Rattle.tables.specs.Sizes.{input-reach, input-size};
+ghost use Rattle.tables.specs.Sizes.{input_reach, input_size};
 ghost use Rattle.tables.specs.Entries.{entry_of, tallied, with_entries};
-ghost use Rattle.marks.specs.Marks.{input-words};
-ghost use Rattle.store.specs.Store.{Formed, stored, entry, clause-at, Counted};
+ghost use Rattle.marks.specs.Marks.{input_words};
+ghost use Rattle.store.specs.Store.{Formed, stored, entry, clause_at, Counted};
 ghost use Rattle.index.specs.Index.{Indexed};
-ghost use Rattle.progress.specs.Progress.{Log-room, standing, Good, Runs};
+ghost use Rattle.progress.specs.Progress.{LogRoom, standing, Good, Runs};
 ghost use Rattle.progress.specs.Growth.{Grown};
-ghost use Rattle.pass_clashes.specs.Marking.{both, Marked-both, Unmarked, unique-part, Marks-clashes};
-ghost use Rattle.pass_clashes.specs.Clashes.{clash-there, Clashing};
-ghost use Rattle.pass_clashes.specs.Resolving.{opposite-in, part_without, Copied, joined, Joinable, added-by, parent-lines, Resolvable, Parents, Parents-gone, Ended};
+ghost use Rattle.pass_clashes.specs.Marking.{both, MarkedBoth, Unmarked, unique_part, MarksClashes};
+ghost use Rattle.pass_clashes.specs.Clashes.{clash_there, Clashing};
+ghost use Rattle.pass_clashes.specs.Resolving.{opposite_in, part_without, Copied, joined, Joinable, added_by, parent_lines, Resolvable, Parents, ParentsGone, Ended};
 ghost use Rattle.pass_clashes.specs.Weights.{Weighed, reweighed, weight, Light, Reweighs};
-ghost use Rattle.pass_clashes.specs.Scan.{Clash-ready, Searching, Scanned, turns-left};
+ghost use Rattle.pass_clashes.specs.Scan.{ClashReady, Searching, Scanned, turns_left};
 
 use marks::Lowest;
 use progress::Progress;
@@ -47,8 +47,8 @@ fn is_both(table: &[u32], v: u32) -> bool
 
 // Marks the variable of a literal if the table has it with both signs.
 fn mark_variable(marks: &mut [u32], table: &[u32], l: i32)
-    requires { (nat_abs l ≤ input-reach) × (length marks.old ≡ input-words) }
-    ensures { Marked-both marks.old table.now (l ∷ []) marks.new }
+    requires { (nat_abs l ≤ input_reach) × (length marks.old ≡ input_words) }
+    ensures { MarkedBoth marks.old table.now (l ∷ []) marks.new }
 {
     let v = literals::variable(l);
     if is_both(table, v) {
@@ -58,8 +58,8 @@ fn mark_variable(marks: &mut [u32], table: &[u32], l: i32)
 
 // Marks the variables of a clause that the table has with both signs.
 fn mark_variables(marks: &mut [u32], table: &[u32], clause: &[i32])
-    requires { Fit-all input-reach clause.now × (length marks.old ≡ input-words) }
-    ensures { Marked-both marks.old table.now clause.now marks.new }
+    requires { FitAll input_reach clause.now × (length marks.old ≡ input_words) }
+    ensures { MarkedBoth marks.old table.now clause.now marks.new }
 {
     let mut i = 0;
     while i < clause.len() {
@@ -71,9 +71,9 @@ fn mark_variables(marks: &mut [u32], table: &[u32], clause: &[i32])
 // Takes in the clause at a place, if it stands and is a unique literal clause: its literals into the table, and marks.
 fn mark_entry(marks: &mut [u32], table: &mut [u32], counts: &[u32], store: &[i32], at: usize)
     requires at_in_bounds { (at < length store.now) × Formed (drop at store.now) }
-    requires fit_all { Fit-all input-reach (unique-part counts.now store.now at) × (length marks.old ≡ input-words) }
-    ensures table { table.new ≡ with_entries table.old (unique-part counts.now store.now at) 1 }
-    ensures marks { Marked-both marks.old table.new (unique-part counts.now store.now at) marks.new }
+    requires fit_all { FitAll input_reach (unique_part counts.now store.now at) × (length marks.old ≡ input_words) }
+    ensures table { table.new ≡ with_entries table.old (unique_part counts.now store.now at) 1 }
+    ensures marks { MarkedBoth marks.old table.new (unique_part counts.now store.now at) marks.new }
 {
     if literals::is_negative(store[at]) {
         return;
@@ -88,9 +88,9 @@ fn mark_entry(marks: &mut [u32], table: &mut [u32], counts: &[u32], store: &[i32
 
 // Marks the variables that clash, by the table of counts.
 fn mark_all(marks: &mut [u32], table: &mut [u32], counts: &[u32], store: &[i32])
-    requires counted { Counted input-reach store.now counts.now × Proper-all (stored store.now) }
-    requires marks_value { (marks.old ≡ replicate input-words 0) × (table.old ≡ replicate input-size 0) }
-    ensures { Marks-clashes (stored store.now) marks.new }
+    requires counted { Counted input_reach store.now counts.now × ProperAll (stored store.now) }
+    requires marks_value { (marks.old ≡ replicate input_words 0) × (table.old ≡ replicate input_size 0) }
+    ensures { MarksClashes (stored store.now) marks.new }
 {
     let mut at = 0;
     while at < store.len() {
@@ -101,8 +101,8 @@ fn mark_all(marks: &mut [u32], table: &mut [u32], counts: &[u32], store: &[i32])
 
 // Marks the variables that clash.
 fn mark_clashes(marks: &mut [u32], work: &[i32], p: Progress)
-    requires { Good input-reach [] work.now p × (marks.old ≡ replicate input-words 0) }
-    ensures { Marks-clashes (standing work.now p) marks.new }
+    requires { Good input_reach [] work.now p × (marks.old ≡ replicate input_words 0) }
+    ensures { MarksClashes (standing work.now p) marks.new }
 {
     let end = p.end;
     let mut counts = [0u32; tables::INPUT_SIZE];
@@ -133,7 +133,7 @@ pub struct Places {
 
 // The places of the clauses of a variable's clash.
 fn find_clash(work: &[i32], newest: &[u32], end: usize, v: u32) -> Places
-    requires { Indexed work.now end newest.now × (v ≤ input-reach) }
+    requires { Indexed work.now end newest.now × (v ≤ input_reach) }
     ensures { clashes (stored (take end work.now)) v ≡ true → Clashing (take end work.now) v result.one result.other }
 {
     Places {
@@ -146,7 +146,7 @@ fn find_clash(work: &[i32], newest: &[u32], end: usize, v: u32) -> Places
 
 // Whether the negation of a literal is counted, and the literal is not the one left out.
 fn is_opposite(table: &[u32], gone: i32, l: i32) -> bool
-    ensures { result ≡ opposite-in table.now gone l }
+    ensures { result ≡ opposite_in table.now gone l }
 {
     if literals::same(gone, l) {
         return false;
@@ -156,7 +156,7 @@ fn is_opposite(table: &[u32], gone: i32, l: i32) -> bool
 
 // Whether the negation of a literal of a clause, without one literal, is counted.
 fn any_opposite(table: &[u32], gone: i32, clause: &[i32]) -> bool
-    ensures { result ≡ any (opposite-in table.now gone) clause.now }
+    ensures { result ≡ any (opposite_in table.now gone) clause.now }
 {
     let mut i = 0;
     while i < clause.len() {
@@ -170,9 +170,9 @@ fn any_opposite(table: &[u32], gone: i32, clause: &[i32]) -> bool
 
 // Whether a clause, without -v, has a literal whose negation is in another clause. The table of zeros is lent.
 fn is_opposed(table: &mut [u32], one: &[i32], v: u32, other: &[i32]) -> bool
-    requires { table.old ≡ replicate input-size 0 }
-    ensures answer { result ≡ any (opposite-in (tallied (replicate input-size 0) one.now) (signed_of true v)) other.now }
-    ensures table { table.new ≡ replicate input-size 0 }
+    requires { table.old ≡ replicate input_size 0 }
+    ensures answer { result ≡ any (opposite_in (tallied (replicate input_size 0) one.now) (signed_of true v)) other.now }
+    ensures table { table.new ≡ replicate input_size 0 }
 {
     tables::count_clause(table, one);
     let is_there = any_opposite(table, literals::signed(true, v), other);
@@ -239,9 +239,9 @@ fn append_resolvent(
 
 // Whether the resolvent of the clauses at x and y has a literal and its negation.
 fn is_tautology(table: &mut [u32], store: &[i32], v: u32, x: usize, y: usize) -> bool
-    requires { Parents store.now v x y × (length store.now < 2 ^ 31) × (table.old ≡ replicate input-size 0) }
-    ensures answer { result ≡ opposed (resolvent (clash-there store.now v x y)) }
-    ensures table { table.new ≡ replicate input-size 0 }
+    requires { Parents store.now v x y × (length store.now < 2 ^ 31) × (table.old ≡ replicate input_size 0) }
+    ensures answer { result ≡ opposed (resolvent (clash_there store.now v x y)) }
+    ensures table { table.new ≡ replicate input_size 0 }
 {
     let a = x + 1;
     let b = y + 1;
@@ -263,8 +263,8 @@ fn add_resolvent(
     y: usize,
 ) -> Progress
     requires resolvable { Resolvable work.old newest.old p v x y }
-    requires y_value { opposed (resolvent (clash-there (take p.end work.old) v x y)) ≡ false }
-    ensures { Grown (added-by (clash-there (take p.end work.old) v x y)) work.old newest.old log.old p work.new newest.new log.new result }
+    requires y_value { opposed (resolvent (clash_there (take p.end work.old) v x y)) ≡ false }
+    ensures { Grown (added_by (clash_there (take p.end work.old) v x y)) work.old newest.old log.old p work.new newest.new log.new result }
 {
     let a = x + 1;
     let b = y + 1;
@@ -285,8 +285,8 @@ fn delete_parents(
     y: usize,
 ) -> Progress
     requires parents { Parents store.old v x y }
-    requires log_room { Log-room (parent-lines (clash-there store.old v x y)) p }
-    ensures { Parents-gone (clash-there store.old v x y) store.old log.old p store.new log.new result }
+    requires log_room { LogRoom (parent_lines (clash_there store.old v x y)) p }
+    ensures { ParentsGone (clash_there store.old v x y) store.old log.old p store.new log.new result }
 {
     let q = progress::delete_first(store, x, log, p, literals::signed(false, v));
     progress::delete_first(store, y, log, q, literals::signed(true, v))
@@ -295,7 +295,7 @@ fn delete_parents(
 // Clears the marks of the variables of the clause at a place.
 fn unmark_entry(marks: &mut [u32], store: &[i32], at: usize)
     requires { (at < length store.now) × Formed (drop at store.now) }
-    ensures { Unmarked marks.old (clause-at store.now at) marks.new }
+    ensures { Unmarked marks.old (clause_at store.now at) marks.new }
 {
     let next = store::next_at(store, at);
     let first = at + 1;
@@ -339,12 +339,12 @@ fn resolve(
     x: usize,
     y: usize,
 ) -> Progress
-    requires { Resolvable work.old newest.old p v x y × (table.old ≡ replicate input-size 0) × Light (standing work.old p) weights.old }
-    ensures runs { Runs (clash-cleared (clash-there (take p.end work.old) v x y) ∷ []) work.old log.old p work.new log.new result }
-    ensures ended { Ended (clash-there (take p.end work.old) v x y) marks.old marks.new }
+    requires { Resolvable work.old newest.old p v x y × (table.old ≡ replicate input_size 0) × Light (standing work.old p) weights.old }
+    ensures runs { Runs (clash_cleared (clash_there (take p.end work.old) v x y) ∷ []) work.old log.old p work.new log.new result }
+    ensures ended { Ended (clash_there (take p.end work.old) v x y) marks.old marks.new }
     ensures indexed { Indexed work.new result.end newest.new }
-    ensures table { table.new ≡ replicate input-size 0 }
-    ensures weights { Reweighs (clash-cleared (clash-there (take p.end work.old) v x y) ∷ []) (standing work.old p) weights.old (standing work.new result) weights.new }
+    ensures table { table.new ≡ replicate input_size 0 }
+    ensures weights { Reweighs (clash_cleared (clash_there (take p.end work.old) v x y) ∷ []) (standing work.old p) weights.old (standing work.new result) weights.new }
 {
     let end = p.end;
     if is_tautology(table, &work[..end], v, x, y) {
@@ -382,7 +382,7 @@ fn clear_next(
 ) -> Scan
     requires { Searching step work.old newest.old table.old weights.old marks.old s × (s.word < length marks.old) }
     ensures scanned { Scanned step work.old weights.old log.old s work.new newest.new table.new weights.new log.new marks.new result }
-    ensures fewer { turns-left work.new result < turns-left work.old s }
+    ensures fewer { turns_left work.new result < turns_left work.old s }
 {
     let before = s.progress;
     match marks::lowest_from(marks, s.word) {
@@ -416,12 +416,12 @@ fn clear_marked(
     p: Progress,
     step: usize,
 ) -> Progress
-    requires clash_ready { Clash-ready step (clear-clashes (standing work.old p)) work.old p × Indexed work.old p.end newest.old × (table.old ≡ replicate input-size 0) × (weights.old ≡ replicate input-size 0) }
-    requires marks_clashes { Marks-clashes (standing work.old p) marks.old × (length marks.old ≡ input-words) }
-    ensures runs { Runs (clear-clashes (standing work.old p)) work.old log.old p work.new log.new result }
+    requires clash_ready { ClashReady step (clear_clashes (standing work.old p)) work.old p × Indexed work.old p.end newest.old × (table.old ≡ replicate input_size 0) × (weights.old ≡ replicate input_size 0) }
+    requires marks_clashes { MarksClashes (standing work.old p) marks.old × (length marks.old ≡ input_words) }
+    ensures runs { Runs (clear_clashes (standing work.old p)) work.old log.old p work.new log.new result }
     ensures indexed { Indexed work.new result.end newest.new }
-    ensures table { table.new ≡ replicate input-size 0 }
-    ensures weighed { Weighed (resolved-into (λ d. 1) (clear-clashes (standing work.old p))) (length (standing work.old p)) (standing work.new result) weights.new }
+    ensures table { table.new ≡ replicate input_size 0 }
+    ensures weighed { Weighed (resolved_into (λ d. 1) (clear_clashes (standing work.old p))) (length (standing work.old p)) (standing work.new result) weights.new }
 {
     let mut s = Scan {
         progress: p,
@@ -443,11 +443,11 @@ pub fn clear_clashes(
     p: Progress,
     step: usize,
 ) -> Progress
-    requires { Clash-ready step (clear-clashes (standing work.old p)) work.old p × Indexed work.old p.end newest.old × (table.old ≡ replicate input-size 0) × (weights.old ≡ replicate input-size 0) }
-    ensures runs { Runs (clear-clashes (standing work.old p)) work.old log.old p work.new log.new result }
+    requires { ClashReady step (clear_clashes (standing work.old p)) work.old p × Indexed work.old p.end newest.old × (table.old ≡ replicate input_size 0) × (weights.old ≡ replicate input_size 0) }
+    ensures runs { Runs (clear_clashes (standing work.old p)) work.old log.old p work.new log.new result }
     ensures indexed { Indexed work.new result.end newest.new }
-    ensures table { table.new ≡ replicate input-size 0 }
-    ensures weighed { Weighed (resolved-into (λ d. 1) (clear-clashes (standing work.old p))) (length (standing work.old p)) (standing work.new result) weights.new }
+    ensures table { table.new ≡ replicate input_size 0 }
+    ensures weighed { Weighed (resolved_into (λ d. 1) (clear_clashes (standing work.old p))) (length (standing work.old p)) (standing work.new result) weights.new }
 {
     let mut marks = [0u32; marks::INPUT_WORDS];
     mark_clashes(&mut marks, work, p);

@@ -1,9 +1,9 @@
 -- A choice that is taken out of a store.
 use Rattle.std.specs.Prelude.{◌≡◌, List, [], ◌∷◌, ℕ, ◌+◌, ℤ, take, drop}
-use Rattle.definition.specs.Literals.{Clause, literals-of}
+use Rattle.definition.specs.Literals.{Clause, literals_of}
 use Rattle.definition.specs.Text.{Bytes}
-use Rattle.definition.specs.Events.{choice-of}
-use Rattle.definition.specs.Counter.{counter, take-choice}
+use Rattle.definition.specs.Events.{choice_of}
+use Rattle.definition.specs.Counter.{counter, take_choice}
 use Rattle.definition.specs.Calls.{numbers_of}
 use Rattle.theory_base.specs.Cells.{cells_of}
 use Rattle.theory_counter.specs.Ready.{Ready}
@@ -15,24 +15,24 @@ use Rattle.progress.specs.declared.Progress.{Progress}
 use Rattle.progress.specs.Progress.{standing, Good, Runs}
 
 -- what the taking of a choice needs
-pub record Choice-ready (work : List ℤ) (newest : List ℕ) (p : Progress) (l : Clause) (below : ℕ) : Type 0 where
-  pub good : Good below (take-choice (standing work p) l (choice-of l below) ∷ []) work p
+pub record ChoiceReady (work : List ℤ) (newest : List ℕ) (p : Progress) (l : Clause) (below : ℕ) : Type 0 where
+  pub good : Good below (take_choice (standing work p) l (choice_of l below) ∷ []) work p
   -- l are the literals of a standing clause; which one it is does not matter to the lines
   pub clause : Clause
-  pub ready : Ready (standing work p) clause (choice-of l below)
+  pub ready : Ready (standing work p) clause (choice_of l below)
   pub small : Small l below
   -- the counter clauses and their nodes fit beside the store and its nodes
   pub indexed : Indexed work p.end newest
-  pub space : Roomy (cells_of (counter (choice-of l below))) work p.end newest
+  pub space : Roomy (cells_of (counter (choice_of l below))) work p.end newest
 
 -- what it gives
-pub record Taken (work : List ℤ) (newest : List ℕ) (l : Clause) (below : ℕ) (log : Bytes) (p : Progress) (new-work : List ℤ) (new-newest : List ℕ) (new-log : Bytes) (r : Progress) : Type 0 where
-  pub ran : Runs (take-choice (standing work p) l (choice-of l below) ∷ []) work log p new-work new-log r
+pub record Taken (work : List ℤ) (newest : List ℕ) (l : Clause) (below : ℕ) (log : Bytes) (p : Progress) (new_work : List ℤ) (new_newest : List ℕ) (new_log : Bytes) (r : Progress) : Type 0 where
+  pub ran : Runs (take_choice (standing work p) l (choice_of l below) ∷ []) work log p new_work new_log r
   -- up to the store's old end stands what is before the counter clauses, and these follow it
-  pub place : Place (take r.end new-work) p.end
-  pub front-stands : stored (take p.end new-work) ≡ front (standing work p) (choice-of l below)
-  pub counter-stands : stored (drop p.end (take r.end new-work)) ≡ counter (choice-of l below)
+  pub place : Place (take r.end new_work) p.end
+  pub front_stands : stored (take p.end new_work) ≡ front (standing work p) (choice_of l below)
+  pub counter_stands : stored (drop p.end (take r.end new_work)) ≡ counter (choice_of l below)
   -- they fill what was added to the store (the order form's room needs this)
-  pub filled : r.end ≡ p.end + numbers_of (counter (choice-of l below))
-  pub indexed : Indexed new-work r.end new-newest
-  pub nodes-are : nodes new-newest ≡ nodes newest + literals-of (counter (choice-of l below))
+  pub filled : r.end ≡ p.end + numbers_of (counter (choice_of l below))
+  pub indexed : Indexed new_work r.end new_newest
+  pub nodes_are : nodes new_newest ≡ nodes newest + literals_of (counter (choice_of l below))

@@ -5,13 +5,13 @@ use Rattle.definition.specs.Events.{Choice}
 use Rattle.definition.specs.Counter.{lit, new}
 
 -- stage 2
-abbrev pub link-2 : Choice → ℕ → Formula
-link-2 k i =
+abbrev pub link_2 : Choice → ℕ → Formula
+link_2 k i =
     (neg_ℤ (new k i) ∷ new k (i - 1) ∷ lit k i ∷ [])
     ∷ (new k i ∷ neg_ℤ (new k (i - 1)) ∷ [])
     ∷ (new k i ∷ neg_ℤ (lit k i) ∷ [])
     ∷ []
 
 -- stage 3
-abbrev pub link-3 : Choice → ℕ → Formula
-link-3 k i = (neg_ℤ (lit k i) ∷ neg_ℤ (new k (i - 1)) ∷ []) ∷ []
+abbrev pub link_3 : Choice → ℕ → Formula
+link_3 k i = (neg_ℤ (lit k i) ∷ neg_ℤ (new k (i - 1)) ∷ []) ∷ []

@@ -1,18 +1,18 @@
 // Counter form of one choice over an indexed store.
 ghost use Rattle.std.specs.Prelude.{◌≡◌, [], ◌∷◌, ◌-◌, ◌≤◌, length, take, replicate};
-ghost use Rattle.definition.specs.Lists.{for-from};
+ghost use Rattle.definition.specs.Lists.{for_from};
 ghost use Rattle.definition.specs.Standing.{take_out};
-ghost use Rattle.definition.specs.Events.{choice-of};
-ghost use Rattle.definition.specs.Counter.{counter, stage-2, stage-3};
-ghost use Rattle.theory_base.specs.Clauses.{Fit-all};
-ghost use Rattle.tables.specs.Sizes.{input-reach};
+ghost use Rattle.definition.specs.Events.{choice_of};
+ghost use Rattle.definition.specs.Counter.{counter, stage_2, stage_3};
+ghost use Rattle.theory_base.specs.Clauses.{FitAll};
+ghost use Rattle.tables.specs.Sizes.{input_reach};
 ghost use Rattle.tables.specs.Places.{Small, Places};
 ghost use Rattle.store.specs.Store.{stored};
 ghost use Rattle.index.specs.Index.{Indexed};
-ghost use Rattle.progress.specs.Growth.{Grow-room, Grown};
-ghost use Rattle.pairs.specs.Pairs.{slots, Pairs-taken};
-ghost use Rattle.pass_counter.specs.Choice.{Choice-ready, Taken};
-ghost use Rattle.pass_counter.specs.Links.{link-2, link-3};
+ghost use Rattle.progress.specs.Growth.{GrowRoom, Grown};
+ghost use Rattle.pairs.specs.Pairs.{slots, PairsTaken};
+ghost use Rattle.pass_counter.specs.Choice.{ChoiceReady, Taken};
+ghost use Rattle.pass_counter.specs.Links.{link_2, link_3};
 
 use progress::Progress;
 
@@ -27,7 +27,7 @@ fn put_two(
     a: i32,
     b: i32,
 ) -> Progress
-    requires { Grow-room ((a ∷ b ∷ []) ∷ []) work.old newest.old p }
+    requires { GrowRoom ((a ∷ b ∷ []) ∷ []) work.old newest.old p }
     ensures { Grown ((a ∷ b ∷ []) ∷ []) work.old newest.old log.old p work.new newest.new log.new result }
 {
     let clause = [a, b];
@@ -44,7 +44,7 @@ fn put_three(
     b: i32,
     c: i32,
 ) -> Progress
-    requires { Grow-room ((a ∷ b ∷ c ∷ []) ∷ []) work.old newest.old p }
+    requires { GrowRoom ((a ∷ b ∷ c ∷ []) ∷ []) work.old newest.old p }
     ensures { Grown ((a ∷ b ∷ c ∷ []) ∷ []) work.old newest.old log.old p work.new newest.new log.new result }
 {
     let clause = [a, b, c];
@@ -62,8 +62,8 @@ fn put_link_2(
     i: usize,
 ) -> Progress
     requires small { Small choice.now below × (2 ≤ i) × (i ≤ length choice.now) }
-    requires grow_room { Grow-room (link-2 (choice-of choice.now below) i) work.old newest.old p }
-    ensures { Grown (link-2 (choice-of choice.now below) i) work.old newest.old log.old p work.new newest.new log.new result }
+    requires grow_room { GrowRoom (link_2 (choice_of choice.now below) i) work.old newest.old p }
+    ensures { Grown (link_2 (choice_of choice.now below) i) work.old newest.old log.old p work.new newest.new log.new result }
 {
     let n = below + i as u32;
     let s = literals::signed(false, n);
@@ -87,8 +87,8 @@ fn put_link_3(
     i: usize,
 ) -> Progress
     requires small { Small choice.now below × (2 ≤ i) × (i ≤ length choice.now) }
-    requires grow_room { Grow-room (link-3 (choice-of choice.now below) i) work.old newest.old p }
-    ensures { Grown (link-3 (choice-of choice.now below) i) work.old newest.old log.old p work.new newest.new log.new result }
+    requires grow_room { GrowRoom (link_3 (choice_of choice.now below) i) work.old newest.old p }
+    ensures { Grown (link_3 (choice_of choice.now below) i) work.old newest.old log.old p work.new newest.new log.new result }
 {
     let not_l = literals::negated(choice[i - 1]);
     let not_s = literals::signed(true, below + i as u32 - 1);
@@ -105,8 +105,8 @@ fn put_links_2(
     below: u32,
 ) -> Progress
     requires small { Small choice.now below × (2 ≤ length choice.now) }
-    requires grow_room { Grow-room (for-from 2 (length choice.now - 2) (link-2 (choice-of choice.now below))) work.old newest.old p }
-    ensures { Grown (for-from 2 (length choice.now - 2) (link-2 (choice-of choice.now below))) work.old newest.old log.old p work.new newest.new log.new result }
+    requires grow_room { GrowRoom (for_from 2 (length choice.now - 2) (link_2 (choice_of choice.now below))) work.old newest.old p }
+    ensures { Grown (for_from 2 (length choice.now - 2) (link_2 (choice_of choice.now below))) work.old newest.old log.old p work.new newest.new log.new result }
 {
     let mut q = p;
     let mut i = 2;
@@ -127,8 +127,8 @@ fn put_links_3(
     below: u32,
 ) -> Progress
     requires small { Small choice.now below × (2 ≤ length choice.now) }
-    requires grow_room { Grow-room (for-from 2 (length choice.now - 1) (link-3 (choice-of choice.now below))) work.old newest.old p }
-    ensures { Grown (for-from 2 (length choice.now - 1) (link-3 (choice-of choice.now below))) work.old newest.old log.old p work.new newest.new log.new result }
+    requires grow_room { GrowRoom (for_from 2 (length choice.now - 1) (link_3 (choice_of choice.now below))) work.old newest.old p }
+    ensures { Grown (for_from 2 (length choice.now - 1) (link_3 (choice_of choice.now below))) work.old newest.old log.old p work.new newest.new log.new result }
 {
     let mut q = p;
     let mut i = 2;
@@ -149,8 +149,8 @@ fn put_stage_2(
     below: u32,
 ) -> Progress
     requires small { Small choice.now below × (2 ≤ length choice.now) }
-    requires grow_room { Grow-room (stage-2 (choice-of choice.now below)) work.old newest.old p }
-    ensures { Grown (stage-2 (choice-of choice.now below)) work.old newest.old log.old p work.new newest.new log.new result }
+    requires grow_room { GrowRoom (stage_2 (choice_of choice.now below)) work.old newest.old p }
+    ensures { Grown (stage_2 (choice_of choice.now below)) work.old newest.old log.old p work.new newest.new log.new result }
 {
     let s = below + 1;
     let l = choice[0];
@@ -176,8 +176,8 @@ fn put_stage_3(
     below: u32,
 ) -> Progress
     requires small { Small choice.now below × (2 ≤ length choice.now) }
-    requires grow_room { Grow-room (stage-3 (choice-of choice.now below)) work.old newest.old p }
-    ensures { Grown (stage-3 (choice-of choice.now below)) work.old newest.old log.old p work.new newest.new log.new result }
+    requires grow_room { GrowRoom (stage_3 (choice_of choice.now below)) work.old newest.old p }
+    ensures { Grown (stage_3 (choice_of choice.now below)) work.old newest.old log.old p work.new newest.new log.new result }
 {
     let last = choice.len() - 1;
     let s = below + last as u32;
@@ -202,8 +202,8 @@ fn put_counter(
     below: u32,
 ) -> Progress
     requires small { Small choice.now below × (2 ≤ length choice.now) }
-    requires grow_room { Grow-room (counter (choice-of choice.now below)) work.old newest.old p }
-    ensures { Grown (counter (choice-of choice.now below)) work.old newest.old log.old p work.new newest.new log.new result }
+    requires grow_room { GrowRoom (counter (choice_of choice.now below)) work.old newest.old p }
+    ensures { Grown (counter (choice_of choice.now below)) work.old newest.old log.old p work.new newest.new log.new result }
 {
     let q = put_stage_2(work, newest, log, p, choice, below);
     put_stage_3(work, newest, log, q, choice, below)
@@ -221,8 +221,8 @@ fn clear_store(
     counts: &mut [u32],
 )
     requires indexed_2 { Indexed work.old end newest.now × Places places.now choice.now × (counts.old ≡ replicate slots 0) }
-    requires fit_all { Fit-all input-reach choice.now × (1 ≤ length choice.now) × (length choice.now ≤ 64) }
-    ensures taken { Pairs-taken places.now (take_out choice.now (stored (take end work.old))) (take end work.new) counts.new }
+    requires fit_all { FitAll input_reach choice.now × (1 ≤ length choice.now) × (length choice.now ≤ 64) }
+    ensures taken { PairsTaken places.now (take_out choice.now (stored (take end work.old))) (take end work.new) counts.new }
     ensures indexed { Indexed work.new end newest.now }
 {
     lookup::delete_clause(work, newest, end, choice);
@@ -240,7 +240,7 @@ pub fn take_choice(
     places: &[u32],
     counts: &mut [u32],
 ) -> Progress
-    requires { Choice-ready work.old newest.old p literals.now below × Places places.now literals.now × (counts.old ≡ replicate slots 0) }
+    requires { ChoiceReady work.old newest.old p literals.now below × Places places.now literals.now × (counts.old ≡ replicate slots 0) }
     ensures taken { Taken work.old newest.old literals.now below log.old p work.new newest.new log.new result }
     ensures counts { counts.new ≡ replicate slots 0 }
 {

@@ -4,10 +4,10 @@ use mathlib.Core.List.{List, [], ◌∷◌, Memᴰ}
 use Rattle.std.proofs.lemmas.List.Edits.{sets}
 use Rattle.definition.specs.Lists.{sum_of}
 use Rattle.definition.specs.Literals.{Clause}
-use Rattle.theory_room.specs.Choices.{used-after}
-use Rattle.theory_run.specs.Table.{taken-records}
+use Rattle.theory_room.specs.Choices.{used_after}
+use Rattle.theory_run.specs.Table.{taken_records}
 use Rattle.tables.specs.Entries.{entry_of}
-use Rattle.store.specs.Store.{Formed, stored, deleted-at, clause-at}
+use Rattle.store.specs.Store.{Formed, stored, deleted_at, clause_at}
 use Rattle.records.specs.Rows.{rows_of}
 use Rattle.pass_number.specs.declared.Numbered.{Numbered}
 
@@ -17,9 +17,9 @@ weighed w l = sum_of (entry_of w) l + 1
 
 -- what numbering choices asks for, where n is the highest variable used and m choices are numbered: all stays small, and there is room for the rows
 pub record Numberable (g : ℕ) (ls : List Clause) (w rows : List ℕ) (n m : ℕ) : Type 0 where
-  pub step-least : 1 ≤ g
-  pub step-most : g ≤ 100
-  pub low : used-after g (λ l. l) n ls ≤ 200_000
+  pub step_least : 1 ≤ g
+  pub step_most : g ≤ 100
+  pub low : used_after g (λ l. l) n ls ≤ 200_000
   pub few : (x : ℤ) → entry_of w x ≤ 2 ^ 20
   pub least : (l : Clause) → Memᴰ l ls → 1 ≤ length l
   pub most : (l : Clause) → Memᴰ l ls → length l ≤ 64
@@ -28,32 +28,32 @@ pub record Numberable (g : ℕ) (ls : List Clause) (w rows : List ℕ) (n m : �
 -- the choices ls are numbered, and their rows written behind those of the m before
 pub record Numbers (g : ℕ) (ls : List Clause) (w rows : List ℕ) (n m : ℕ) (new : List ℕ) (r : Numbered) : Type 0 where
   pub choices : r.choices ≡ m + length ls
-  pub highest : r.highest ≡ used-after g (λ l. l) n ls
-  pub written : new ≡ sets rows (3 * m) (rows_of (taken-records g (λ l. l) (weighed w) n ls))
+  pub highest : r.highest ≡ used_after g (λ l. l) n ls
+  pub written : new ≡ sets rows (3 * m) (rows_of (taken_records g (λ l. l) (weighed w) n ls))
 
 -- ---- one choice
-abbrev pub One-ready : ℕ → Clause → List ℕ → List ℕ → Numbered → Type 0
-One-ready g l w rows m = Numberable g (l ∷ []) w rows m.highest m.choices
+abbrev pub OneReady : ℕ → Clause → List ℕ → List ℕ → Numbered → Type 0
+OneReady g l w rows m = Numberable g (l ∷ []) w rows m.highest m.choices
 
-abbrev pub Numbered-one : ℕ → Clause → List ℕ → List ℕ → Numbered → List ℕ → Numbered → Type 0
-Numbered-one g l w rows m new r = Numbers g (l ∷ []) w rows m.highest m.choices new r
+abbrev pub NumberedOne : ℕ → Clause → List ℕ → List ℕ → Numbered → List ℕ → Numbered → Type 0
+NumberedOne g l w rows m new r = Numbers g (l ∷ []) w rows m.highest m.choices new r
 
 -- ---- the choice at a place of a store, if it stands
-abbrev pub choice-at : List ℤ → ℕ → List Clause
-choice-at s at = cond (deleted-at s at) [] (clause-at s at ∷ [])
+abbrev pub choice_at : List ℤ → ℕ → List Clause
+choice_at s at = cond (deleted_at s at) [] (clause_at s at ∷ [])
 
-pub record At-ready (g : ℕ) (chosen : List ℤ) (at : ℕ) (w rows : List ℕ) (m : Numbered) : Type 0 where
+pub record AtReady (g : ℕ) (chosen : List ℤ) (at : ℕ) (w rows : List ℕ) (m : Numbered) : Type 0 where
   pub inside : at < length chosen
   pub rest : Formed (drop at chosen)
-  pub ready : Numberable g (choice-at chosen at) w rows m.highest m.choices
+  pub ready : Numberable g (choice_at chosen at) w rows m.highest m.choices
 
-abbrev pub Numbered-at : ℕ → List ℤ → ℕ → List ℕ → List ℕ → Numbered → List ℕ → Numbered → Type 0
-Numbered-at g chosen at w rows m new r = Numbers g (choice-at chosen at) w rows m.highest m.choices new r
+abbrev pub NumberedAt : ℕ → List ℤ → ℕ → List ℕ → List ℕ → Numbered → List ℕ → Numbered → Type 0
+NumberedAt g chosen at w rows m new r = Numbers g (choice_at chosen at) w rows m.highest m.choices new r
 
 -- ---- all choices of a store
-pub record All-ready (g : ℕ) (chosen : List ℤ) (w rows : List ℕ) (n : ℕ) : Type 0 where
+pub record AllReady (g : ℕ) (chosen : List ℤ) (w rows : List ℕ) (n : ℕ) : Type 0 where
   pub formed : Formed chosen
   pub ready : Numberable g (stored chosen) w rows n 0
 
-abbrev pub Numbered-all : ℕ → List Clause → List ℕ → List ℕ → ℕ → List ℕ → Numbered → Type 0
-Numbered-all g ls w rows n new r = Numbers g ls w rows n 0 new r
+abbrev pub NumberedAll : ℕ → List Clause → List ℕ → List ℕ → ℕ → List ℕ → Numbered → Type 0
+NumberedAll g ls w rows n new r = Numbers g ls w rows n 0 new r

@@ -3,7 +3,7 @@ ghost use Rattle.std.specs.Prelude.{◌≡◌, [], ◌∷◌, ◌+◌, ◌*◌, 
 ghost use Rattle.std.proofs.lemmas.List.Edits.{sets};
 ghost use Rattle.definition.specs.Counter.{below_new};
 ghost use Rattle.store.specs.Store.{stored};
-ghost use Rattle.pass_number.specs.Numbering.{One-ready, Numbered-one, At-ready, Numbered-at, All-ready, Numbered-all};
+ghost use Rattle.pass_number.specs.Numbering.{OneReady, NumberedOne, AtReady, NumberedAt, AllReady, NumberedAll};
 
 // How many choices are numbered, and the highest variable used after them.
 #[derive(Drop)]
@@ -33,8 +33,8 @@ fn put_row(rows: &mut [u32], at: usize, first: u32, n: u32, clauses: u32)
 
 // Numbers a choice, and writes its row. The weights of its literals say how many input clauses it has.
 fn number_one(literals: &[i32], weights: &[u32], rows: &mut [u32], m: Numbered, g: u32) -> Numbered
-    requires { One-ready g literals.now weights.now rows.old m }
-    ensures { Numbered-one g literals.now weights.now rows.old m rows.new result }
+    requires { OneReady g literals.now weights.now rows.old m }
+    ensures { NumberedOne g literals.now weights.now rows.old m rows.new result }
 {
     let below = next_below(m.highest, g);
     let n = literals.len() as u32;
@@ -55,8 +55,8 @@ fn number_at(
     m: Numbered,
     g: u32,
 ) -> Numbered
-    requires { At-ready g chosen.now at weights.now rows.old m }
-    ensures { Numbered-at g chosen.now at weights.now rows.old m rows.new result }
+    requires { AtReady g chosen.now at weights.now rows.old m }
+    ensures { NumberedAt g chosen.now at weights.now rows.old m rows.new result }
 {
     if literals::is_negative(chosen[at]) {
         return m;
@@ -68,8 +68,8 @@ fn number_at(
 
 // Numbers the choices in list order, and writes their rows.
 pub fn number(chosen: &[i32], weights: &[u32], rows: &mut [u32], highest: u32, g: u32) -> Numbered
-    requires { All-ready g chosen.now weights.now rows.old highest }
-    ensures { Numbered-all g (stored chosen.now) weights.now rows.old highest rows.new result }
+    requires { AllReady g chosen.now weights.now rows.old highest }
+    ensures { NumberedAll g (stored chosen.now) weights.now rows.old highest rows.new result }
 {
     let mut m = Numbered {
         choices: 0,

@@ -11,118 +11,118 @@ use lib.IntN.{ℤ, pos}
 use lib.ListN.{length, set, take, drop, length-append, length-set, take-append-drop, get_or-append}
 use lib.Seq.{length-take-le, take_all, take_at, take-take, take-append-le, set-append_left}
 use borrow.Author.Tests.{ltb-true, ltb-false}
-use Rattle.definition.specs.Lists.{those, only_if, for-each}
+use Rattle.definition.specs.Lists.{those, only_if, for_each}
 use Rattle.definition.specs.Literals.{Clause, Formula, opposes}
 use Rattle.definition.specs.Text.{Bytes}
 use Rattle.definition.specs.Standing.{Line}
-use Rattle.definition.specs.Events.{Choice, Event, clause-replaced}
-use Rattle.definition.specs.Order.{replacement-lines, replaced, replace}
+use Rattle.definition.specs.Events.{Choice, Event, clause_replaced}
+use Rattle.definition.specs.Order.{replacement_lines, replaced, replace}
 use Rattle.definition.specs.Reencoding.{lines, lines_of}
-use Rattle.theory_base.proofs.Tests.{by-test}
+use Rattle.theory_base.proofs.Tests.{by_test}
 use Rattle.theory_base.proofs.Members.{those-++}
-use Rattle.theory_base.specs.Clauses.{Proper-all}
+use Rattle.theory_base.specs.Clauses.{ProperAll}
 use Rattle.theory_base.specs.Cells.{cells_of}
 use Rattle.theory_base.proofs.Clauses.{numbers-++, literals-++}
-use Rattle.theory_base.proofs.Loops.{for-each-++}
+use Rattle.theory_base.proofs.Loops.{for_each-++}
 use Rattle.theory_base.proofs.Replay.{lines-++}
-use Rattle.theory_base.proofs.Slices.{drop-step, drop-end}
-use Rattle.theory_order.specs.Pass.{kept, added, results as results-of, Before}
-use Rattle.literals.specs.Literal.{header-literals, flip}
-use Rattle.store.specs.Store.{Formed, stored, header_at, deleted-at, clause-at, size-at, past, marked, Place}
-use Rattle.store.proofs.Laws.{formed-++, stored-++, stored-none, place-start, place-next, place-formed, place-within, formed-next, prefix-header, prefix-deleted, prefix-stands, prefix-clause, rest-deleted, rest-stands, past_is, drop_past, marked-place, marked-past, marked-behind, marked-prefix, stored-end}
+use Rattle.theory_base.proofs.Slices.{drop_step, drop_end}
+use Rattle.theory_order.specs.Pass.{kept, added, results as results_of, Before}
+use Rattle.literals.specs.Literal.{header_literals, flip}
+use Rattle.store.specs.Store.{Formed, stored, header_at, deleted_at, clause_at, size_at, past, marked, Place}
+use Rattle.store.proofs.Laws.{formed-++, stored-++, stored_none, place_start, place_next, place_formed, place_within, formed_next, prefix_header, prefix_deleted, prefix_stands, prefix_clause, rest_deleted, rest_stands, past_is, drop_past, marked_place, marked_past, marked_behind, marked_prefix, stored_end}
 use Rattle.index.specs.Index.{Indexed, Roomy}
-use Rattle.lookup.specs.Lookup.{touched-from, touched-places}
+use Rattle.lookup.specs.Lookup.{touched_from, touched_places}
 use Rattle.progress.specs.declared.Progress.{Progress}
-use Rattle.progress.specs.Progress.{Written, Log-room}
-use Rattle.progress.proofs.Laws.{lines_none, lines-one, written_none, written_then, room-first, room-rest}
+use Rattle.progress.specs.Progress.{Written, LogRoom}
+use Rattle.progress.proofs.Laws.{lines_none, lines_one, written_none, written_then, room_first, room_rest}
 use Rattle.progress.specs.Growth.{entries}
-use Rattle.pass_order.specs.Pass.{result-of, Replaceable, Replaced-at}
+use Rattle.pass_order.specs.Pass.{result_of, Replaceable, ReplacedAt}
 use Rattle.pass_order.specs.Order.{Passed}
 
 -- ---- one more clause gone through
 module _ (k : Choice) (X : Formula) (d : Clause) where
-  added_more : added k (X ++ (d ∷ [])) ≡ added k X ++ results-of k d
-  unfolding for-each
-  added_more = for-each-++ X (d ∷ []) (results-of k) ∙ ap (λ (r : Formula). added k X ++ r) (append-nil (results-of k d))
+  added_more : added k (X ++ (d ∷ [])) ≡ added k X ++ results_of k d
+  unfolding for_each
+  added_more = for_each-++ X (d ∷ []) (results_of k) ∙ ap (λ (r : Formula). added k X ++ r) (append-nil (results_of k d))
 
-  added-first : added k (d ∷ X) ≡ results-of k d ++ added k X
-  unfolding for-each
-  added-first = refl
+  added_first : added k (d ∷ X) ≡ results_of k d ++ added k X
+  unfolding for_each
+  added_first = refl
 
-  lines_more : lines (for-each (X ++ (d ∷ [])) (replace k)) ≡ lines (for-each X (replace k)) ++ lines (replace k d)
-  unfolding for-each
+  lines_more : lines (for_each (X ++ (d ∷ [])) (replace k)) ≡ lines (for_each X (replace k)) ++ lines (replace k d)
+  unfolding for_each
   lines_more =
-      ap lines (for-each-++ X (d ∷ []) (replace k) ∙ ap (λ (r : List Event). for-each X (replace k) ++ r) (append-nil (replace k d)))
-      ∙ lines-++ (for-each X (replace k)) (replace k d)
+      ap lines (for_each-++ X (d ∷ []) (replace k) ∙ ap (λ (r : List Event). for_each X (replace k) ++ r) (append-nil (replace k d)))
+      ∙ lines-++ (for_each X (replace k)) (replace k d)
 
   module _ (e : opposes k.literals d ≡ false) where
-    kept-stays : kept k (X ++ (d ∷ [])) ≡ kept k X ++ (d ∷ [])
+    kept_stays : kept k (X ++ (d ∷ [])) ≡ kept k X ++ (d ∷ [])
     unfolding those
-    kept-stays = those-++ (λ c. not (opposes k.literals c)) X (d ∷ []) ∙ rw e refl
+    kept_stays = those-++ (λ c. not (opposes k.literals c)) X (d ∷ []) ∙ rw e refl
 
     added_none : added k (X ++ (d ∷ [])) ≡ added k X
     unfolding only_if
     added_none = added_more ∙ rw e (append-nil (added k X))
 
-    added-later : added k (d ∷ X) ≡ added k X
+    added_later : added k (d ∷ X) ≡ added k X
     unfolding only_if
-    added-later = added-first ∙ rw e refl
+    added_later = added_first ∙ rw e refl
 
-    lines_same : lines (for-each (X ++ (d ∷ [])) (replace k)) ≡ lines (for-each X (replace k))
+    lines_same : lines (for_each (X ++ (d ∷ [])) (replace k)) ≡ lines (for_each X (replace k))
     unfolding replace only_if
-    lines_same = lines_more ∙ rw e (rw lines_none (append-nil (lines (for-each X (replace k)))))
+    lines_same = lines_more ∙ rw e (rw lines_none (append-nil (lines (for_each X (replace k)))))
 
   module _ (e : opposes k.literals d ≡ true) where
-    results-are : results-of k d ≡ result-of k d
+    results_are : results_of k d ≡ result_of k d
     unfolding only_if
-    results-are = rw e refl
+    results_are = rw e refl
 
-    kept-gone : kept k (X ++ (d ∷ [])) ≡ kept k X
+    kept_gone : kept k (X ++ (d ∷ [])) ≡ kept k X
     unfolding those
-    kept-gone = those-++ (λ c. not (opposes k.literals c)) X (d ∷ []) ∙ rw e (append-nil (kept k X))
+    kept_gone = those-++ (λ c. not (opposes k.literals c)) X (d ∷ []) ∙ rw e (append-nil (kept k X))
 
-    cells-first : cells_of (added k (d ∷ X)) ≡ cells_of (result-of k d) + cells_of (added k X)
-    cells-first =
-        omega (arith, ap cells_of (added-first ∙ ap (λ (r : Formula). r ++ added k X) results-are), numbers-++ (result-of k d) (added k X), literals-++ (result-of k d) (added k X))
+    cells_first : cells_of (added k (d ∷ X)) ≡ cells_of (result_of k d) + cells_of (added k X)
+    cells_first =
+        omega (arith, ap cells_of (added_first ∙ ap (λ (r : Formula). r ++ added k X) results_are), numbers-++ (result_of k d) (added k X), literals-++ (result_of k d) (added k X))
 
-    lines-replaced : lines (for-each (X ++ (d ∷ [])) (replace k)) ≡ lines (for-each X (replace k)) ++ replacement-lines d (replaced k d)
+    lines_replaced : lines (for_each (X ++ (d ∷ [])) (replace k)) ≡ lines (for_each X (replace k)) ++ replacement_lines d (replaced k d)
     unfolding replace only_if lines_of
-    lines-replaced = lines_more ∙ rw e (ap (λ (r : List Line). lines (for-each X (replace k)) ++ r) (lines-one (clause-replaced d (replaced k d))))
+    lines_replaced = lines_more ∙ rw e (ap (λ (r : List Line). lines (for_each X (replace k)) ++ r) (lines_one (clause_replaced d (replaced k d))))
 
 -- ---- the touched places from an entry on
 
-touched-later : (l : Clause) (k at : ℕ) (s : List ℤ) → touched-from l k at s ≡ touched-from l 0 (at + k) (drop k s)
-unfolding touched-from
-touched-later l zero at s = let e : at + 0 ≡ at = omega arith in rw e refl
-touched-later l (suc k) at [] = refl
-touched-later l (suc k) at (x ∷ s) = let e : at + suc k ≡ at + 1 + k = omega arith in rw e (touched-later l k (at + 1) s)
+touched_later : (l : Clause) (k at : ℕ) (s : List ℤ) → touched_from l k at s ≡ touched_from l 0 (at + k) (drop k s)
+unfolding touched_from
+touched_later l zero at s = let e : at + 0 ≡ at = omega arith in rw e refl
+touched_later l (suc k) at [] = refl
+touched_later l (suc k) at (x ∷ s) = let e : at + suc k ≡ at + 1 + k = omega arith in rw e (touched_later l k (at + 1) s)
 
-touched-end : (l : Clause) (at : ℕ) (s : List ℤ) → length s ≤ at → touched-from l 0 at (drop at s) ≡ []
-unfolding touched-from
-touched-end l at s h = rw (drop-end s at h) refl
+touched_end : (l : Clause) (at : ℕ) (s : List ℤ) → length s ≤ at → touched_from l 0 at (drop at s) ≡ []
+unfolding touched_from
+touched_end l at s h = rw (drop_end s at h) refl
 
 module _ (l : Clause) (s : List ℤ) (at : ℕ) (h : at < length s) where
   abbrev later : List ℕ
-  later = touched-from l 0 (past s at) (drop (past s at) s)
+  later = touched_from l 0 (past s at) (drop (past s at) s)
 
-  later-is : touched-from l (size-at s at) (at + 1) (drop (at + 1) s) ≡ later
-  later-is =
-      touched-later l (size-at s at) (at + 1) (drop (at + 1) s)
-      ∙ ap₂ (λ (n : ℕ) (r : List ℤ). touched-from l 0 n r) (past_is s at h) (drop_past s at h)
+  later_is : touched_from l (size_at s at) (at + 1) (drop (at + 1) s) ≡ later
+  later_is =
+      touched_later l (size_at s at) (at + 1) (drop (at + 1) s)
+      ∙ ap₂ (λ (n : ℕ) (r : List ℤ). touched_from l 0 n r) (past_is s at h) (drop_past s at h)
 
-  touched-next : touched-from l 0 at (drop at s) ≡ cond (deleted-at s at) later (cond (opposes l (clause-at s at)) (at ∷ later) later)
-  unfolding touched-from
-  touched-next = rw (drop-step s at (pos 0) h) (rw later-is refl)
+  touched_next : touched_from l 0 at (drop at s) ≡ cond (deleted_at s at) later (cond (opposes l (clause_at s at)) (at ∷ later) later)
+  unfolding touched_from
+  touched_next = rw (drop_step s at (pos 0) h) (rw later_is refl)
 
-  touched-deleted : deleted-at s at ≡ true → touched-from l 0 at (drop at s) ≡ later
-  touched-deleted d = touched-next ∙ rw d refl
+  touched_deleted : deleted_at s at ≡ true → touched_from l 0 at (drop at s) ≡ later
+  touched_deleted d = touched_next ∙ rw d refl
 
-  module _ (d : deleted-at s at ≡ false) where
-    touched-other : opposes l (clause-at s at) ≡ false → touched-from l 0 at (drop at s) ≡ later
-    touched-other o = touched-next ∙ rw (d, o) refl
+  module _ (d : deleted_at s at ≡ false) where
+    touched_other : opposes l (clause_at s at) ≡ false → touched_from l 0 at (drop at s) ≡ later
+    touched_other o = touched_next ∙ rw (d, o) refl
 
-    touched-here : opposes l (clause-at s at) ≡ true → touched-from l 0 at (drop at s) ≡ at ∷ later
-    touched-here o = touched-next ∙ rw (d, o) refl
+    touched_here : opposes l (clause_at s at) ≡ true → touched_from l 0 at (drop at s) ≡ at ∷ later
+    touched_here o = touched_next ∙ rw (d, o) refl
 
 -- ---- the loop
 
@@ -133,20 +133,20 @@ pub record Passing (k : Choice) (E : Formula) (middle : List ℤ) (start : ℕ) 
   pub all : done ++ stored (drop at left) ≡ E
   pub size : length work ≡ length old
   pub parts : take q.end work ≡ left ++ (middle ++ results)
-  pub left-size : length left ≡ start
+  pub left_size : length left ≡ start
   pub place : Place left at
-  pub left-stands : stored (take at left) ≡ kept k done
-  pub results-formed : Formed results
-  pub results-stand : stored results ≡ added k done
-  pub written : Written (lines (for-each done (replace k))) x p log q
+  pub left_stands : stored (take at left) ≡ kept k done
+  pub results_formed : Formed results
+  pub results_stand : stored results ≡ added k done
+  pub written : Written (lines (for_each done (replace k))) x p log q
   pub indexed : Indexed work q.end newest
   pub space : Roomy (cells_of (added k (stored (drop at left)))) work q.end newest
 
-passing-start : (k : Choice) (work : List ℤ) (newest : List ℕ) (start : ℕ) (x : Bytes) (p : Progress) → start ≤ p.end → Indexed work p.end newest →
+passing_start : (k : Choice) (work : List ℤ) (newest : List ℕ) (start : ℕ) (x : Bytes) (p : Progress) → start ≤ p.end → Indexed work p.end newest →
     Formed (take start work) → Roomy (cells_of (added k (stored (take start work)))) work p.end newest →
     Passing k (stored (take start work)) (drop start (take p.end work)) start work x p (take start work) 0 work newest x p
-unfolding for-each those
-passing-start k work newest start x p s i f r = record {
+unfolding for_each those
+passing_start k work newest start x p s i f r = record {
   results = [];
   done = [];
   all = refl;
@@ -154,11 +154,11 @@ passing-start k work newest start x p s i f r = record {
   parts =
       sym (ap₂ (λ (a b : List ℤ). a ++ b) (sym (take-take start p.end work s)) (append-nil (drop start (take p.end work)))
       ∙ take-append-drop start (take p.end work));
-  left-size = length-take-le start work (omega (arith, i.room));
-  place = place-start f;
-  left-stands = stored-none;
-  results-formed = tt;
-  results-stand = stored-none;
+  left_size = length-take-le start work (omega (arith, i.room));
+  place = place_start f;
+  left_stands = stored_none;
+  results_formed = tt;
+  results_stand = stored_none;
   written = rw lines_none (written_none x p p refl refl);
   indexed = i;
   space = r;
@@ -169,66 +169,66 @@ module _ {k : Choice} {E : Formula} {middle : List ℤ} {start : ℕ} {old : Lis
   behind = middle ++ i.results
 
   inside : at < length L
-  inside = omega (arith, i.left-size)
+  inside = omega (arith, i.left_size)
 
-  store-size : length (take q.end work) ≡ q.end
-  store-size = length-take-le q.end work (omega (arith, i.indexed.room))
+  store_size : length (take q.end work) ≡ q.end
+  store_size = length-take-le q.end work (omega (arith, i.indexed.room))
 
-  start-inside : start ≤ q.end
-  start-inside = omega (arith, store-size, ap length i.parts, length-append L behind, i.left-size)
+  start_inside : start ≤ q.end
+  start_inside = omega (arith, store_size, ap length i.parts, length-append L behind, i.left_size)
 
   within : start ≤ length work
-  within = omega (arith, start-inside, i.indexed.room)
+  within = omega (arith, start_inside, i.indexed.room)
 
-  front-is : take start work ≡ L
-  front-is = sym (take-take start q.end work start-inside) ∙ ap (take start) i.parts ∙ take_at L behind start i.left-size
+  front_is : take start work ≡ L
+  front_is = sym (take-take start q.end work start_inside) ∙ ap (take start) i.parts ∙ take_at L behind start i.left_size
 
   header : header_at work at ≡ header_at L at
-  header = sym (prefix-header work start at h within) ∙ ap (λ (s : List ℤ). header_at s at) front-is
+  header = sym (prefix_header work start at h within) ∙ ap (λ (s : List ℤ). header_at s at) front_is
 
-  past-inside : past L at ≤ start
-  past-inside = omega (arith, (formed-next L at inside i.place.rest).0, i.left-size)
+  past_inside : past L at ≤ start
+  past_inside = omega (arith, (formed_next L at inside i.place.rest).0, i.left_size)
 
-  clause-same : clause-at work at ≡ clause-at L at
-  clause-same = sym (prefix-clause work start at h within (omega (arith, ap header-literals header, past-inside))) ∙ ap (λ (s : List ℤ). clause-at s at) front-is
+  clause_same : clause_at work at ≡ clause_at L at
+  clause_same = sym (prefix_clause work start at h within (omega (arith, ap header_literals header, past_inside))) ∙ ap (λ (s : List ℤ). clause_at s at) front_is
 
-  place-there : Place (take q.end work) at
-  place-there =
-      place-within i.indexed.formed (omega (arith, store-size, start-inside))
+  place_there : Place (take q.end work) at
+  place_there =
+      place_within i.indexed.formed (omega (arith, store_size, start_inside))
       (subst (λ (s : List ℤ). Formed s) (sym (ap (take at) i.parts ∙ take-append-le at L behind (omega (arith, inside)))) i.place.before)
 
   -- ---- a deleted clause is passed over
-  passing-deleted : deleted-at L at ≡ true → Passing k E middle start old x p L (past L at) work newest log q
-  passing-deleted d =
-      let e : stored (drop (past L at) L) ≡ stored (drop at L) = sym (rest-deleted L at inside d) in
+  passing_deleted : deleted_at L at ≡ true → Passing k E middle start old x p L (past L at) work newest log q
+  passing_deleted d =
+      let e : stored (drop (past L at) L) ≡ stored (drop at L) = sym (rest_deleted L at inside d) in
       record {
         results = i.results;
         done = i.done;
         all = ap (λ (r : Formula). i.done ++ r) e ∙ i.all;
         size = i.size;
         parts = i.parts;
-        left-size = i.left-size;
-        place = place-next L at inside i.place;
-        left-stands = prefix-deleted L at inside i.place d ∙ i.left-stands;
-        results-formed = i.results-formed;
-        results-stand = i.results-stand;
+        left_size = i.left_size;
+        place = place_next L at inside i.place;
+        left_stands = prefix_deleted L at inside i.place d ∙ i.left_stands;
+        results_formed = i.results_formed;
+        results_stand = i.results_stand;
         written = i.written;
         indexed = i.indexed;
         space = subst (λ (F : Formula). Roomy (cells_of (added k F)) work q.end newest) (sym e) i.space;
       }
 
-  module _ (d : deleted-at L at ≡ false) where
+  module _ (d : deleted_at L at ≡ false) where
     abbrev c : Clause
-    c = clause-at L at
+    c = clause_at L at
 
     abbrev others : Formula
     others = stored (drop (past L at) L)
 
-    rest-is : stored (drop at L) ≡ c ∷ others
-    rest-is = rest-stands L at inside d
+    rest_is : stored (drop at L) ≡ c ∷ others
+    rest_is = rest_stands L at inside d
 
     among : i.done ++ (c ∷ others) ≡ E
-    among = ap (λ (r : Formula). i.done ++ r) (sym rest-is) ∙ i.all
+    among = ap (λ (r : Formula). i.done ++ r) (sym rest_is) ∙ i.all
 
     one_more : (i.done ++ (c ∷ [])) ++ others ≡ E
     one_more = append_assoc i.done (c ∷ []) others ∙ among
@@ -236,8 +236,8 @@ module _ {k : Choice} {E : Formula} {middle : List ℤ} {start : ℕ} {old : Lis
     member : Memᴰ c E
     member = subst (λ (r : Formula). Memᴰ c r) among (Memᴰ.append_right i.done (here refl))
 
-    space-is : Roomy (cells_of (added k (c ∷ others))) work q.end newest
-    space-is = subst (λ (F : Formula). Roomy (cells_of (added k F)) work q.end newest) rest-is i.space
+    space_is : Roomy (cells_of (added k (c ∷ others))) work q.end newest
+    space_is = subst (λ (F : Formula). Roomy (cells_of (added k F)) work q.end newest) rest_is i.space
 
     -- ---- a clause without negated choice literals stays
     passing_kept : opposes k.literals c ≡ false → Passing k E middle start old x p L (past L at) work newest log q
@@ -247,73 +247,73 @@ module _ {k : Choice} {E : Formula} {middle : List ℤ} {start : ℕ} {old : Lis
       all = one_more;
       size = i.size;
       parts = i.parts;
-      left-size = i.left-size;
-      place = place-next L at inside i.place;
-      left-stands = prefix-stands L at inside i.place d ∙ ap (λ (r : Formula). r ++ (c ∷ [])) i.left-stands ∙ sym (kept-stays k i.done c o);
-      results-formed = i.results-formed;
-      results-stand = i.results-stand ∙ sym (added_none k i.done c o);
+      left_size = i.left_size;
+      place = place_next L at inside i.place;
+      left_stands = prefix_stands L at inside i.place d ∙ ap (λ (r : Formula). r ++ (c ∷ [])) i.left_stands ∙ sym (kept_stays k i.done c o);
+      results_formed = i.results_formed;
+      results_stand = i.results_stand ∙ sym (added_none k i.done c o);
       written = rw (lines_same k i.done c o) i.written;
       indexed = i.indexed;
-      space = subst (λ (F : Formula). Roomy (cells_of F) work q.end newest) (added-later k others c o) space-is;
+      space = subst (λ (F : Formula). Roomy (cells_of F) work q.end newest) (added_later k others c o) space_is;
     }
 
     module _ (o : opposes k.literals c ≡ true) where
-      cells : cells_of (added k (c ∷ others)) ≡ cells_of (result-of k c) + cells_of (added k others)
-      cells = cells-first k others c o
+      cells : cells_of (added k (c ∷ others)) ≡ cells_of (result_of k c) + cells_of (added k others)
+      cells = cells_first k others c o
 
-      lines_split : lines (for-each E (replace k)) ≡ lines (for-each i.done (replace k)) ++ (replacement-lines c (replaced k c) ++ lines (for-each others (replace k)))
+      lines_split : lines (for_each E (replace k)) ≡ lines (for_each i.done (replace k)) ++ (replacement_lines c (replaced k c) ++ lines (for_each others (replace k)))
       lines_split =
-          ap (λ (r : Formula). lines (for-each r (replace k))) (sym one_more)
-          ∙ ap lines (for-each-++ (i.done ++ (c ∷ [])) others (replace k)) ∙ lines-++ (for-each (i.done ++ (c ∷ [])) (replace k)) (for-each others (replace k))
-          ∙ ap (λ (r : List Line). r ++ lines (for-each others (replace k))) (lines-replaced k i.done c o)
-          ∙ append_assoc (lines (for-each i.done (replace k))) (replacement-lines c (replaced k c)) (lines (for-each others (replace k)))
+          ap (λ (r : Formula). lines (for_each r (replace k))) (sym one_more)
+          ∙ ap lines (for_each-++ (i.done ++ (c ∷ [])) others (replace k)) ∙ lines-++ (for_each (i.done ++ (c ∷ [])) (replace k)) (for_each others (replace k))
+          ∙ ap (λ (r : List Line). r ++ lines (for_each others (replace k))) (lines_replaced k i.done c o)
+          ∙ append_assoc (lines (for_each i.done (replace k))) (replacement_lines c (replaced k c)) (lines (for_each others (replace k)))
 
-      replaceable : Before E k → Proper-all E → Log-room (lines (for-each E (replace k))) p → Replaceable k c work newest q
+      replaceable : Before E k → ProperAll E → LogRoom (lines (for_each E (replace k))) p → Replaceable k c work newest q
       replaceable b a r = record {
         proper = a c member;
         fit = b.fits c member;
-        space = omega (arith, space-is, cells);
-        room = room-first (replacement-lines c (replaced k c)) (lines (for-each others (replace k)))
-            (room-rest (lines (for-each i.done (replace k))) (replacement-lines c (replaced k c) ++ lines (for-each others (replace k))) (subst (λ (ls : List Line). Log-room ls p) lines_split r) i.written);
+        space = omega (arith, space_is, cells);
+        room = room_first (replacement_lines c (replaced k c)) (lines (for_each others (replace k)))
+            (room_rest (lines (for_each i.done (replace k))) (replacement_lines c (replaced k c) ++ lines (for_each others (replace k))) (subst (λ (ls : List Line). LogRoom ls p) lines_split r) i.written);
       }
 
       -- ---- a clause is replaced
-      module _ {z : Bytes} {new : List ℤ} {table : List ℕ} {r : Progress} (v : Replaced-at k c work newest at log q new table z r) where
+      module _ {z : Bytes} {new : List ℤ} {table : List ℕ} {r : Progress} (v : ReplacedAt k c work newest at log q new table z r) where
         abbrev W : List ℤ
-        W = entries (result-of k c)
+        W = entries (result_of k c)
 
-        new-place : Place (marked L at) (past L at)
-        new-place = subst (λ (r : ℕ). Place (marked L at) r) (marked-past L at inside) (place-next (marked L at) at (rw length-set inside) (marked-place L at inside i.place))
+        new_place : Place (marked L at) (past L at)
+        new_place = subst (λ (r : ℕ). Place (marked L at) r) (marked_past L at inside) (place_next (marked L at) at (rw length-set inside) (marked_place L at inside i.place))
 
-        new-parts : take r.end new ≡ marked L at ++ (middle ++ (i.results ++ W))
-        new-parts =
+        new_parts : take r.end new ≡ marked L at ++ (middle ++ (i.results ++ W))
+        new_parts =
             v.filled
             ∙ ap (λ (s : List ℤ). s ++ W) (ap (λ (s : List ℤ). marked s at) i.parts
             ∙ ap (λ (y : ℤ). set (L ++ behind) at (flip y)) (get_or-append L behind (pos 0) at inside)
             ∙ set-append_left L behind at (flip (header_at L at)) inside)
             ∙ append_assoc (marked L at) behind W ∙ ap (λ (s : List ℤ). marked L at ++ s) (append_assoc middle i.results W)
 
-        rest-same : drop (past L at) (marked L at) ≡ drop (past L at) L
-        rest-same = marked-behind L at inside (past L at) (omega arith)
+        rest_same : drop (past L at) (marked L at) ≡ drop (past L at) L
+        rest_same = marked_behind L at inside (past L at) (omega arith)
 
-        passing-replaced : Passing k E middle start old x p (marked L at) (past L at) new table z r
-        passing-replaced = record {
+        passing_replaced : Passing k E middle start old x p (marked L at) (past L at) new table z r
+        passing_replaced = record {
           results = i.results ++ W;
           done = i.done ++ (c ∷ []);
-          all = ap (λ (r : List ℤ). (i.done ++ (c ∷ [])) ++ stored r) rest-same ∙ one_more;
+          all = ap (λ (r : List ℤ). (i.done ++ (c ∷ [])) ++ stored r) rest_same ∙ one_more;
           size = v.size ∙ i.size;
-          parts = new-parts;
-          left-size = length-set L at (flip (header_at L at)) ∙ i.left-size;
-          place = new-place;
-          left-stands = marked-prefix L at inside i.place d ∙ i.left-stands ∙ sym (kept-gone k i.done c o);
-          results-formed = formed-++ i.results W i.results-formed v.formed;
-          results-stand =
-              stored-++ i.results W i.results-formed ∙ ap₂ (λ (a b : Formula). a ++ b) i.results-stand (v.stands ∙ sym (results-are k others c o)) ∙ sym (added_more k i.done c);
-          written = rw (lines-replaced k i.done c o) (written_then i.written v.written);
+          parts = new_parts;
+          left_size = length-set L at (flip (header_at L at)) ∙ i.left_size;
+          place = new_place;
+          left_stands = marked_prefix L at inside i.place d ∙ i.left_stands ∙ sym (kept_gone k i.done c o);
+          results_formed = formed-++ i.results W i.results_formed v.formed;
+          results_stand =
+              stored-++ i.results W i.results_formed ∙ ap₂ (λ (a b : Formula). a ++ b) i.results_stand (v.stands ∙ sym (results_are k others c o)) ∙ sym (added_more k i.done c);
+          written = rw (lines_replaced k i.done c o) (written_then i.written v.written);
           indexed = v.indexed;
           space =
-              subst (λ (s : List ℤ). Roomy (cells_of (added k (stored s))) new r.end table) (sym rest-same)
-              (omega (arith, space-is, cells, v.next, v.nodes-are, v.size));
+              subst (λ (s : List ℤ). Roomy (cells_of (added k (stored s))) new r.end table) (sym rest_same)
+              (omega (arith, space_is, cells, v.next, v.nodes_are, v.size));
         }
 
 -- ---- on to the next touched clause
@@ -323,103 +323,103 @@ pub record Turning (k : Choice) (E : Formula) (middle : List ℤ) (start : ℕ) 
   pub left : List ℤ
   pub at : ℕ
   pub passing : Passing k E middle start old x p left at work newest log q
-  pub listed : ps ≡ touched-from k.literals 0 at (drop at left)
-  pub touched : at < start → (deleted-at left at ≡ false) × (opposes k.literals (clause-at left at) ≡ true)
+  pub listed : ps ≡ touched_from k.literals 0 at (drop at left)
+  pub touched : at < start → (deleted_at left at ≡ false) × (opposes k.literals (clause_at left at) ≡ true)
 
 module _ {k : Choice} {E : Formula} {middle : List ℤ} {start : ℕ} {old : List ℤ} {x : Bytes} {p : Progress} {L : List ℤ} {work : List ℤ} {newest : List ℕ} {log : Bytes} {q : Progress} where
   -- n bounds how far it is to `start`
-  turning : {ps : List ℕ} (n at : ℕ) → start ≤ at + n → Passing k E middle start old x p L at work newest log q → ps ≡ touched-from k.literals 0 at (drop at L) → Turning k E middle start old x p ps work newest log q
+  turning : {ps : List ℕ} (n at : ℕ) → start ≤ at + n → Passing k E middle start old x p L at work newest log q → ps ≡ touched_from k.literals 0 at (drop at L) → Turning k E middle start old x p ps work newest log q
   turning zero at b i e = record { left = L; at = at; passing = i; listed = e; touched = λ h. absurd (omega arith) }
-  turning {ps} (suc n) at b i e = by-test (ltb at start) (λ t. on (ltb-true at start t) (λ j f. turning n (past L at) (omega arith) j (e ∙ f))) over
+  turning {ps} (suc n) at b i e = by_test (ltb at start) (λ t. on (ltb-true at start t) (λ j f. turning n (past L at) (omega arith) j (e ∙ f))) over
     where
       over : ltb at start ≡ false → Turning k E middle start old x p ps work newest log q
       over t = let g = ltb-false at start t in record { left = L; at = at; passing = i; listed = e; touched = λ h. absurd (omega arith) }
 
-      on : at < start → (Passing k E middle start old x p L (past L at) work newest log q → touched-from k.literals 0 at (drop at L) ≡ touched-from k.literals 0 (past L at) (drop (past L at) L) → Turning k E middle start old x p ps work newest log q) → Turning k E middle start old x p ps work newest log q
+      on : at < start → (Passing k E middle start old x p L (past L at) work newest log q → touched_from k.literals 0 at (drop at L) ≡ touched_from k.literals 0 (past L at) (drop (past L at) L) → Turning k E middle start old x p ps work newest log q) → Turning k E middle start old x p ps work newest log q
       on h further =
           let u = inside i h in
-          by-test (deleted-at L at)
-          (λ d. further (passing-deleted i h d) (touched-deleted k.literals L at u d))
-          (λ d. by-test (opposes k.literals (clause-at L at))
+          by_test (deleted_at L at)
+          (λ d. further (passing_deleted i h d) (touched_deleted k.literals L at u d))
+          (λ d. by_test (opposes k.literals (clause_at L at))
           (λ o. record { left = L; at = at; passing = i; listed = e; touched = λ g. (d, o) })
-          (λ o. further (passing_kept i h d o) (touched-other k.literals L at u d o)))
+          (λ o. further (passing_kept i h d o) (touched_other k.literals L at u d o)))
 
-pub turning-start : (k : Choice) (work : List ℤ) (newest : List ℕ) (start : ℕ) (x : Bytes) (p : Progress) → start ≤ p.end → Indexed work p.end newest →
+pub turning_start : (k : Choice) (work : List ℤ) (newest : List ℕ) (start : ℕ) (x : Bytes) (p : Progress) → start ≤ p.end → Indexed work p.end newest →
     Formed (take start work) → Roomy (cells_of (added k (stored (take start work)))) work p.end newest →
-    {ps : List ℕ} → ps ≡ touched-places k.literals (take start work) → Turning k (stored (take start work)) (drop start (take p.end work)) start work x p ps work newest x p
-turning-start k work newest start x p s i f r e = turning start 0 (omega arith) (passing-start k work newest start x p s i f r) e
+    {ps : List ℕ} → ps ≡ touched_places k.literals (take start work) → Turning k (stored (take start work)) (drop start (take p.end work)) start work x p ps work newest x p
+turning_start k work newest start x p s i f r e = turning start 0 (omega arith) (passing_start k work newest start x p s i f r) e
 
 module _ {k : Choice} {E : Formula} {middle : List ℤ} {start : ℕ} {old : List ℤ} {x : Bytes} {p : Progress} {ps : List ℕ} {work : List ℤ} {newest : List ℕ} {log : Bytes} {q : Progress} (t : Turning k E middle start old x p ps work newest log q) where
-  none-touched-behind : start ≤ t.at → ps ≡ []
-  none-touched-behind h = t.listed ∙ touched-end k.literals t.at t.left (omega (arith, t.passing.left-size))
+  none_touched_behind : start ≤ t.at → ps ≡ []
+  none_touched_behind h = t.listed ∙ touched_end k.literals t.at t.left (omega (arith, t.passing.left_size))
 
   -- a place is left, so the walk has not ended
   module _ {a : ℕ} {qs : List ℕ} (e : ps ≡ a ∷ qs) where
-    before-start : t.at < start
-    before-start =
-        by-test (ltb t.at start) (ltb-true t.at start)
-        (λ f. let z = ap length (sym e ∙ none-touched-behind (ltb-false t.at start f)) in absurd (omega arith))
+    before_start : t.at < start
+    before_start =
+        by_test (ltb t.at start) (ltb-true t.at start)
+        (λ f. let z = ap length (sym e ∙ none_touched_behind (ltb-false t.at start f)) in absurd (omega arith))
 
-    stands : deleted-at t.left t.at ≡ false
-    stands = (t.touched before-start).0
+    stands : deleted_at t.left t.at ≡ false
+    stands = (t.touched before_start).0
 
-    opposing : opposes k.literals (clause-at t.left t.at) ≡ true
-    opposing = (t.touched before-start).1
+    opposing : opposes k.literals (clause_at t.left t.at) ≡ true
+    opposing = (t.touched before_start).1
 
-    first-is : a ∷ qs ≡ t.at ∷ touched-from k.literals 0 (past t.left t.at) (drop (past t.left t.at) t.left)
-    first-is = sym e ∙ t.listed ∙ touched-here k.literals t.left t.at (inside t.passing before-start) stands opposing
+    first_is : a ∷ qs ≡ t.at ∷ touched_from k.literals 0 (past t.left t.at) (drop (past t.left t.at) t.left)
+    first_is = sym e ∙ t.listed ∙ touched_here k.literals t.left t.at (inside t.passing before_start) stands opposing
 
-    at-is : t.at ≡ a
-    at-is = cc first-is
+    at_is : t.at ≡ a
+    at_is = cc first_is
 
-    clause-is : clause-at work a ≡ clause-at t.left t.at
-    clause-is = ap (clause-at work) (sym at-is) ∙ clause-same t.passing before-start
+    clause_is : clause_at work a ≡ clause_at t.left t.at
+    clause_is = ap (clause_at work) (sym at_is) ∙ clause_same t.passing before_start
 
-    pub turning-place : Place (take q.end work) a
-    turning-place = subst (λ (m : ℕ). Place (take q.end work) m) at-is (place-there t.passing before-start)
+    pub turning_place : Place (take q.end work) a
+    turning_place = subst (λ (m : ℕ). Place (take q.end work) m) at_is (place_there t.passing before_start)
 
-    pub turning-inside : a < q.end
-    turning-inside = omega (arith, before-start, start-inside t.passing before-start, at-is)
+    pub turning_inside : a < q.end
+    turning_inside = omega (arith, before_start, start_inside t.passing before_start, at_is)
 
-    pub turning-replaceable : Before E k → Proper-all E → Log-room (lines (for-each E (replace k))) p → Replaceable k (clause-at work a) work newest q
-    turning-replaceable b u r = subst (λ (c : Clause). Replaceable k c work newest q) (sym clause-is) (replaceable t.passing before-start stands opposing b u r)
+    pub turning_replaceable : Before E k → ProperAll E → LogRoom (lines (for_each E (replace k))) p → Replaceable k (clause_at work a) work newest q
+    turning_replaceable b u r = subst (λ (c : Clause). Replaceable k c work newest q) (sym clause_is) (replaceable t.passing before_start stands opposing b u r)
 
-    pub turning-replaced : {new : List ℤ} {n : List ℕ} {y : Bytes} {r : Progress} → Replaced-at k (clause-at work a) work newest a log q new n y r → Turning k E middle start old x p qs new n y r
-    turning-replaced {new} {n} {y} {r} v =
-        let w : Replaced-at k (clause-at t.left t.at) work newest t.at log q new n y r =
-        subst (λ (m : ℕ). Replaced-at k (clause-at t.left t.at) work newest m log q new n y r) (sym at-is)
-        (subst (λ (c : Clause). Replaced-at k c work newest a log q new n y r) clause-is v) in
-        let f : qs ≡ touched-from k.literals 0 (past t.left t.at) (drop (past t.left t.at) t.left) = cc first-is in
-        turning start (past t.left t.at) (omega arith) (passing-replaced t.passing before-start stands opposing w)
-        (f ∙ ap (touched-from k.literals 0 (past t.left t.at)) (sym (rest-same t.passing before-start stands opposing w)))
+    pub turning_replaced : {new : List ℤ} {n : List ℕ} {y : Bytes} {r : Progress} → ReplacedAt k (clause_at work a) work newest a log q new n y r → Turning k E middle start old x p qs new n y r
+    turning_replaced {new} {n} {y} {r} v =
+        let w : ReplacedAt k (clause_at t.left t.at) work newest t.at log q new n y r =
+        subst (λ (m : ℕ). ReplacedAt k (clause_at t.left t.at) work newest m log q new n y r) (sym at_is)
+        (subst (λ (c : Clause). ReplacedAt k c work newest a log q new n y r) clause_is v) in
+        let f : qs ≡ touched_from k.literals 0 (past t.left t.at) (drop (past t.left t.at) t.left) = cc first_is in
+        turning start (past t.left t.at) (omega arith) (passing_replaced t.passing before_start stands opposing w)
+        (f ∙ ap (touched_from k.literals 0 (past t.left t.at)) (sym (rest_same t.passing before_start stands opposing w)))
 
   -- no place is left, so the walk has ended
   module _ (e : ps ≡ []) where
-    start-reached : start ≤ t.at
-    start-reached = by-test (ltb t.at start) on (ltb-false t.at start)
+    start_reached : start ≤ t.at
+    start_reached = by_test (ltb t.at start) on (ltb-false t.at start)
       where
         on : ltb t.at start ≡ true → start ≤ t.at
         on f =
             let h = ltb-true t.at start f in
             let u = t.touched h in
-            let z = ap length (sym e ∙ t.listed ∙ touched-here k.literals t.left t.at (inside t.passing h) u.0 u.1) in
+            let z = ap length (sym e ∙ t.listed ∙ touched_here k.literals t.left t.at (inside t.passing h) u.0 u.1) in
             absurd (omega arith)
 
-    pub turning-end : Passed k E middle start old x p work newest log q
-    turning-end =
+    pub turning_end : Passed k E middle start old x p work newest log q
+    turning_end =
         let i = t.passing in
         let L = t.left in
-        let a : i.done ≡ E = sym (append-nil i.done) ∙ ap (λ (r : Formula). i.done ++ r) (sym (stored-end L t.at (omega (arith, i.left-size, start-reached)))) ∙ i.all in
+        let a : i.done ≡ E = sym (append-nil i.done) ∙ ap (λ (r : Formula). i.done ++ r) (sym (stored_end L t.at (omega (arith, i.left_size, start_reached)))) ∙ i.all in
         record {
           left = L;
           results = i.results;
           size = i.size;
           parts = i.parts;
-          left-size = i.left-size;
-          left-formed = place-formed i.place;
-          left-stands = ap stored (sym (take_all t.at L (omega (arith, i.left-size, start-reached)))) ∙ i.left-stands ∙ ap (kept k) a;
-          results-formed = i.results-formed;
-          results-stand = i.results-stand ∙ ap (added k) a;
+          left_size = i.left_size;
+          left_formed = place_formed i.place;
+          left_stands = ap stored (sym (take_all t.at L (omega (arith, i.left_size, start_reached)))) ∙ i.left_stands ∙ ap (kept k) a;
+          results_formed = i.results_formed;
+          results_stand = i.results_stand ∙ ap (added k) a;
           written = rw a at i.written;
           indexed = i.indexed;
         }

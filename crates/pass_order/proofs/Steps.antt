@@ -11,39 +11,39 @@ use Rattle.definition.specs.Lists.{only_if}
 use Rattle.definition.specs.Literals.{Clause, Formula, opposed}
 use Rattle.definition.specs.Text.{Bytes}
 use Rattle.definition.specs.Standing.{Line, addition, deletion}
-use Rattle.definition.specs.Events.{Choice, choice-of}
-use Rattle.definition.specs.Order.{replaced, replacement-lines}
-use Rattle.theory_base.specs.Clauses.{Proper, Fit-all}
-use Rattle.theory_base.proofs.Clauses.{numbers-none, numbers-first, literals-none, literals-first}
-use Rattle.theory_base.proofs.Slices.{part-is, sets-before, getD-before}
-use Rattle.theory_counter.specs.Ready.{Well-formed}
-use Rattle.literals.specs.Literal.{largest, header_of, header-literals, flip}
+use Rattle.definition.specs.Events.{Choice, choice_of}
+use Rattle.definition.specs.Order.{replaced, replacement_lines}
+use Rattle.theory_base.specs.Clauses.{Proper, FitAll}
+use Rattle.theory_base.proofs.Clauses.{numbers_none, numbers_first, literals_none, literals_first}
+use Rattle.theory_base.proofs.Slices.{part_is, sets_before, getD_before}
+use Rattle.theory_counter.specs.Ready.{WellFormed}
+use Rattle.literals.specs.Literal.{largest, header_of, header_literals, flip}
 use Rattle.tables.specs.Places.{Places}
-use Rattle.store.specs.Store.{Formed, entry, header_at, clause-at, past, marked, Place}
-use Rattle.store.proofs.Laws.{part-there, entry-clause, formed-next, prefix-header, kept-clause, place-within}
+use Rattle.store.specs.Store.{Formed, entry, header_at, clause_at, past, marked, Place}
+use Rattle.store.proofs.Laws.{part_there, entry_clause, formed_next, prefix_header, kept_clause, place_within}
 use Rattle.index.specs.Index.{nodes, Indexed}
-use Rattle.index.proofs.Laws.{indexed-sets, indexed-marked, marked-take}
+use Rattle.index.proofs.Laws.{indexed_sets, indexed_marked, marked_take}
 use Rattle.progress.specs.declared.Progress.{Progress}
-use Rattle.progress.specs.Progress.{Written, Log-room}
-use Rattle.progress.specs.Growth.{entries, Entry-there, Grown}
-use Rattle.progress.proofs.Laws.{written_then, room-rest}
-use Rattle.progress.proofs.Growing.{grown-none}
-use Rattle.pass_order.specs.Pass.{result-of, Tabled, Replaceable, Step-ready, Replaced-at}
+use Rattle.progress.specs.Progress.{Written, LogRoom}
+use Rattle.progress.specs.Growth.{entries, EntryThere, Grown}
+use Rattle.progress.proofs.Laws.{written_then, room_rest}
+use Rattle.progress.proofs.Growing.{grown_none}
+use Rattle.pass_order.specs.Pass.{result_of, Tabled, Replaceable, StepReady, ReplacedAt}
 
 -- ---- the result of a clause
 module _ (k : Choice) (d : Clause) where
-  result-none : opposed (replaced k d) ≡ true → result-of k d ≡ []
+  result_none : opposed (replaced k d) ≡ true → result_of k d ≡ []
   unfolding only_if
-  result-none e = rw e refl
+  result_none e = rw e refl
 
-  result-one : opposed (replaced k d) ≡ false → result-of k d ≡ replaced k d ∷ []
+  result_one : opposed (replaced k d) ≡ false → result_of k d ≡ replaced k d ∷ []
   unfolding only_if
-  result-one e = rw e refl
+  result_one e = rw e refl
 
   -- its lines: the result is added, then the clause deleted
-  replacement-parts : replacement-lines d (replaced k d) ≡ map addition (result-of k d) ++ (deletion d ∷ [])
-  unfolding replacement-lines only_if
-  replacement-parts = go (opposed (replaced k d))
+  replacement_parts : replacement_lines d (replaced k d) ≡ map addition (result_of k d) ++ (deletion d ∷ [])
+  unfolding replacement_lines only_if
+  replacement_parts = go (opposed (replaced k d))
     where
       go : (b : Bool) → only_if (not b) (addition (replaced k d) ∷ []) ++ (deletion d ∷ []) ≡ map addition (only_if (not b) (replaced k d ∷ [])) ++ (deletion d ∷ [])
       go true = refl
@@ -52,8 +52,8 @@ module _ (k : Choice) (d : Clause) where
 -- ---- adding it
 
 -- what lies behind the store does not show
-grown-same-store : {f : Formula} {w v new : List ℤ} {m n : List ℕ} {x y : Bytes} {p q : Progress} → length v ≡ length w → take p.end v ≡ take p.end w → Grown f v m x p new n y q → Grown f w m x p new n y q
-grown-same-store {f} s t g = record {
+grown_same_store : {f : Formula} {w v new : List ℤ} {m n : List ℕ} {x y : Bytes} {p q : Progress} → length v ≡ length w → take p.end v ≡ take p.end w → Grown f v m x p new n y q → Grown f w m x p new n y q
+grown_same_store {f} s t g = record {
   size = g.size ∙ s;
   next = g.next;
   filled = g.filled ∙ ap (λ (r : List ℤ). r ++ entries f) t;
@@ -61,12 +61,12 @@ grown-same-store {f} s t g = record {
   stands = g.stands;
   written = g.written;
   indexed = g.indexed;
-  nodes-are = g.nodes-are;
+  nodes_are = g.nodes_are;
 }
 
-module _ {t : List ℕ} {l : Clause} {below : ℕ} (v : Tabled t l below) (work : List ℤ) {newest : List ℕ} (from len : ℕ) {p : Progress} (i : Indexed work p.end newest) (a : Replaceable (choice-of l below) (take len (drop from work)) work newest p) where
+module _ {t : List ℕ} {l : Clause} {below : ℕ} (v : Tabled t l below) (work : List ℤ) {newest : List ℕ} (from len : ℕ) {p : Progress} (i : Indexed work p.end newest) (a : Replaceable (choice_of l below) (take len (drop from work)) work newest p) where
   abbrev k : Choice
-  k = choice-of l below
+  k = choice_of l below
 
   abbrev d : Clause
   d = take len (drop from work)
@@ -75,70 +75,70 @@ module _ {t : List ℕ} {l : Clause} {below : ℕ} (v : Tabled t l below) (work 
   W = replaced k d
 
   -- by what is_opposed answers of the part of the store
-  pub opposed-there : {r b : Bool} →
-      ((j : Choice) → Places t j.literals → Well-formed j → length j.literals ≤ 64 → Proper (take (from + len - from) (drop from work)) → Fit-all j.below (take (from + len - from) (drop from work)) → r ≡ opposed (replaced j (take (from + len - from) (drop from work)))) →
+  pub opposed_there : {r b : Bool} →
+      ((j : Choice) → Places t j.literals → WellFormed j → length j.literals ≤ 64 → Proper (take (from + len - from) (drop from work)) → FitAll j.below (take (from + len - from) (drop from work)) → r ≡ opposed (replaced j (take (from + len - from) (drop from work)))) →
       r ≡ b →
-      opposed (replaced (choice-of l below) (take len (drop from work))) ≡ b
-  opposed-there e f =
-      let q = part-is work from len in
-      ap (λ (c : Clause). opposed (replaced k c)) (sym q) ∙ sym (e k v.places v.well-formed v.small.few (rw q a.proper) (rw q a.fit)) ∙ f
+      opposed (replaced (choice_of l below) (take len (drop from work))) ≡ b
+  opposed_there e f =
+      let q = part_is work from len in
+      ap (λ (c : Clause). opposed (replaced k c)) (sym q) ∙ sym (e k v.places v.well_formed v.small.few (rw q a.proper) (rw q a.fit)) ∙ f
 
-  pub none-added : (log : Bytes) → opposed (replaced (choice-of l below) (take len (drop from work))) ≡ true → Grown (result-of (choice-of l below) (take len (drop from work))) work newest log p work newest log p
-  none-added log e = rw (result-none k d e) (grown-none work newest log p i)
+  pub none_added : (log : Bytes) → opposed (replaced (choice_of l below) (take len (drop from work))) ≡ true → Grown (result_of (choice_of l below) (take len (drop from work))) work newest log p work newest log p
+  none_added log e = rw (result_none k d e) (grown_none work newest log p i)
 
-  module _ (e : opposed (replaced (choice-of l below) (take len (drop from work))) ≡ false) where
-    both-room : p.end + length (entry W) + 2 * (nodes newest + length W) ≤ length work
-    both-room = omega (arith, rw (result-one k d e) at a.space, numbers-first W [], numbers-none, literals-first W [], literals-none)
+  module _ (e : opposed (replaced (choice_of l below) (take len (drop from work))) ≡ false) where
+    both_room : p.end + length (entry W) + 2 * (nodes newest + length W) ≤ length work
+    both_room = omega (arith, rw (result_one k d e) at a.space, numbers_first W [], numbers_none, literals_first W [], literals_none)
 
-    pub entry-room : p.end + length (entry (replaced (choice-of l below) (take len (drop from work)))) ≤ length work
-    entry-room = omega (arith, both-room)
+    pub entry_room : p.end + length (entry (replaced (choice_of l below) (take len (drop from work)))) ≤ length work
+    entry_room = omega (arith, both_room)
 
     short : length W ≤ largest
-    short = omega (arith, entry-room, i.small)
+    short = omega (arith, entry_room, i.small)
 
-    module _ {new : List ℤ} {next : ℕ} (g : next ≡ p.end + length (entry (replaced (choice-of l below) (take len (drop from work))))) (h : new ≡ sets work p.end (entry (replaced (choice-of l below) (take len (drop from work))))) where
+    module _ {new : List ℤ} {next : ℕ} (g : next ≡ p.end + length (entry (replaced (choice_of l below) (take len (drop from work))))) (h : new ≡ sets work p.end (entry (replaced (choice_of l below) (take len (drop from work))))) where
       abbrev others : List ℤ
       others = drop (p.end + length (entry W)) work
 
       size : length new ≡ length work
       size = ap length h ∙ length-sets work p.end (entry W)
 
-      store-size : length (take p.end work) ≡ p.end
-      store-size = length-take-le p.end work (omega (arith, entry-room))
+      store_size : length (take p.end work) ≡ p.end
+      store_size = length-take-le p.end work (omega (arith, entry_room))
 
       before : take p.end new ≡ take p.end work
-      before = ap (take p.end) h ∙ sets-before (entry W) work p.end p.end (omega arith)
+      before = ap (take p.end) h ∙ sets_before (entry W) work p.end p.end (omega arith)
 
       new_is : new ≡ take p.end work ++ (entry W ++ others)
-      new_is = h ∙ sets-eq (entry W) work p.end entry-room ∙ append_assoc (take p.end work) (entry W) others
+      new_is = h ∙ sets-eq (entry W) work p.end entry_room ∙ append_assoc (take p.end work) (entry W) others
 
       header : header_at new p.end ≡ header_of (length W)
-      header = ap (λ (s : List ℤ). header_at s p.end) new_is ∙ get_or_at (take p.end work) (header_of (length W)) (W ++ others) (pos 0) p.end store-size
+      header = ap (λ (s : List ℤ). header_at s p.end) new_is ∙ get_or_at (take p.end work) (header_of (length W)) (W ++ others) (pos 0) p.end store_size
 
-      clause : clause-at new p.end ≡ W
-      clause = entry-clause new p.end W short others (ap (drop p.end) new_is ∙ drop_at (take p.end work) (entry W ++ others) p.end store-size)
+      clause : clause_at new p.end ≡ W
+      clause = entry_clause new p.end W short others (ap (drop p.end) new_is ∙ drop_at (take p.end work) (entry W ++ others) p.end store_size)
 
       indexed : Indexed new p.end newest
-      indexed = subst (λ (s : List ℤ). Indexed s p.end newest) (sym h) (indexed-sets i p.end (entry W) (omega arith) (omega (arith, both-room)))
+      indexed = subst (λ (s : List ℤ). Indexed s p.end newest) (sym h) (indexed_sets i p.end (entry W) (omega arith) (omega (arith, both_room)))
 
-      entry-there : Entry-there new p.end next
-      entry-there = let n : next - (p.end + 1) ≡ length W = omega arith in record { longer = omega arith; header = rw n header }
+      entry_there : EntryThere new p.end next
+      entry_there = let n : next - (p.end + 1) ≡ length W = omega arith in record { longer = omega arith; header = rw n header }
 
       -- what record_added asks
-      pub added-ready : (Indexed new p.end newest × Entry-there new p.end next) × ((next + 2 * (nodes newest + (next - (p.end + 1))) ≤ length new) × ((p.at < 2 ^ 63) × (p.lines < 2 ^ 63)))
-      added-ready = ((indexed, entry-there), (omega (arith, both-room, size), (omega (arith, a.room.text), omega (arith, a.room.count))))
+      pub added_ready : (Indexed new p.end newest × EntryThere new p.end next) × ((next + 2 * (nodes newest + (next - (p.end + 1))) ≤ length new) × ((p.at < 2 ^ 63) × (p.lines < 2 ^ 63)))
+      added_ready = ((indexed, entry_there), (omega (arith, both_room, size), (omega (arith, a.room.text), omega (arith, a.room.count))))
 
-      pub result-added : {w : List ℤ} {n : List ℕ} {x y : Bytes} {r : Progress} → Grown (clause-at new p.end ∷ []) new newest x p w n y r → Grown (result-of (choice-of l below) (take len (drop from work))) work newest x p w n y r
-      result-added {w} {n} {x} {y} {r} o =
-          rw (result-one k d e) (grown-same-store size before (subst (λ (c : Clause). Grown (c ∷ []) new newest x p w n y r) clause o))
+      pub result_added : {w : List ℤ} {n : List ℕ} {x y : Bytes} {r : Progress} → Grown (clause_at new p.end ∷ []) new newest x p w n y r → Grown (result_of (choice_of l below) (take len (drop from work))) work newest x p w n y r
+      result_added {w} {n} {x} {y} {r} o =
+          rw (result_one k d e) (grown_same_store size before (subst (λ (c : Clause). Grown (c ∷ []) new newest x p w n y r) clause o))
 
 -- ---- the clause at a place
-module _ {t : List ℕ} {l : Clause} {below : ℕ} (work : List ℤ) {newest : List ℕ} (at : ℕ) {p : Progress} (u : Step-ready t l below work newest at p) where
+module _ {t : List ℕ} {l : Clause} {below : ℕ} (work : List ℤ) {newest : List ℕ} (at : ℕ) {p : Progress} (u : StepReady t l below work newest at p) where
   abbrev K : Choice
-  K = choice-of l below
+  K = choice_of l below
 
   abbrev c : Clause
-  c = clause-at work at
+  c = clause_at work at
 
   abbrev old : List ℤ
   old = take p.end work
@@ -146,77 +146,77 @@ module _ {t : List ℕ} {l : Clause} {below : ℕ} (work : List ℤ) {newest : L
   within : p.end ≤ length work
   within = omega (arith, u.indexed.room)
 
-  old-size : length old ≡ p.end
-  old-size = length-take-le p.end work within
+  old_size : length old ≡ p.end
+  old_size = length-take-le p.end work within
 
-  past-inside : past work at ≤ p.end
-  past-inside =
-      omega (arith, (formed-next old at (omega (arith, u.inside, old-size)) u.place.rest).0, old-size, ap header-literals (prefix-header work p.end at u.inside within))
+  past_inside : past work at ≤ p.end
+  past_inside =
+      omega (arith, (formed_next old at (omega (arith, u.inside, old_size)) u.place.rest).0, old_size, ap header_literals (prefix_header work p.end at u.inside within))
 
   module _ {next : ℕ} (f : next ≡ past work at) where
     part : take (next - (at + 1)) (drop (at + 1) work) ≡ c
-    part = part-there work at next f
+    part = part_there work at next f
 
-    pub clause-inside : at + 1 + (next - (at + 1)) ≤ p.end
-    clause-inside = omega (arith, f, past-inside)
+    pub clause_inside : at + 1 + (next - (at + 1)) ≤ p.end
+    clause_inside = omega (arith, f, past_inside)
 
-    pub step-replaceable : Replaceable (choice-of l below) (take (next - (at + 1)) (drop (at + 1) work)) work newest p
-    step-replaceable = subst (λ (d : Clause). Replaceable K d work newest p) (sym part) u.replaceable
+    pub step_replaceable : Replaceable (choice_of l below) (take (next - (at + 1)) (drop (at + 1) work)) work newest p
+    step_replaceable = subst (λ (d : Clause). Replaceable K d work newest p) (sym part) u.replaceable
 
-    module _ {x y : Bytes} {new : List ℤ} {n : List ℕ} {q : Progress} (w : Grown (result-of (choice-of l below) (take (next - (at + 1)) (drop (at + 1) work))) work newest x p new n y q) where
+    module _ {x y : Bytes} {new : List ℤ} {n : List ℕ} {q : Progress} (w : Grown (result_of (choice_of l below) (take (next - (at + 1)) (drop (at + 1) work))) work newest x p new n y q) where
       abbrev R : List ℤ
-      R = entries (result-of K c)
+      R = entries (result_of K c)
 
-      grown : Grown (result-of K c) work newest x p new n y q
-      grown = subst (λ (d : Clause). Grown (result-of K d) work newest x p new n y q) part w
+      grown : Grown (result_of K c) work newest x p new n y q
+      grown = subst (λ (d : Clause). Grown (result_of K d) work newest x p new n y q) part w
 
       before_same : take p.end new ≡ old
-      before_same = sym (take-take p.end q.end new (omega (arith, grown.next))) ∙ ap (take p.end) grown.filled ∙ take_at old R p.end old-size
+      before_same = sym (take-take p.end q.end new (omega (arith, grown.next))) ∙ ap (take p.end) grown.filled ∙ take_at old R p.end old_size
 
-      header-same : header_at new at ≡ header_at work at
-      header-same = getD-before new work p.end at (pos 0) before_same u.inside
+      header_same : header_at new at ≡ header_at work at
+      header_same = getD_before new work p.end at (pos 0) before_same u.inside
 
       -- the clause stands where it stood
-      old-part : take (next - (at + 1)) (drop (at + 1) new) ≡ c
-      old-part =
-          part-there new at next (f ∙ ap (λ (z : ℤ). at + (1 + header-literals z)) (sym header-same))
-          ∙ kept-clause work new p.end at (sym before_same) within (omega (arith, within, grown.size)) u.inside past-inside
+      old_part : take (next - (at + 1)) (drop (at + 1) new) ≡ c
+      old_part =
+          part_there new at next (f ∙ ap (λ (z : ℤ). at + (1 + header_literals z)) (sym header_same))
+          ∙ kept_clause work new p.end at (sym before_same) within (omega (arith, within, grown.size)) u.inside past_inside
 
-      last-room : Log-room (deletion c ∷ []) q
-      last-room =
-          room-rest (map addition (result-of K c)) (deletion c ∷ [])
-          (subst (λ (ls : List Line). Log-room ls p) (replacement-parts K c) u.replaceable.room) grown.written
+      last_room : LogRoom (deletion c ∷ []) q
+      last_room =
+          room_rest (map addition (result_of K c)) (deletion c ∷ [])
+          (subst (λ (ls : List Line). LogRoom ls p) (replacement_parts K c) u.replaceable.room) grown.written
 
-      pub deletion-room : (q.at + 12 * length (take (next - (at + 1)) (drop (at + 1) new)) + 4 < 2 ^ 64) × (q.lines + 1 < 2 ^ 64)
-      deletion-room = (
-        omega (arith, f, past-inside, within, u.indexed.small, length-take (next - (at + 1)) (drop (at + 1) new), last-room.text),
-        omega (arith, last-room.count),
+      pub deletion_room : (q.at + 12 * length (take (next - (at + 1)) (drop (at + 1) new)) + 4 < 2 ^ 64) × (q.lines + 1 < 2 ^ 64)
+      deletion_room = (
+        omega (arith, f, past_inside, within, u.indexed.small, length-take (next - (at + 1)) (drop (at + 1) new), last_room.text),
+        omega (arith, last_room.count),
       )
 
-      new-store : take q.end new ≡ old ++ R
-      new-store = grown.filled
+      new_store : take q.end new ≡ old ++ R
+      new_store = grown.filled
 
-      new-place : Place (take q.end new) at
-      new-place =
-          place-within grown.indexed.formed (omega (arith, u.inside, ap length new-store, length-append old R, old-size))
-          (subst (λ (s : List ℤ). Formed s) (sym (ap (take at) new-store ∙ take-append-le at old R (omega (arith, u.inside, old-size)))) u.place.before)
+      new_place : Place (take q.end new) at
+      new_place =
+          place_within grown.indexed.formed (omega (arith, u.inside, ap length new_store, length-append old R, old_size))
+          (subst (λ (s : List ℤ). Formed s) (sym (ap (take at) new_store ∙ take-append-le at old R (omega (arith, u.inside, old_size)))) u.place.before)
 
-      pub step-replaced : {z : Bytes} {last : List ℤ} {o : Progress} → Written (deletion (take (next - (at + 1)) (drop (at + 1) new)) ∷ []) y q z o → o.end ≡ q.end → last ≡ marked new at →
-          Replaced-at (choice-of l below) (clause-at work at) work newest at x p last n z o
-      step-replaced {z} {last} {o} v i j =
+      pub step_replaced : {z : Bytes} {last : List ℤ} {o : Progress} → Written (deletion (take (next - (at + 1)) (drop (at + 1) new)) ∷ []) y q z o → o.end ≡ q.end → last ≡ marked new at →
+          ReplacedAt (choice_of l below) (clause_at work at) work newest at x p last n z o
+      step_replaced {z} {last} {o} v i j =
           let inside : at < q.end = omega (arith, u.inside, grown.next) in
           let Y : List ℤ = old ++ R in
           record {
             size = ap length j ∙ length-set new at (flip (header_at new at)) ∙ grown.size;
             next = i ∙ grown.next;
             filled =
-                ap (λ (m : ℕ). take m last) i ∙ ap (take q.end) j ∙ marked-take grown.indexed new-place inside ∙ ap (λ (s : List ℤ). marked s at) new-store
-                ∙ ap (λ (z : ℤ). set Y at (flip z)) (get_or-append old R (pos 0) at (omega (arith, u.inside, old-size)))
-                ∙ set-append_left old R at (flip (header_at old at)) (omega (arith, u.inside, old-size));
+                ap (λ (m : ℕ). take m last) i ∙ ap (take q.end) j ∙ marked_take grown.indexed new_place inside ∙ ap (λ (s : List ℤ). marked s at) new_store
+                ∙ ap (λ (z : ℤ). set Y at (flip z)) (get_or-append old R (pos 0) at (omega (arith, u.inside, old_size)))
+                ∙ set-append_left old R at (flip (header_at old at)) (omega (arith, u.inside, old_size));
             formed = grown.formed;
             stands = grown.stands;
-            written = subst (λ (ls : List Line). Written ls x p z o) (sym (replacement-parts K c)) (written_then grown.written (subst (λ (d : Clause). Written (deletion d ∷ []) y q z o) old-part v));
+            written = subst (λ (ls : List Line). Written ls x p z o) (sym (replacement_parts K c)) (written_then grown.written (subst (λ (d : Clause). Written (deletion d ∷ []) y q z o) old_part v));
             indexed =
-                subst (λ (m : ℕ). Indexed last m n) (sym i) (subst (λ (s : List ℤ). Indexed s q.end n) (sym j) (indexed-marked grown.indexed new-place inside));
-            nodes-are = grown.nodes-are;
+                subst (λ (m : ℕ). Indexed last m n) (sym i) (subst (λ (s : List ℤ). Indexed s q.end n) (sym j) (indexed_marked grown.indexed new_place inside));
+            nodes_are = grown.nodes_are;
           }

@@ -1,17 +1,17 @@
 // Order form of one choice over the store.
 ghost use Rattle.std.specs.Prelude.{◌≡◌, [], ◌∷◌, ◌+◌, ◌≤◌, nat_abs, pos, length, take, drop, get_or};
-ghost use Rattle.definition.specs.Lists.{only_if, for-from};
-ghost use Rattle.definition.specs.Events.{choice-of};
-ghost use Rattle.definition.specs.Order.{order-events, deletions-of};
-ghost use Rattle.tables.specs.Sizes.{log-reach};
+ghost use Rattle.definition.specs.Lists.{only_if, for_from};
+ghost use Rattle.definition.specs.Events.{choice_of};
+ghost use Rattle.definition.specs.Order.{order_events, deletions_of};
+ghost use Rattle.tables.specs.Sizes.{log_reach};
 ghost use Rattle.tables.specs.Places.{Places, Small};
-ghost use Rattle.store.specs.Store.{clause-at};
+ghost use Rattle.store.specs.Store.{clause_at};
 ghost use Rattle.index.specs.Index.{Indexed};
-ghost use Rattle.lookup.specs.Lookup.{touched-places};
+ghost use Rattle.lookup.specs.Lookup.{touched_places};
 ghost use Rattle.progress.specs.Progress.{standing, Runs};
 ghost use Rattle.progress.specs.Growth.{Grown};
-ghost use Rattle.pass_order.specs.Pass.{result-of, Tabled, Replaceable, Step-ready, Replaced-at};
-ghost use Rattle.pass_order.specs.Order.{front, Order-ready, Passed, Deletes, first-deletion, Deletable};
+ghost use Rattle.pass_order.specs.Pass.{result_of, Tabled, Replaceable, StepReady, ReplacedAt};
+ghost use Rattle.pass_order.specs.Order.{front, OrderReady, Passed, Deletes, first_deletion, Deletable};
 
 use progress::Progress;
 
@@ -30,8 +30,8 @@ fn add_result(
     below: u32,
 ) -> Progress
     requires tabled { Tabled places.now choice.now below × (from + n ≤ p.end) × Indexed work.old p.end newest.old }
-    requires replaceable { Replaceable (choice-of choice.now below) (take n (drop from work.old)) work.old newest.old p }
-    ensures { Grown (result-of (choice-of choice.now below) (take n (drop from work.old))) work.old newest.old log.old p work.new newest.new log.new result }
+    requires replaceable { Replaceable (choice_of choice.now below) (take n (drop from work.old)) work.old newest.old p }
+    ensures { Grown (result_of (choice_of choice.now below) (take n (drop from work.old))) work.old newest.old log.old p work.new newest.new log.new result }
 {
     let behind = from + n;
     if replacement::is_opposed(places, &work[from..behind]) {
@@ -53,8 +53,8 @@ fn replace_at(
     choice: &[i32],
     below: u32,
 ) -> Progress
-    requires { Step-ready places.now choice.now below work.old newest.old at p }
-    ensures { Replaced-at (choice-of choice.now below) (clause-at work.old at) work.old newest.old at log.old p work.new newest.new log.new result }
+    requires { StepReady places.now choice.now below work.old newest.old at p }
+    ensures { ReplacedAt (choice_of choice.now below) (clause_at work.old at) work.old newest.old at log.old p work.new newest.new log.new result }
 {
     let next = store::next_at(work, at);
     let first = at + 1;
@@ -77,8 +77,8 @@ fn replace_all(
     places: &[u32],
     list: &mut [u32],
 ) -> Progress
-    requires { Order-ready work.old newest.old p start choice.now below × Places places.now choice.now × (length (touched-places choice.now (take start work.old)) ≤ length list.old) }
-    ensures { Passed (choice-of choice.now below) (front work.old start) (drop start (take p.end work.old)) start work.old log.old p work.new newest.new log.new result }
+    requires { OrderReady work.old newest.old p start choice.now below × Places places.now choice.now × (length (touched_places choice.now (take start work.old)) ≤ length list.old) }
+    ensures { Passed (choice_of choice.now below) (front work.old start) (drop start (take p.end work.old)) start work.old log.old p work.new newest.new log.new result }
 {
     let end = p.end;
     let from = lookup::gather(work, newest, end, start, choice, list);
@@ -102,7 +102,7 @@ fn delete_clause(
     p: Progress,
     clause: &[i32],
 ) -> Progress
-    requires in_bounds { (1 ≤ length clause.now) × (length clause.now ≤ 3) × (nat_abs (get_or clause.now 0 (pos 0)) ≤ log-reach) }
+    requires in_bounds { (1 ≤ length clause.now) × (length clause.now ≤ 3) × (nat_abs (get_or clause.now 0 (pos 0)) ≤ log_reach) }
     requires deletable { Deletable (clause.now ∷ []) work.old newest.now p }
     ensures { Deletes (clause.now ∷ []) work.old newest.now log.old p work.new log.new result }
 {
@@ -121,7 +121,7 @@ fn delete_pair_if(
     a: i32,
     b: i32,
 ) -> Progress
-    requires { (nat_abs a ≤ log-reach) × Deletable (only_if «wanted» ((a ∷ b ∷ []) ∷ [])) work.old newest.now p }
+    requires { (nat_abs a ≤ log_reach) × Deletable (only_if «wanted» ((a ∷ b ∷ []) ∷ [])) work.old newest.now p }
     ensures { Deletes (only_if «wanted» ((a ∷ b ∷ []) ∷ [])) work.old newest.now log.old p work.new log.new result }
 {
     if wanted {
@@ -142,9 +142,9 @@ fn delete_positive(
     size: u32,
     below: u32,
 ) -> Progress
-    requires le_i { (1 ≤ i) × (i ≤ size) × (size ≤ 64) × (below ≤ log-reach + 1) × (nat_abs l ≤ log-reach) }
-    requires deletable { Deletable (first-deletion l i size below ∷ []) work.old newest.now p }
-    ensures { Deletes (first-deletion l i size below ∷ []) work.old newest.now log.old p work.new log.new result }
+    requires le_i { (1 ≤ i) × (i ≤ size) × (size ≤ 64) × (below ≤ log_reach + 1) × (nat_abs l ≤ log_reach) }
+    requires deletable { Deletable (first_deletion l i size below ∷ []) work.old newest.now p }
+    ensures { Deletes (first_deletion l i size below ∷ []) work.old newest.now log.old p work.new log.new result }
 {
     let mut clause = [l, 0, 0];
     let after = literals::signed(true, below + i);
@@ -165,8 +165,8 @@ fn delete_literal(
     below: u32,
 ) -> Progress
     requires le_i { (1 ≤ i) × (i ≤ length choice.now) × Small choice.now below }
-    requires deletable { Deletable (deletions-of (choice-of choice.now below) i) work.old newest.now p }
-    ensures { Deletes (deletions-of (choice-of choice.now below) i) work.old newest.now log.old p work.new log.new result }
+    requires deletable { Deletable (deletions_of (choice_of choice.now below) i) work.old newest.now p }
+    ensures { Deletes (deletions_of (choice_of choice.now below) i) work.old newest.now log.old p work.new log.new result }
 {
     let size = choice.len() as u32;
     let l = choice[i as usize - 1];
@@ -188,8 +188,8 @@ fn delete_literals(
     below: u32,
 ) -> Progress
     requires small { Small choice.now below }
-    requires deletable { Deletable (for-from 1 (length choice.now) (deletions-of (choice-of choice.now below))) work.old newest.now p }
-    ensures { Deletes (for-from 1 (length choice.now) (deletions-of (choice-of choice.now below))) work.old newest.now log.old p work.new log.new result }
+    requires deletable { Deletable (for_from 1 (length choice.now) (deletions_of (choice_of choice.now below))) work.old newest.now p }
+    ensures { Deletes (for_from 1 (length choice.now) (deletions_of (choice_of choice.now below))) work.old newest.now log.old p work.new log.new result }
 {
     let size = choice.len() as u32;
     let mut q = p;
@@ -213,8 +213,8 @@ pub fn order_choice(
     places: &[u32],
     list: &mut [u32],
 ) -> Progress
-    requires { Order-ready work.old newest.old p start literals.now below × Places places.now literals.now × (length (touched-places literals.now (take start work.old)) ≤ length list.old) }
-    ensures runs { Runs (order-events (choice-of literals.now below) (standing work.old p)) work.old log.old p work.new log.new result }
+    requires { OrderReady work.old newest.old p start literals.now below × Places places.now literals.now × (length (touched_places literals.now (take start work.old)) ≤ length list.old) }
+    ensures runs { Runs (order_events (choice_of literals.now below) (standing work.old p)) work.old log.old p work.new log.new result }
     ensures indexed { Indexed work.new result.end newest.new }
 {
     let q = replace_all(work, newest, log, p, start, literals, below, places, list);

@@ -1,14 +1,14 @@
 // Deleting clauses for a pure literal: the unique literal clauses that have one, save those of 5 to 64 literals.
 ghost use Rattle.std.specs.Prelude.{◌≡◌, ◌<◌, ◌^◌, length, drop};
 ghost use Rattle.definition.specs.Lists.{first as first_of};
-ghost use Rattle.definition.specs.Clearing.{clear-pure};
-ghost use Rattle.theory_clearing.specs.Clashes.{Clash-free};
-ghost use Rattle.tables.specs.Sizes.{input-reach};
-ghost use Rattle.tables.specs.Counts.{pure-in};
+ghost use Rattle.definition.specs.Clearing.{clear_pure};
+ghost use Rattle.theory_clearing.specs.Clashes.{ClashFree};
+ghost use Rattle.tables.specs.Sizes.{input_reach};
+ghost use Rattle.tables.specs.Counts.{pure_in};
 ghost use Rattle.store.specs.Store.{Formed};
-ghost use Rattle.index.specs.Index.{Same-entries, Keeps-index};
+ghost use Rattle.index.specs.Index.{SameEntries, KeepsIndex};
 ghost use Rattle.progress.specs.Progress.{standing, Good, Runs};
-ghost use Rattle.pass_pure.specs.Pass.{pure-by, as-pure, pure_at, Step, Passable};
+ghost use Rattle.pass_pure.specs.Pass.{pure_by, as_pure, pure_at, Step, Passable};
 
 use progress::Progress;
 
@@ -23,7 +23,7 @@ pub enum Pure {
 
 // The first literal of a clause whose negation stands nowhere.
 fn first_pure(counts: &[u32], clause: &[i32]) -> Pure
-    ensures { result ≡ as-pure (first_of (pure-in counts.now) clause.now) }
+    ensures { result ≡ as_pure (first_of (pure_in counts.now) clause.now) }
 {
     let mut i = 0;
     while i < clause.len() {
@@ -38,7 +38,7 @@ fn first_pure(counts: &[u32], clause: &[i32]) -> Pure
 
 // The literal for which a clause is deleted, if it is.
 fn pure_literal(counts: &[u32], clause: &[i32]) -> Pure
-    ensures { result ≡ as-pure (pure-by counts.now clause.now) }
+    ensures { result ≡ as_pure (pure_by counts.now clause.now) }
 {
     if tables::is_deletable(counts, clause) {
         first_pure(counts, clause)
@@ -69,8 +69,8 @@ fn delete_at(work: &mut [i32], at: usize, counts: &[u32], log: &mut [u8], p: Pro
 // Deletes clauses for a pure literal from a workspace that is all store, in list order.
 fn delete_all(work: &mut [i32], counts: &[u32], log: &mut [u8], p: Progress) -> Progress
     requires { Passable work.old counts.now p }
-    ensures runs { Runs (clear-pure (standing work.old p)) work.old log.old p work.new log.new result }
-    ensures same { Same-entries work.old work.new }
+    ensures runs { Runs (clear_pure (standing work.old p)) work.old log.old p work.new log.new result }
+    ensures same { SameEntries work.old work.new }
     ensures kept { result.end ≡ p.end }
 {
     let mut q = p;
@@ -85,9 +85,9 @@ fn delete_all(work: &mut [i32], counts: &[u32], log: &mut [u8], p: Progress) -> 
 
 // Deletes clauses for a pure literal from a store in which no clash is left. The store's index stays what it was.
 pub fn delete_pure(work: &mut [i32], log: &mut [u8], p: Progress) -> Progress
-    requires { Good input-reach (clear-pure (standing work.old p)) work.old p × Clash-free (standing work.old p) }
-    ensures runs { Runs (clear-pure (standing work.old p)) work.old log.old p work.new log.new result }
-    ensures index { Keeps-index work.old p.end work.new result.end }
+    requires { Good input_reach (clear_pure (standing work.old p)) work.old p × ClashFree (standing work.old p) }
+    ensures runs { Runs (clear_pure (standing work.old p)) work.old log.old p work.new log.new result }
+    ensures index { KeepsIndex work.old p.end work.new result.end }
 {
     let end = p.end;
     let mut counts = [0u32; tables::INPUT_SIZE];

@@ -11,18 +11,18 @@ use lib.Seq.{take-suc, take_all}
 use mir.Syntax.{w32}
 use mir.Val.{SFits, of_z, to_z}
 use mir.ValLaws.{to_z-of_z}
-use Rattle.definition.specs.Lists.{those, for-each}
+use Rattle.definition.specs.Lists.{those, for_each}
 use Rattle.definition.specs.Literals.{Clause, same, without, with_first}
-use Rattle.definition.specs.Text.{Bytes, bytes, literal-text}
+use Rattle.definition.specs.Text.{Bytes, bytes, literal_text}
 use Rattle.definition.specs.Standing.{deletion}
-use Rattle.definition.specs.Log.{clause-text, log-line-text}
-use Rattle.theory_base.proofs.Loops.{for-each-++}
-use Rattle.literals.proofs.Laws.{at_arg, at-arg2, literals-within}
-use Rattle.theory_text.specs.ClauseText.{literals-text}
-use Rattle.store.specs.Store.{header_at, clause-at, past}
-use Rattle.store.proofs.Laws.{part-there}
+use Rattle.definition.specs.Log.{clause_text, log_line_text}
+use Rattle.theory_base.proofs.Loops.{for_each-++}
+use Rattle.literals.proofs.Laws.{at_arg, at_arg2, literals_within}
+use Rattle.theory_text.specs.ClauseText.{literals_text}
+use Rattle.store.specs.Store.{header_at, clause_at, past}
+use Rattle.store.proofs.Laws.{part_there}
 use Rattle.text.specs.Output.{Put}
-use Rattle.text.proofs.Output.{put-none, put_then, put_same, put-length}
+use Rattle.text.proofs.Output.{put_none, put_then, put_same, put_length}
 use Rattle.progress.specs.declared.Progress.{Progress}
 use Rattle.progress.specs.Progress.{Written}
 
@@ -38,76 +38,76 @@ without-++ x (l ∷ a) b = go (not (same x l)) (without-++ x a b)
     go true e = ap (λ (c : Clause). l ∷ c) e
     go false e = e
 
-texts-++ : (a b : Clause) → literals-text (a ++ b) ≡ literals-text a ++ literals-text b
-unfolding literals-text
-texts-++ a b = for-each-++ a b (λ l. literal-text l ++ bytes " ")
+texts-++ : (a b : Clause) → literals_text (a ++ b) ≡ literals_text a ++ literals_text b
+unfolding literals_text
+texts-++ a b = for_each-++ a b (λ l. literal_text l ++ bytes " ")
 
 -- one literal
-pub skipped : {x : Bytes} {at : ℕ} {t : Bool} (f l : ℤ) → SFits w32 f → SFits w32 l → t ≡ same (to_z w32 (of_z w32 f)) (to_z w32 (of_z w32 l)) → t ≡ true → Put x at (literals-text (without f (l ∷ []))) at x
-unfolding without those literals-text for-each
-skipped {x} {at} f l a b e k = let d : same f l ≡ true = sym (at-arg2 same f l a b) ∙ sym e ∙ k in rw d (put-none x at)
+pub skipped : {x : Bytes} {at : ℕ} {t : Bool} (f l : ℤ) → SFits w32 f → SFits w32 l → t ≡ same (to_z w32 (of_z w32 f)) (to_z w32 (of_z w32 l)) → t ≡ true → Put x at (literals_text (without f (l ∷ []))) at x
+unfolding without those literals_text for_each
+skipped {x} {at} f l a b e k = let d : same f l ≡ true = sym (at_arg2 same f l a b) ∙ sym e ∙ k in rw d (put_none x at)
 
-pub one-other : {x y : Bytes} {at r : ℕ} {t : Bool} (f l : ℤ) → SFits w32 f → SFits w32 l → t ≡ same (to_z w32 (of_z w32 f)) (to_z w32 (of_z w32 l)) →
-    t ≡ false → Put x at (literal-text (to_z w32 (of_z w32 l)) ++ bytes " ") r y → Put x at (literals-text (without f (l ∷ []))) r y
-unfolding without those literals-text for-each
-one-other f l a b e k p =
-    let d : same f l ≡ false = sym (at-arg2 same f l a b) ∙ sym e ∙ k in
-    rw d (put_same p (at_arg (λ (z : ℤ). literal-text z ++ bytes " ") l b ∙ sym (append-nil (literal-text l ++ bytes " "))))
+pub one_other : {x y : Bytes} {at r : ℕ} {t : Bool} (f l : ℤ) → SFits w32 f → SFits w32 l → t ≡ same (to_z w32 (of_z w32 f)) (to_z w32 (of_z w32 l)) →
+    t ≡ false → Put x at (literal_text (to_z w32 (of_z w32 l)) ++ bytes " ") r y → Put x at (literals_text (without f (l ∷ []))) r y
+unfolding without those literals_text for_each
+one_other f l a b e k p =
+    let d : same f l ≡ false = sym (at_arg2 same f l a b) ∙ sym e ∙ k in
+    rw d (put_same p (at_arg (λ (z : ℤ). literal_text z ++ bytes " ") l b ∙ sym (append-nil (literal_text l ++ bytes " "))))
 
 -- the first i literals, without f
 pub record Others (old : Bytes) (at : ℕ) (f : ℤ) (c : Clause) (i end : ℕ) (buf : Bytes) : Type 0 where
   pub inside : i ≤ length c
   pub size : length buf ≡ length old
   pub within : end ≤ at + 12 * i
-  pub put : Put old at (literals-text (without f (take i c))) end buf
+  pub put : Put old at (literals_text (without f (take i c))) end buf
 
-pub others-start : (old : Bytes) (at : ℕ) (f : ℤ) (c : Clause) → Others old at f c 0 at old
-unfolding literals-text for-each without those
-others-start old at f c = record { inside = omega arith; size = refl; within = omega arith; put = put-none old at }
+pub others_start : (old : Bytes) (at : ℕ) (f : ℤ) (c : Clause) → Others old at f c 0 at old
+unfolding literals_text for_each without those
+others_start old at f c = record { inside = omega arith; size = refl; within = omega arith; put = put_none old at }
 
-others-more : (f : ℤ) (c : Clause) (i : ℕ) → i < length c → literals-text (without f (take i c)) ++ literals-text (without f (get_or c i (pos 0) ∷ [])) ≡ literals-text (without f (take (i + 1) c))
-others-more f c i h =
+others_more : (f : ℤ) (c : Clause) (i : ℕ) → i < length c → literals_text (without f (take i c)) ++ literals_text (without f (get_or c i (pos 0) ∷ [])) ≡ literals_text (without f (take (i + 1) c))
+others_more f c i h =
     rw (add-one i, take-suc c i (pos 0) h, without-++ f (take i c) (get_or c i (pos 0) ∷ []), texts-++ (without f (take i c)) (without f (get_or c i (pos 0) ∷ [])))
 
-pub others-step : {old buf new : Bytes} {at i end r : ℕ} {f : ℤ} {c : Clause} → Others old at f c i end buf → i < length c →
-    SFits w32 (get_or c i (pos 0)) → Put buf end (literals-text (without f (to_z w32 (of_z w32 (get_or c i (pos 0))) ∷ []))) r new → r ≤ end + 12 →
+pub others_step : {old buf new : Bytes} {at i end r : ℕ} {f : ℤ} {c : Clause} → Others old at f c i end buf → i < length c →
+    SFits w32 (get_or c i (pos 0)) → Put buf end (literals_text (without f (to_z w32 (of_z w32 (get_or c i (pos 0))) ∷ []))) r new → r ≤ end + 12 →
     Others old at f c (i + 1) r new
-others-step {i = i} {f = f} {c = c} s h b p w =
-    let q = put_same p (at_arg (λ (y : ℤ). literals-text (without f (y ∷ []))) (get_or c i (pos 0)) b) in record {
+others_step {i = i} {f = f} {c = c} s h b p w =
+    let q = put_same p (at_arg (λ (y : ℤ). literals_text (without f (y ∷ []))) (get_or c i (pos 0)) b) in record {
       inside = omega arith;
-      size = put-length p ∙ s.size;
+      size = put_length p ∙ s.size;
       within = omega (arith, s.within);
-      put = put_same (put_then s.put q) (others-more f c i h);
+      put = put_same (put_then s.put q) (others_more f c i h);
     }
 
-pub others-end : {old buf : Bytes} {at i end : ℕ} {f : ℤ} {c : Clause} → SFits w32 f → Others old at (to_z w32 (of_z w32 f)) c i end buf → length c ≤ i → Put old at (literals-text (without f c)) end buf × (end ≤ at + 12 * length c)
-others-end {i = i} {f = f} {c = c} a s h = (put_same s.put (at_arg (λ (z : ℤ). literals-text (without z (take i c))) f a ∙ ap (λ (k : Clause). literals-text (without f k)) (take_all i c h)), omega (arith, s.inside, s.within))
+pub others_end : {old buf : Bytes} {at i end : ℕ} {f : ℤ} {c : Clause} → SFits w32 f → Others old at (to_z w32 (of_z w32 f)) c i end buf → length c ≤ i → Put old at (literals_text (without f c)) end buf × (end ≤ at + 12 * length c)
+others_end {i = i} {f = f} {c = c} a s h = (put_same s.put (at_arg (λ (z : ℤ). literals_text (without z (take i c))) f a ∙ ap (λ (k : Clause). literals_text (without f k)) (take_all i c h)), omega (arith, s.inside, s.within))
 
 -- ---- the line
 
-pub first-put : {x₀ x₁ x₂ x₃ : Bytes} {at a b r : ℕ} (f : ℤ) → SFits w32 f → Put x₀ at (100 ∷ []) a x₁ → Put x₁ a (32 ∷ []) b x₂ →
-    Put x₂ b (literal-text (to_z w32 (of_z w32 f)) ++ bytes " ") r x₃ → Put x₀ at (bytes "d " ++ literal-text f ++ bytes " ") r x₃
+pub first_put : {x₀ x₁ x₂ x₃ : Bytes} {at a b r : ℕ} (f : ℤ) → SFits w32 f → Put x₀ at (100 ∷ []) a x₁ → Put x₁ a (32 ∷ []) b x₂ →
+    Put x₂ b (literal_text (to_z w32 (of_z w32 f)) ++ bytes " ") r x₃ → Put x₀ at (bytes "d " ++ literal_text f ++ bytes " ") r x₃
 unfolding bytes
-first-put f s p q t = put_then (put_then p q) (put_same t (at_arg (λ (z : ℤ). literal-text z ++ bytes " ") f s))
+first_put f s p q t = put_then (put_then p q) (put_same t (at_arg (λ (z : ℤ). literal_text z ++ bytes " ") f s))
 
-pub line-put : {x₀ x₁ x₂ x₃ x₄ : Bytes} {at a b e r : ℕ} (f : ℤ) (c : Clause) → SFits w32 f →
-    Put x₀ at (bytes "d " ++ literal-text (to_z w32 (of_z w32 f)) ++ bytes " ") a x₁ → Put x₁ a (literals-text (without (to_z w32 (of_z w32 f)) c)) b x₂ →
-    Put x₂ b (48 ∷ []) e x₃ → Put x₃ e (10 ∷ []) r x₄ → Put x₀ at (log-line-text (deletion (with_first f c))) r x₄
-unfolding bytes log-line-text clause-text literals-text for-each with_first
-line-put f c s p q t u =
-    let p' = put_same p (at_arg (λ (z : ℤ). bytes "d " ++ literal-text z ++ bytes " ") f s) in
-    let q' = put_same q (at_arg (λ (z : ℤ). literals-text (without z c)) f s) in
+pub line_put : {x₀ x₁ x₂ x₃ x₄ : Bytes} {at a b e r : ℕ} (f : ℤ) (c : Clause) → SFits w32 f →
+    Put x₀ at (bytes "d " ++ literal_text (to_z w32 (of_z w32 f)) ++ bytes " ") a x₁ → Put x₁ a (literals_text (without (to_z w32 (of_z w32 f)) c)) b x₂ →
+    Put x₂ b (48 ∷ []) e x₃ → Put x₃ e (10 ∷ []) r x₄ → Put x₀ at (log_line_text (deletion (with_first f c))) r x₄
+unfolding bytes log_line_text clause_text literals_text for_each with_first
+line_put f c s p q t u =
+    let p' = put_same p (at_arg (λ (z : ℤ). bytes "d " ++ literal_text z ++ bytes " ") f s) in
+    let q' = put_same q (at_arg (λ (z : ℤ). literals_text (without z c)) f s) in
     put_same (put_then (put_then (put_then p' q') t) u) (simp append_assoc)
 
 -- ---- a clause of a store deleted
 
 -- its line, written from its part of the store
-pub clause-written : {x y : Bytes} {p q : Progress} (l : ℤ) (s : List ℤ) (at next : ℕ) → SFits w32 l → next ≡ past s at → Written (deletion (with_first (to_z w32 (of_z w32 l)) (take (next - (at + 1)) (drop (at + 1) s))) ∷ []) x p y q
-    → Written (deletion (with_first l (clause-at s at)) ∷ []) x p y q
-clause-written {x} {y} {p} {q} l s at next f e w =
-    subst (λ (c : Clause). Written (deletion (with_first l c) ∷ []) x p y q) (part-there s at next e)
+pub clause_written : {x y : Bytes} {p q : Progress} (l : ℤ) (s : List ℤ) (at next : ℕ) → SFits w32 l → next ≡ past s at → Written (deletion (with_first (to_z w32 (of_z w32 l)) (take (next - (at + 1)) (drop (at + 1) s))) ∷ []) x p y q
+    → Written (deletion (with_first l (clause_at s at)) ∷ []) x p y q
+clause_written {x} {y} {p} {q} l s at next f e w =
+    subst (λ (c : Clause). Written (deletion (with_first l c) ∷ []) x p y q) (part_there s at next e)
     (subst (λ (z : ℤ). Written (deletion (with_first z (take (next - (at + 1)) (drop (at + 1) s))) ∷ []) x p y q) (to_z-of_z w32 l f) w)
 
 -- it is short enough for a line
-pub clause-short : (s : List ℤ) (at next : ℕ) → SFits w32 (header_at s at) → next ≡ past s at → length (take (next - (at + 1)) (drop (at + 1) s)) < 2 ^ 31
-clause-short s at next f e = omega (arith, literals-within (header_at s at) f, length-take (next - (at + 1)) (drop (at + 1) s))
+pub clause_short : (s : List ℤ) (at next : ℕ) → SFits w32 (header_at s at) → next ≡ past s at → length (take (next - (at + 1)) (drop (at + 1) s)) < 2 ^ 31
+clause_short s at next f e = omega (arith, literals_within (header_at s at) f, length-take (next - (at + 1)) (drop (at + 1) s))

@@ -3,22 +3,22 @@ use Rattle.std.specs.Prelude.{◌≡◌, List, ℕ, ◌+◌, ◌≤◌, ◌<◌,
 use Rattle.definition.specs.Literals.{Formula}
 use Rattle.definition.specs.Text.{Bytes}
 use Rattle.definition.specs.Standing.{Line, after}
-use Rattle.definition.specs.Log.{log-text}
+use Rattle.definition.specs.Log.{log_text}
 use Rattle.definition.specs.Events.{Event}
 use Rattle.definition.specs.Reencoding.{lines}
-use Rattle.theory_base.specs.Clauses.{Proper-all, Fits}
+use Rattle.theory_base.specs.Clauses.{ProperAll, Fits}
 use Rattle.text.specs.Output.{Put}
 use Rattle.store.specs.Store.{Formed, stored}
 use Rattle.progress.specs.declared.Progress.{Progress}
 
 -- the lines' text is written, and they are counted
-pub record Written (ls : List Line) (old-log : Bytes) (old : Progress) (log : Bytes) (new : Progress) : Type 0 where
-  pub written : Put old-log old.at (log-text ls) new.at log
+pub record Written (ls : List Line) (old_log : Bytes) (old : Progress) (log : Bytes) (new : Progress) : Type 0 where
+  pub written : Put old_log old.at (log_text ls) new.at log
   pub counted : new.lines ≡ old.lines + length ls
 
 -- the log's places and line numbers stay small while the lines are recorded
-pub record Log-room (ls : List Line) (p : Progress) : Type 0 where
-  pub text : p.at + length (log-text ls) < 2 ^ 62
+pub record LogRoom (ls : List Line) (p : Progress) : Type 0 where
+  pub text : p.at + length (log_text ls) < 2 ^ 62
   pub count : p.lines + length ls < 2 ^ 62
 
 -- ---- a pass over a workspace
@@ -32,15 +32,15 @@ pub record Good (reach : ℕ) (es : List Event) (work : List ℤ) (p : Progress)
   pub small : length work < 2 ^ 31
   pub inside : p.end ≤ length work
   pub formed : Formed (take p.end work)
-  pub proper : Proper-all (standing work p)
+  pub proper : ProperAll (standing work p)
   pub fits : Fits reach (standing work p)
-  pub room : Log-room (lines es) p
+  pub room : LogRoom (lines es) p
 
 -- the events es happened: the store holds what stands after them, the log their lines' text
-pub record Runs (es : List Event) (work : List ℤ) (log : Bytes) (p : Progress) (new-work : List ℤ) (new-log : Bytes) (r : Progress) : Type 0 where
-  pub size : length new-work ≡ length work
+pub record Runs (es : List Event) (work : List ℤ) (log : Bytes) (p : Progress) (new_work : List ℤ) (new_log : Bytes) (r : Progress) : Type 0 where
+  pub size : length new_work ≡ length work
   pub inside : r.end ≤ length work
-  pub formed : Formed (take r.end new-work)
-  pub stands : standing new-work r ≡ after (standing work p) (lines es)
-  pub written : Put log p.at (log-text (lines es)) r.at new-log
+  pub formed : Formed (take r.end new_work)
+  pub stands : standing new_work r ≡ after (standing work p) (lines es)
+  pub written : Put log p.at (log_text (lines es)) r.at new_log
   pub counted : r.lines ≡ p.lines + length (lines es)

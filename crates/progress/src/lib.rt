@@ -1,17 +1,17 @@
 // Recording: proof lines go into the log's buffer, and are counted.
 ghost use Rattle.std.specs.Prelude.{◌≡◌, true, [], ◌∷◌, ◌++◌, ◌+◌, ◌-◌, ◌*◌, ◌≤◌, ◌<◌, ◌^◌, length, take, drop};
-ghost use Rattle.definition.specs.Text.{Bytes, bytes, literal-text};
+ghost use Rattle.definition.specs.Text.{Bytes, bytes, literal_text};
 ghost use Rattle.definition.specs.Literals.{without, with_first};
 ghost use Rattle.definition.specs.Standing.{deletion};
-ghost use Rattle.theory_text.specs.ClauseText.{literals-text};
+ghost use Rattle.theory_text.specs.ClauseText.{literals_text};
 ghost use Rattle.literals.specs.Literal.{largest};
 ghost use Rattle.text.specs.Output.{Put};
 ghost use Rattle.theory_base.specs.Cells.{cells_of};
-ghost use Rattle.store.specs.Store.{clause-at, marked, Formed};
+ghost use Rattle.store.specs.Store.{clause_at, marked, Formed};
 ghost use Rattle.drat.specs.Lines.{line_of};
 ghost use Rattle.index.specs.Index.{nodes, Indexed, Roomy};
 ghost use Rattle.progress.specs.Progress.{Written, standing, Runs};
-ghost use Rattle.progress.specs.Growth.{Grow-room, Grown, Entry-there};
+ghost use Rattle.progress.specs.Growth.{GrowRoom, Grown, EntryThere};
 
 use store::Added;
 
@@ -43,7 +43,7 @@ pub fn record_line(log: &mut [u8], p: Progress, is_deletion: bool, clause: &[i32
 // Writes a literal and a blank, unless it is the first one.
 fn put_other(log: &mut [u8], at: usize, first: i32, l: i32) -> usize
     requires { at + 12 < 2 ^ 64 }
-    ensures written { Put log.old at (literals-text (without first (l ∷ []))) result log.new }
+    ensures written { Put log.old at (literals_text (without first (l ∷ []))) result log.new }
     ensures within { result ≤ at + 12 }
 {
     if literals::same(first, l) {
@@ -55,7 +55,7 @@ fn put_other(log: &mut [u8], at: usize, first: i32, l: i32) -> usize
 // Writes the literals of a clause without the first one, a blank after each.
 fn put_others(log: &mut [u8], at: usize, first: i32, clause: &[i32]) -> usize
     requires { at + 12 * length clause.now < 2 ^ 64 }
-    ensures written { Put log.old at (literals-text (without first clause.now)) result log.new }
+    ensures written { Put log.old at (literals_text (without first clause.now)) result log.new }
     ensures within { result ≤ at + 12 * length clause.now }
 {
     let mut end = at;
@@ -70,7 +70,7 @@ fn put_others(log: &mut [u8], at: usize, first: i32, clause: &[i32]) -> usize
 // Writes `d` and a literal, a blank after each.
 fn put_first(log: &mut [u8], at: usize, first: i32) -> usize
     requires { at + 14 < 2 ^ 64 }
-    ensures written { Put log.old at (bytes "d " ++ literal-text first ++ bytes " ") result log.new }
+    ensures written { Put log.old at (bytes "d " ++ literal_text first ++ bytes " ") result log.new }
     ensures within { result ≤ at + 14 }
 {
     let a = text::put_byte(log, at, 100);
@@ -100,7 +100,7 @@ fn record_first(log: &mut [u8], p: Progress, first: i32, clause: &[i32]) -> Prog
 pub fn delete_first(work: &mut [i32], at: usize, log: &mut [u8], p: Progress, l: i32) -> Progress
     requires at_in_bounds { (at < length work.old) × Formed (drop at work.old) }
     requires at_bound { (p.at < 2 ^ 63) × (p.lines < 2 ^ 63) }
-    ensures written { Written (deletion (with_first l (clause-at work.old at)) ∷ []) log.old p log.new result }
+    ensures written { Written (deletion (with_first l (clause_at work.old at)) ∷ []) log.old p log.new result }
     ensures kept { result.end ≡ p.end }
     ensures marked { work.new ≡ marked work.old at }
 {
@@ -139,10 +139,10 @@ pub fn record_added(
     p: Progress,
     next: usize,
 ) -> Progress
-    requires indexed { Indexed work.old p.end newest.old × Entry-there work.old p.end next }
+    requires indexed { Indexed work.old p.end newest.old × EntryThere work.old p.end next }
     requires end_in_bounds { next + 2 * (nodes newest.old + (next - (p.end + 1))) ≤ length work.old }
     requires at_bound { (p.at < 2 ^ 63) × (p.lines < 2 ^ 63) }
-    ensures { Grown (clause-at work.old p.end ∷ []) work.old newest.old log.old p work.new newest.new log.new result }
+    ensures { Grown (clause_at work.old p.end ∷ []) work.old newest.old log.old p work.new newest.new log.new result }
 {
     let end = p.end;
     let first = end + 1;
@@ -163,7 +163,7 @@ pub fn add_clause(
     p: Progress,
     clause: &[i32],
 ) -> Progress
-    requires { (length clause.now ≤ largest) × Grow-room (clause.now ∷ []) work.old newest.old p }
+    requires { (length clause.now ≤ largest) × GrowRoom (clause.now ∷ []) work.old newest.old p }
     ensures { Grown (clause.now ∷ []) work.old newest.old log.old p work.new newest.new log.new result }
 {
     let from = p.end;

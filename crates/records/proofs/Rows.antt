@@ -8,31 +8,31 @@ use lib.Dec.{T, ltb, ltb→lt, nltb→le}
 use lib.ListN.{length, drop, get_or, replicate}
 use lib.Seq.{sets, sets-eq}
 use borrow.Author.Tests.{lt-ltb, le-ltb}
-use Rattle.definition.specs.Lists.{for-each}
-use Rattle.definition.specs.Events.{Choice-record}
-use Rattle.records.specs.Rows.{shown-record, rows_of, no_record, record-from, if-there, row_of, records-in}
+use Rattle.definition.specs.Lists.{for_each}
+use Rattle.definition.specs.Events.{TableRecord}
+use Rattle.records.specs.Rows.{shown_record, rows_of, no_record, record_from, if_there, row_of, records_in}
 
 -- ---- rows of zeros
 
-zeros-at : (k i : ℕ) → get_or {A = ℕ} (replicate k 0) i 0 ≡ 0
-zeros-at zero i = refl
-zeros-at (suc k) zero = refl
-zeros-at (suc k) (suc i) = zeros-at k i
+zeros_at : (k i : ℕ) → get_or {A = ℕ} (replicate k 0) i 0 ≡ 0
+zeros_at zero i = refl
+zeros_at (suc k) zero = refl
+zeros_at (suc k) (suc i) = zeros_at k i
 
-none-there : (b : Bool) → if-there b no_record ≡ no_record
-none-there true = refl
-none-there false = refl
+none_there : (b : Bool) → if_there b no_record ≡ no_record
+none_there true = refl
+none_there false = refl
 
-row-of-zeros : (k at : ℕ) → row_of (replicate k 0) at ≡ no_record
+row_of_zeros : (k at : ℕ) → row_of (replicate k 0) at ≡ no_record
 unfolding row_of
-row-of-zeros k at =
-    let same : record-from (replicate k 0) (3 * at) ≡ no_record = λ i. record { first = zeros-at k (3 * at) i; length = zeros-at k (3 * at + 1) i; clauses = zeros-at k (3 * at + 2) i } in
-    ap (if-there (ltb (3 * at + 2) (length (replicate k 0)))) same ∙ none-there (ltb (3 * at + 2) (length (replicate k 0)))
+row_of_zeros k at =
+    let same : record_from (replicate k 0) (3 * at) ≡ no_record = λ i. record { first = zeros_at k (3 * at) i; length = zeros_at k (3 * at + 1) i; clauses = zeros_at k (3 * at + 2) i } in
+    ap (if_there (ltb (3 * at + 2) (length (replicate k 0)))) same ∙ none_there (ltb (3 * at + 2) (length (replicate k 0)))
 
-pub records-in-zeros : (k at n : ℕ) → records-in (replicate k 0) at n ≡ replicate n no_record
-unfolding records-in
-records-in-zeros k at zero = refl
-records-in-zeros k at (suc n) = λ i. row-of-zeros k at i ∷ records-in-zeros k (at + 1) n i
+pub records_in_zeros : (k at n : ℕ) → records_in (replicate k 0) at n ≡ replicate n no_record
+unfolding records_in
+records_in_zeros k at zero = refl
+records_in_zeros k at (suc n) = λ i. row_of_zeros k at i ∷ records_in_zeros k (at + 1) n i
 
 -- ---- rows of records
 
@@ -55,29 +55,29 @@ row_next a b c rows at =
     let e₁ : 3 * (at + 1) + 1 ≡ suc (suc (suc (3 * at + 1))) = omega arith in
     let e₂ : 3 * (at + 1) + 2 ≡ suc (suc (suc (3 * at + 2))) = omega arith in
     let all : List ℕ = a ∷ b ∷ c ∷ rows in
-    ap (λ (t : Bool). if-there t (record-from all (3 * (at + 1)))) (ap (λ (p : ℕ). ltb p (length all)) e₂ ∙ three_up (3 * at + 2) (length rows))
-    ∙ (λ i. if-there (ltb (3 * at + 2) (length rows)) (record { first = get_or all (e₀ i) 0; length = get_or all (e₁ i) 0; clauses = get_or all (e₂ i) 0 }))
+    ap (λ (t : Bool). if_there t (record_from all (3 * (at + 1)))) (ap (λ (p : ℕ). ltb p (length all)) e₂ ∙ three_up (3 * at + 2) (length rows))
+    ∙ (λ i. if_there (ltb (3 * at + 2) (length rows)) (record { first = get_or all (e₀ i) 0; length = get_or all (e₁ i) 0; clauses = get_or all (e₂ i) 0 }))
 
-rows_next : (a b c : ℕ) (rows : List ℕ) (at n : ℕ) → records-in (a ∷ b ∷ c ∷ rows) (at + 1) n ≡ records-in rows at n
-unfolding records-in
+rows_next : (a b c : ℕ) (rows : List ℕ) (at n : ℕ) → records_in (a ∷ b ∷ c ∷ rows) (at + 1) n ≡ records_in rows at n
+unfolding records_in
 rows_next a b c rows at zero = refl
 rows_next a b c rows at (suc n) = λ i. row_next a b c rows at i ∷ rows_next a b c rows (at + 1) n i
 
-records-in-front : (rs : List Choice-record) (rest : List ℕ) → records-in (rows_of rs ++ rest) 0 (length rs) ≡ map shown-record rs
-unfolding records-in rows_of row_of for-each
-records-in-front [] rest = refl
-records-in-front (r ∷ rs) rest =
+records_in_front : (rs : List TableRecord) (rest : List ℕ) → records_in (rows_of rs ++ rest) 0 (length rs) ≡ map shown_record rs
+unfolding records_in rows_of row_of for_each
+records_in_front [] rest = refl
+records_in_front (r ∷ rs) rest =
     let more : List ℕ = rows_of rs ++ rest in
     let there : ltb 2 (suc (suc (suc (length more)))) ≡ true = lt-ltb 2 (suc (suc (suc (length more)))) (omega arith) in
-    λ i. if-there (there i) (shown-record r) ∷ (rows_next r.first r.length r.clauses more 0 (length rs) ∙ records-in-front rs rest) i
+    λ i. if_there (there i) (shown_record r) ∷ (rows_next r.first r.length r.clauses more 0 (length rs) ∙ records_in_front rs rest) i
 
-length-rows-of : (rs : List Choice-record) → length (rows_of rs) ≡ 3 * length rs
-unfolding rows_of for-each
-length-rows-of [] = refl
-length-rows-of (r ∷ rs) = omega (arith, length-rows-of rs)
+length_rows_of : (rs : List TableRecord) → length (rows_of rs) ≡ 3 * length rs
+unfolding rows_of for_each
+length_rows_of [] = refl
+length_rows_of (r ∷ rs) = omega (arith, length_rows_of rs)
 
 -- the rows of records are written in front
-pub records-in-sets : (rs : List Choice-record) (rows : List ℕ) → 3 * length rs ≤ length rows → records-in (sets rows 0 (rows_of rs)) 0 (length rs) ≡ map shown-record rs
-records-in-sets rs rows h =
-    ap (λ (l : List ℕ). records-in l 0 (length rs)) (sets-eq (rows_of rs) rows 0 (omega (arith, length-rows-of rs)))
-    ∙ records-in-front rs (drop (0 + length (rows_of rs)) rows)
+pub records_in_sets : (rs : List TableRecord) (rows : List ℕ) → 3 * length rs ≤ length rows → records_in (sets rows 0 (rows_of rs)) 0 (length rs) ≡ map shown_record rs
+records_in_sets rs rows h =
+    ap (λ (l : List ℕ). records_in l 0 (length rs)) (sets-eq (rows_of rs) rows 0 (omega (arith, length_rows_of rs)))
+    ∙ records_in_front rs (drop (0 + length (rows_of rs)) rows)

@@ -46,24 +46,24 @@ Tokens 𝓤 (suc n) κs qs = ‵ (flft κs.0 qs.0) ∷ Tokens 𝓤 n κs.1 qs.1
 module _ {M : Type 1} {𝓤 : Ura M} (𝓛 : Logic 𝓤) where
   open 𝓛 use {A}
 
-  each-token : (n : ℕ) (κs : Lfts n) (qs : Shares n) → ent 𝓤 (toks 𝓛 n κs qs) (⋆ 𝓛 (Tokens 𝓤 n κs qs))
-  each-token zero κs qs = id⊢ 𝓤 (emp 𝓤)
-  each-token (suc n) κs qs =
-      via 𝓤 (sep 𝓤 (A.lft κs.0 qs.0) (⋆ 𝓛 (Tokens 𝓤 n κs.1 qs.1))) (mono_r 𝓤 (A.lft κs.0 qs.0) (each-token n κs.1 qs.1))
+  each_token : (n : ℕ) (κs : Lfts n) (qs : Shares n) → ent 𝓤 (toks 𝓛 n κs qs) (⋆ 𝓛 (Tokens 𝓤 n κs qs))
+  each_token zero κs qs = id⊢ 𝓤 (emp 𝓤)
+  each_token (suc n) κs qs =
+      via 𝓤 (sep 𝓤 (A.lft κs.0 qs.0) (⋆ 𝓛 (Tokens 𝓤 n κs.1 qs.1))) (mono_r 𝓤 (A.lft κs.0 qs.0) (each_token n κs.1 qs.1))
       (push 𝓛 (‵ (flft κs.0 qs.0)) (Tokens 𝓤 n κs.1 qs.1))
 
-  all-tokens : (n : ℕ) (κs : Lfts n) (qs : Shares n) → ent 𝓤 (⋆ 𝓛 (Tokens 𝓤 n κs qs)) (toks 𝓛 n κs qs)
-  all-tokens zero κs qs = id⊢ 𝓤 (emp 𝓤)
-  all-tokens (suc n) κs qs =
+  all_tokens : (n : ℕ) (κs : Lfts n) (qs : Shares n) → ent 𝓤 (⋆ 𝓛 (Tokens 𝓤 n κs qs)) (toks 𝓛 n κs qs)
+  all_tokens zero κs qs = id⊢ 𝓤 (emp 𝓤)
+  all_tokens (suc n) κs qs =
       via 𝓤 (sep 𝓤 (A.lft κs.0 qs.0) (⋆ 𝓛 (Tokens 𝓤 n κs.1 qs.1))) (pop 𝓛 (‵ (flft κs.0 qs.0)) (Tokens 𝓤 n κs.1 qs.1))
-      (mono_r 𝓤 (A.lft κs.0 qs.0) (all-tokens n κs.1 qs.1))
+      (mono_r 𝓤 (A.lft κs.0 qs.0) (all_tokens n κs.1 qs.1))
 
 module _ {M : Type 1} {𝓤 : Ura M} {𝓛 : Logic 𝓤} {K : Type 0} {Γ : List (Item 𝓤)} {G : Goal 𝓤 𝓛.H} where
-  pub tokens-apart : K → (n : ℕ) (κs : Lfts n) (qs : Shares n) → Step K 𝓛 (Tokens 𝓤 n κs qs ++ Γ) G (raw (toks 𝓛 n κs qs) ∷ Γ) G
-  tokens-apart t n κs qs = cut (raw (toks 𝓛 n κs qs) ∷ []) (Tokens 𝓤 n κs qs) Γ (each-token 𝓛 n κs qs)
+  pub tokens_apart : K → (n : ℕ) (κs : Lfts n) (qs : Shares n) → Step K 𝓛 (Tokens 𝓤 n κs qs ++ Γ) G (raw (toks 𝓛 n κs qs) ∷ Γ) G
+  tokens_apart t n κs qs = cut (raw (toks 𝓛 n κs qs) ∷ []) (Tokens 𝓤 n κs qs) Γ (each_token 𝓛 n κs qs)
 
-  pub tokens-whole : K → (n : ℕ) (κs : Lfts n) (qs : Shares n) → Step K 𝓛 (raw (toks 𝓛 n κs qs) ∷ Γ) G (Tokens 𝓤 n κs qs ++ Γ) G
-  tokens-whole t n κs qs = cut (Tokens 𝓤 n κs qs) (raw (toks 𝓛 n κs qs) ∷ []) Γ (all-tokens 𝓛 n κs qs)
+  pub tokens_whole : K → (n : ℕ) (κs : Lfts n) (qs : Shares n) → Step K 𝓛 (raw (toks 𝓛 n κs qs) ∷ Γ) G (Tokens 𝓤 n κs qs ++ Γ) G
+  tokens_whole t n κs qs = cut (Tokens 𝓤 n κs qs) (raw (toks 𝓛 n κs qs) ∷ []) Γ (all_tokens 𝓛 n κs qs)
 
 abbrev pub Rooms : {M : Type 1} (𝓤 : Ura M) (H : Heap 𝓤) → Env 𝓤 H → List (Item 𝓤)
 Rooms 𝓤 H [] = []
@@ -74,8 +74,8 @@ frees_all t {E = []} = free0 t
 frees_all t {E = e ∷ E} = step (λ s. free1 t $ (frees_all t {E = E} $ s))
 
 module _ {M : Type 1} {𝓤 : Ura M} {𝓛 : Logic 𝓤} {K : Type 0} {Γ : List (Item 𝓤)} {E : Env 𝓤 𝓛.H} where
-  pub big-lit : K → {w : Width} {n : ℕ} → Fits w n → Opd K 𝓛 Γ E (int_big w n) (vint w n)
-  big-lit t {w} {n} fits = record { go = λ Kt h. via 𝓤 (Kt (vint w n)) h (guard_i 𝓤 (Fits w n) (Kt (vint w n)) fits) }
+  pub big_lit : K → {w : Width} {n : ℕ} → Fits w n → Opd K 𝓛 Γ E (int_big w n) (vint w n)
+  big_lit t {w} {n} fits = record { go = λ Kt h. via 𝓤 (Kt (vint w n)) h (guard_i 𝓤 (Fits w n) (Kt (vint w n)) fits) }
 
 -- ---- several clauses
 pub says_all : {M : Type 1} {𝓤 : Ura M} {𝓛 : Logic 𝓤} {K : Type 0} {Γ : List (Item 𝓤)} → K → {P Q : SProp 𝓤} → ent 𝓤 (emp 𝓤) Q → Step K 𝓛 Γ (prop P) Γ (prop (sep 𝓤 P Q))

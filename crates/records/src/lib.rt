@@ -1,6 +1,6 @@
 // Records of choices in a lent table: read, written, filled from rows of three numbers.
 ghost use Rattle.std.specs.Prelude.{◌≡◌, ◌++◌, ◌<◌, ◌≤◌, length, set, get_or, drop, replicate};
-ghost use Rattle.records.specs.Rows.{no_record, row_of, records-in};
+ghost use Rattle.records.specs.Rows.{no_record, row_of, records_in};
 
 // What is written down of a choice: its first new variable, its length, and how many input clauses went into it.
 #[repr(C)]
@@ -49,7 +49,7 @@ pub fn row_at(rows: &[u32], at: usize) -> ChoiceRecord
 // Fills the start of a table with the records of the first rows.
 pub fn fill(table: &mut [ChoiceRecord], rows: &[u32], n: usize)
     requires { n ≤ length table.old }
-    ensures { table.new ≡ records-in rows.now 0 n ++ drop n table.old }
+    ensures { table.new ≡ records_in rows.now 0 n ++ drop n table.old }
 {
     let mut i = 0;
     while i < n {

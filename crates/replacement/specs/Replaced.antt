@@ -7,20 +7,20 @@ use Rattle.tables.specs.Places.{place_in}
 -- ---- whether the result holds a literal and its negation
 
 -- marks at the places of the negated choice literals of a clause
-unfoldable pub with-place-marks : List ℕ → List ℕ → Clause → List ℕ
-with-place-marks t w [] = w
-with-place-marks t w (m ∷ d) = with-place-marks t (set w (place_in t m) 1) d
+unfoldable pub with_place_marks : List ℕ → List ℕ → Clause → List ℕ
+with_place_marks t w [] = w
+with_place_marks t w (m ∷ d) = with_place_marks t (set w (place_in t m) 1) d
 
 -- m is a negated choice literal, and the next place is marked
-abbrev pub next-in : List ℕ → List ℕ → ℤ → Bool
-next-in t w m = ltb 0 (place_in t m) && eqb (get_or w (place_in t m + 1) 0) 1
+abbrev pub next_in : List ℕ → List ℕ → ℤ → Bool
+next_in t w m = ltb 0 (place_in t m) && eqb (get_or w (place_in t m + 1) 0) 1
 
-abbrev pub opposed-by : List ℕ → Clause → Bool
-opposed-by t d = any (next-in t (with-place-marks t (replicate 66 0) d)) d
+abbrev pub opposed_by : List ℕ → Clause → Bool
+opposed_by t d = any (next_in t (with_place_marks t (replicate 66 0) d)) d
 
 -- ---- what stands for a literal whose negation has place p, in a choice of n literals
-abbrev pub instead-by : ℕ → ℕ → ℤ → ℕ → Clause
-instead-by n below m p =
+abbrev pub instead_by : ℕ → ℕ → ℤ → ℕ → Clause
+instead_by n below m p =
     cond (ltb 0 p)
     (only_if (ltb 1 p) (pos (below + (p - 1)) ∷ []) ++ only_if (ltb p n) (neg_ℤ (pos (below + p)) ∷ []))
     (m ∷ [])

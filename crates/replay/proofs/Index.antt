@@ -13,138 +13,138 @@ use lib.ListN.{length, get_or, take, drop}
 use lib.Seq.{take-append-le, take_all, take-take, take-length, length-take-le}
 use borrow.Author.Tests.{eqb-true, eqb-false}
 use Rattle.definition.specs.Literals.{Clause, same_set}
-use Rattle.theory_base.proofs.Tests.{of-true, by-test}
-use Rattle.theory_base.proofs.Members.{same-set-same}
+use Rattle.theory_base.proofs.Tests.{of_true, by_test}
+use Rattle.theory_base.proofs.Members.{same_set_same}
 use Rattle.theory_base.specs.Clauses.{Within}
-use Rattle.theory_base.proofs.Slices.{drop-step, drop-end}
-use Rattle.literals.specs.Literal.{index_of, header-literals}
-use Rattle.store.specs.Store.{Formed-from, Formed, header_at, size-at, deleted-at, clause-at, past, Place, begins-with, place-from, place_of}
+use Rattle.theory_base.proofs.Slices.{drop_step, drop_end}
+use Rattle.literals.specs.Literal.{index_of, header_literals}
+use Rattle.store.specs.Store.{FormedFrom, Formed, header_at, size_at, deleted_at, clause_at, past, Place, begins_with, place_from, place_of}
 use Rattle.store.specs.declared.Found.{Found}
 use Rattle.store.specs.declared.Found.TheVariants.{At, Nothing}
-use Rattle.store.proofs.Laws.{by_entries, place_end, clause-length, prefix-next}
-use Rattle.store.proofs.Finding.{matches-deleted, matches-stands}
-use Rattle.replay.specs.Index.{last-index, keys, lowest-index, greatest-index, key_of, key-at, last-from, last-with, Indexed}
+use Rattle.store.proofs.Laws.{by_entries, place_end, clause_length, prefix_next}
+use Rattle.store.proofs.Finding.{matches_deleted, matches_stands}
+use Rattle.replay.specs.Index.{last_index, keys, lowest_index, greatest_index, key_of, key_at, last_from, last_with, Indexed}
 
 -- ---- keys
 
 -- the lowest index
-pub lowest-most : (c : Clause) → lowest-index c ≤ last-index
-unfolding lowest-index
-lowest-most [] = omega arith
-lowest-most (l ∷ c) = omega (arith, lowest-most c)
+pub lowest_most : (c : Clause) → lowest_index c ≤ last_index
+unfolding lowest_index
+lowest_most [] = omega arith
+lowest_most (l ∷ c) = omega (arith, lowest_most c)
 
-pub lowest_start : (c : Clause) → min last-index (lowest-index c) ≡ lowest-index c
-lowest_start c = omega (arith, lowest-most c)
+pub lowest_start : (c : Clause) → min last_index (lowest_index c) ≡ lowest_index c
+lowest_start c = omega (arith, lowest_most c)
 
 module _ (c : Clause) (i k : ℕ) where
-  pub lowest_step : i < length c → min (min k (index_of (get_or c i (pos 0)))) (lowest-index (drop (i + 1) c)) ≡ min k (lowest-index (drop i c))
-  unfolding lowest-index
-  lowest_step h = rw (drop-step c i (pos 0) h) (omega arith)
+  pub lowest_step : i < length c → min (min k (index_of (get_or c i (pos 0)))) (lowest_index (drop (i + 1) c)) ≡ min k (lowest_index (drop i c))
+  unfolding lowest_index
+  lowest_step h = rw (drop_step c i (pos 0) h) (omega arith)
 
-  pub lowest-end : length c ≤ i → k ≤ last-index → k ≡ min k (lowest-index (drop i c))
-  unfolding lowest-index
-  lowest-end h l = rw (drop-end c i h) (omega arith)
+  pub lowest_end : length c ≤ i → k ≤ last_index → k ≡ min k (lowest_index (drop i c))
+  unfolding lowest_index
+  lowest_end h l = rw (drop_end c i h) (omega arith)
 
-lowest-least : (c : Clause) (l : ℤ) → Memᴰ l c → lowest-index c ≤ index_of l
-unfolding lowest-index
-lowest-least (x ∷ c) l (here e) = omega (arith, ap index_of e)
-lowest-least (x ∷ c) l (there i) = omega (arith, lowest-least c l i)
+lowest_least : (c : Clause) (l : ℤ) → Memᴰ l c → lowest_index c ≤ index_of l
+unfolding lowest_index
+lowest_least (x ∷ c) l (here e) = omega (arith, ap index_of e)
+lowest_least (x ∷ c) l (there i) = omega (arith, lowest_least c l i)
 
-lowest-subset : (c d : Clause) → Within d c → lowest-index c ≤ lowest-index d
-unfolding lowest-index
-lowest-subset c [] f = lowest-most c
-lowest-subset c (l ∷ d) f = omega (arith, lowest-least c l (f l (here refl)), lowest-subset c d (λ x i. f x (there i)))
+lowest_subset : (c d : Clause) → Within d c → lowest_index c ≤ lowest_index d
+unfolding lowest_index
+lowest_subset c [] f = lowest_most c
+lowest_subset c (l ∷ d) f = omega (arith, lowest_least c l (f l (here refl)), lowest_subset c d (λ x i. f x (there i)))
 
 -- the greatest index
-pub greatest-most : (c : Clause) → greatest-index c ≤ last-index
-unfolding greatest-index
-greatest-most [] = omega arith
-greatest-most (l ∷ c) = omega (arith, greatest-most c)
+pub greatest_most : (c : Clause) → greatest_index c ≤ last_index
+unfolding greatest_index
+greatest_most [] = omega arith
+greatest_most (l ∷ c) = omega (arith, greatest_most c)
 
 module _ (c : Clause) (i k : ℕ) where
-  pub greatest-step : i < length c → max (max k (min last-index (index_of (get_or c i (pos 0))))) (greatest-index (drop (i + 1) c)) ≡ max k (greatest-index (drop i c))
-  unfolding greatest-index
-  greatest-step h = rw (drop-step c i (pos 0) h) (omega arith)
+  pub greatest_step : i < length c → max (max k (min last_index (index_of (get_or c i (pos 0))))) (greatest_index (drop (i + 1) c)) ≡ max k (greatest_index (drop i c))
+  unfolding greatest_index
+  greatest_step h = rw (drop_step c i (pos 0) h) (omega arith)
 
-  pub greatest-end : length c ≤ i → k ≡ max k (greatest-index (drop i c))
-  unfolding greatest-index
-  greatest-end h = rw (drop-end c i h) (omega arith)
+  pub greatest_end : length c ≤ i → k ≡ max k (greatest_index (drop i c))
+  unfolding greatest_index
+  greatest_end h = rw (drop_end c i h) (omega arith)
 
-greatest-top : (c : Clause) (l : ℤ) → Memᴰ l c → min last-index (index_of l) ≤ greatest-index c
-unfolding greatest-index
-greatest-top (x ∷ c) l (here e) = omega (arith, ap index_of e)
-greatest-top (x ∷ c) l (there i) = omega (arith, greatest-top c l i)
+greatest_top : (c : Clause) (l : ℤ) → Memᴰ l c → min last_index (index_of l) ≤ greatest_index c
+unfolding greatest_index
+greatest_top (x ∷ c) l (here e) = omega (arith, ap index_of e)
+greatest_top (x ∷ c) l (there i) = omega (arith, greatest_top c l i)
 
-greatest-subset : (c d : Clause) → Within d c → greatest-index d ≤ greatest-index c
-unfolding greatest-index
-greatest-subset c [] f = omega arith
-greatest-subset c (l ∷ d) f = omega (arith, greatest-top c l (f l (here refl)), greatest-subset c d (λ x i. f x (there i)))
+greatest_subset : (c d : Clause) → Within d c → greatest_index d ≤ greatest_index c
+unfolding greatest_index
+greatest_subset c [] f = omega arith
+greatest_subset c (l ∷ d) f = omega (arith, greatest_top c l (f l (here refl)), greatest_subset c d (λ x i. f x (there i)))
 
-pub key-within : (c : Clause) → key_of c < keys
+pub key_within : (c : Clause) → key_of c < keys
 unfolding key_of
-key-within c = omega arith
+key_within c = omega arith
 
-pub key-is : (c : Clause) (a b : ℕ) → a ≡ lowest-index c → b ≡ greatest-index c → (613 * a + b) % keys ≡ key_of c
+pub key_is : (c : Clause) (a b : ℕ) → a ≡ lowest_index c → b ≡ greatest_index c → (613 * a + b) % keys ≡ key_of c
 unfolding key_of
-key-is c a b e f = ap₂ (λ (x y : ℕ). (613 * x + y) % keys) e f
+key_is c a b e f = ap₂ (λ (x y : ℕ). (613 * x + y) % keys) e f
 
 -- clauses with the same set of literals have the same key
-key-same : (c d : Clause) → same_set c d ≡ true → key_of c ≡ key_of d
+key_same : (c d : Clause) → same_set c d ≡ true → key_of c ≡ key_of d
 unfolding key_of
-key-same c d e =
-    let m = same-set-same c d (of-true e) in
-    let l : lowest-index c ≡ lowest-index d = omega (arith, lowest-subset c d m.1, lowest-subset d c m.0) in
-    let t : greatest-index c ≡ greatest-index d = omega (arith, greatest-subset c d m.1, greatest-subset d c m.0) in
-    key-is d (lowest-index c) (greatest-index c) l t
+key_same c d e =
+    let m = same_set_same c d (of_true e) in
+    let l : lowest_index c ≡ lowest_index d = omega (arith, lowest_subset c d m.1, lowest_subset d c m.0) in
+    let t : greatest_index c ≡ greatest_index d = omega (arith, greatest_subset c d m.1, greatest_subset d c m.0) in
+    key_is d (lowest_index c) (greatest_index c) l t
 
 -- ---- the last entry with a key
 
-formed-reach : (k : ℕ) (s : List ℤ) → Formed-from k s → k ≤ length s
-formed-reach zero s f = omega arith
-formed-reach (suc k) [] f = absurd f
-formed-reach (suc k) (x ∷ s) f = omega (arith, formed-reach k s f)
+formed_reach : (k : ℕ) (s : List ℤ) → FormedFrom k s → k ≤ length s
+formed_reach zero s f = omega arith
+formed_reach (suc k) [] f = absurd f
+formed_reach (suc k) (x ∷ s) f = omega (arith, formed_reach k s f)
 
-last-++ : (key k at b : ℕ) (s t : List ℤ) → Formed-from k s → last-from key k at b (s ++ t) ≡ last-from key 0 (at + length s) (last-from key k at b s) t
-unfolding last-from
-last-++ key zero at b [] t f = ap (λ (n : ℕ). last-from key 0 n b t) (omega arith)
+last-++ : (key k at b : ℕ) (s t : List ℤ) → FormedFrom k s → last_from key k at b (s ++ t) ≡ last_from key 0 (at + length s) (last_from key k at b s) t
+unfolding last_from
+last-++ key zero at b [] t f = ap (λ (n : ℕ). last_from key 0 n b t) (omega arith)
 last-++ key (suc k) at b [] t f = absurd f
 last-++ key zero at b (h ∷ s) t f =
-    ap (λ (c : Clause). last-from key (header-literals h) (suc at) (cond (eqb (key_of c) key) (suc at) b) (s ++ t)) (take-append-le (header-literals h) s t (formed-reach (header-literals h) s f))
-    ∙ last-++ key (header-literals h) (suc at) (cond (eqb (key_of (take (header-literals h) s)) key) (suc at) b) s t f
-    ∙ ap (λ (n : ℕ). last-from key 0 n (last-from key 0 at b (h ∷ s)) t) (omega arith)
-last-++ key (suc k) at b (x ∷ s) t f = last-++ key k (suc at) b s t f ∙ ap (λ (n : ℕ). last-from key 0 n (last-from key (suc k) at b (x ∷ s)) t) (omega arith)
+    ap (λ (c : Clause). last_from key (header_literals h) (suc at) (cond (eqb (key_of c) key) (suc at) b) (s ++ t)) (take-append-le (header_literals h) s t (formed_reach (header_literals h) s f))
+    ∙ last-++ key (header_literals h) (suc at) (cond (eqb (key_of (take (header_literals h) s)) key) (suc at) b) s t f
+    ∙ ap (λ (n : ℕ). last_from key 0 n (last_from key 0 at b (h ∷ s)) t) (omega arith)
+last-++ key (suc k) at b (x ∷ s) t f = last-++ key k (suc at) b s t f ∙ ap (λ (n : ℕ). last_from key 0 n (last_from key (suc k) at b (x ∷ s)) t) (omega arith)
 
-last-skip : (key k at b : ℕ) (s : List ℤ) → length s ≤ k → last-from key k at b s ≡ b
-unfolding last-from
-last-skip key zero at b [] h = refl
-last-skip key (suc k) at b [] h = refl
-last-skip key zero at b (x ∷ s) h = absurd (omega arith)
-last-skip key (suc k) at b (x ∷ s) h = last-skip key k (suc at) b s (omega arith)
+last_skip : (key k at b : ℕ) (s : List ℤ) → length s ≤ k → last_from key k at b s ≡ b
+unfolding last_from
+last_skip key zero at b [] h = refl
+last_skip key (suc k) at b [] h = refl
+last_skip key zero at b (x ∷ s) h = absurd (omega arith)
+last_skip key (suc k) at b (x ∷ s) h = last_skip key k (suc at) b s (omega arith)
 
-last_one : (key at b : ℕ) (h : ℤ) (d : Clause) → length d ≡ header-literals h → last-from key 0 at b (h ∷ d) ≡ cond (eqb (key_of d) key) (suc at) b
-unfolding last-from
-last_one key at b h d n = last-skip key (header-literals h) (suc at) _ d (omega arith) ∙ ap (λ (c : Clause). cond (eqb (key_of c) key) (suc at) b) (take_all (header-literals h) d (omega arith))
+last_one : (key at b : ℕ) (h : ℤ) (d : Clause) → length d ≡ header_literals h → last_from key 0 at b (h ∷ d) ≡ cond (eqb (key_of d) key) (suc at) b
+unfolding last_from
+last_one key at b h d n = last_skip key (header_literals h) (suc at) _ d (omega arith) ∙ ap (λ (c : Clause). cond (eqb (key_of c) key) (suc at) b) (take_all (header_literals h) d (omega arith))
 
 module _ (key : ℕ) (s : List ℤ) (at : ℕ) (h : at < length s) (p : Place s at) where
-  pub last-next : last-with key (take (past s at) s) ≡ cond (eqb (key-at s at) key) (suc at) (last-with key (take at s))
-  last-next =
-      ap (last-with key) (prefix-next s at h)
-      ∙ last-++ key 0 0 0 (take at s) (header_at s at ∷ clause-at s at) p.before
-      ∙ ap (λ (n : ℕ). last-from key 0 n (last-with key (take at s)) (header_at s at ∷ clause-at s at)) (let e : 0 + length (take at s) ≡ at = omega (arith, length-take-le at s p.inside) in e)
-      ∙ last_one key at (last-with key (take at s)) (header_at s at) (clause-at s at) (clause-length s at h p.rest)
+  pub last_next : last_with key (take (past s at) s) ≡ cond (eqb (key_at s at) key) (suc at) (last_with key (take at s))
+  last_next =
+      ap (last_with key) (prefix_next s at h)
+      ∙ last-++ key 0 0 0 (take at s) (header_at s at ∷ clause_at s at) p.before
+      ∙ ap (λ (n : ℕ). last_from key 0 n (last_with key (take at s)) (header_at s at ∷ clause_at s at)) (let e : 0 + length (take at s) ≡ at = omega (arith, length-take-le at s p.inside) in e)
+      ∙ last_one key at (last_with key (take at s)) (header_at s at) (clause_at s at) (clause_length s at h p.rest)
 
-last-before : (key k at b : ℕ) (s : List ℤ) → b ≤ at → last-from key k at b s ≤ at + length s
-unfolding last-from
-last-before key k at b [] h = omega arith
-last-before key zero at b (x ∷ s) h = go (eqb (key_of (take (header-literals x) s)) key) (λ b l. last-before key (header-literals x) (suc at) b s l)
+last_before : (key k at b : ℕ) (s : List ℤ) → b ≤ at → last_from key k at b s ≤ at + length s
+unfolding last_from
+last_before key k at b [] h = omega arith
+last_before key zero at b (x ∷ s) h = go (eqb (key_of (take (header_literals x) s)) key) (λ b l. last_before key (header_literals x) (suc at) b s l)
   where
-    go : (t : Bool) → ((b : ℕ) → b ≤ suc at → last-from key (header-literals x) (suc at) b s ≤ suc at + length s) → last-from key (header-literals x) (suc at) (cond t (suc at) b) s ≤ at + length (x ∷ s)
+    go : (t : Bool) → ((b : ℕ) → b ≤ suc at → last_from key (header_literals x) (suc at) b s ≤ suc at + length s) → last_from key (header_literals x) (suc at) (cond t (suc at) b) s ≤ at + length (x ∷ s)
     go true r = omega (arith, r (suc at) (omega arith))
     go false r = omega (arith, r b (omega arith))
-last-before key (suc k) at b (x ∷ s) h = omega (arith, last-before key k (suc at) b s (omega arith))
+last_before key (suc k) at b (x ∷ s) h = omega (arith, last_before key k (suc at) b s (omega arith))
 
-pub last_within : (key : ℕ) (s : List ℤ) → last-with key s ≤ length s
-last_within key s = omega (arith, last-before key 0 0 0 s (omega arith))
+pub last_within : (key : ℕ) (s : List ℤ) → last_with key s ≤ length s
+last_within key s = omega (arith, last_before key 0 0 0 s (omega arith))
 
 -- ---- the first match
 
@@ -158,77 +158,77 @@ unfolding or_else
 or_nothing (At a) = refl
 or_nothing Nothing = refl
 
-or-found : (f : Found) (t : Bool) (a : ℕ) (g : Found) → or_else (or_else f (cond t (At a) Nothing)) g ≡ or_else f (cond t (At a) g)
+or_found : (f : Found) (t : Bool) (a : ℕ) (g : Found) → or_else (or_else f (cond t (At a) Nothing)) g ≡ or_else f (cond t (At a) g)
 unfolding or_else
-or-found (At b) t a g = refl
-or-found Nothing true a g = refl
-or-found Nothing false a g = refl
+or_found (At b) t a g = refl
+or_found Nothing true a g = refl
+or_found Nothing false a g = refl
 
-place-++ : (c : Clause) (k at : ℕ) (s t : List ℤ) → Formed-from k s → place-from c k at (s ++ t) ≡ or_else (place-from c k at s) (place-from c 0 (at + length s) t)
-unfolding place-from begins-with or_else
-place-++ c zero at [] t f = ap (λ (n : ℕ). place-from c 0 n t) (omega arith)
+place-++ : (c : Clause) (k at : ℕ) (s t : List ℤ) → FormedFrom k s → place_from c k at (s ++ t) ≡ or_else (place_from c k at s) (place_from c 0 (at + length s) t)
+unfolding place_from begins_with or_else
+place-++ c zero at [] t f = ap (λ (n : ℕ). place_from c 0 n t) (omega arith)
 place-++ c (suc k) at [] t f = absurd f
-place-++ c zero at (h ∷ s) t f = rw (take-append-le (header-literals h) s t (formed-reach (header-literals h) s f)) (go (begins-with c (h ∷ s)) (place-++ c (header-literals h) (at + 1) s t f))
+place-++ c zero at (h ∷ s) t f = rw (take-append-le (header_literals h) s t (formed_reach (header_literals h) s f)) (go (begins_with c (h ∷ s)) (place-++ c (header_literals h) (at + 1) s t f))
   where
-    go : (b : Bool) → place-from c (header-literals h) (at + 1) (s ++ t) ≡ or_else (place-from c (header-literals h) (at + 1) s) (place-from c 0 (at + 1 + length s) t)
-        → cond b (At at) (place-from c (header-literals h) (at + 1) (s ++ t)) ≡ or_else (cond b (At at) (place-from c (header-literals h) (at + 1) s)) (place-from c 0 (at + length (h ∷ s)) t)
+    go : (b : Bool) → place_from c (header_literals h) (at + 1) (s ++ t) ≡ or_else (place_from c (header_literals h) (at + 1) s) (place_from c 0 (at + 1 + length s) t)
+        → cond b (At at) (place_from c (header_literals h) (at + 1) (s ++ t)) ≡ or_else (cond b (At at) (place_from c (header_literals h) (at + 1) s)) (place_from c 0 (at + length (h ∷ s)) t)
     go true r = refl
-    go false r = r ∙ ap (λ (n : ℕ). or_else (place-from c (header-literals h) (at + 1) s) (place-from c 0 n t)) (omega arith)
-place-++ c (suc k) at (x ∷ s) t f = place-++ c k (at + 1) s t f ∙ ap (λ (n : ℕ). or_else (place-from c k (at + 1) s) (place-from c 0 n t)) (omega arith)
+    go false r = r ∙ ap (λ (n : ℕ). or_else (place_from c (header_literals h) (at + 1) s) (place_from c 0 n t)) (omega arith)
+place-++ c (suc k) at (x ∷ s) t f = place-++ c k (at + 1) s t f ∙ ap (λ (n : ℕ). or_else (place_from c k (at + 1) s) (place_from c 0 n t)) (omega arith)
 
-place_none : (c : Clause) (k at : ℕ) (s : List ℤ) → length s ≤ k → place-from c k at s ≡ Nothing
-unfolding place-from
+place_none : (c : Clause) (k at : ℕ) (s : List ℤ) → length s ≤ k → place_from c k at s ≡ Nothing
+unfolding place_from
 place_none c zero at [] h = refl
 place_none c (suc k) at [] h = refl
 place_none c zero at (x ∷ s) h = absurd (omega arith)
 place_none c (suc k) at (x ∷ s) h = place_none c k (at + 1) s (omega arith)
 
-place-one : (c : Clause) (at : ℕ) (h : ℤ) (d : Clause) → length d ≤ header-literals h → place-from c 0 at (h ∷ d) ≡ cond (begins-with c (h ∷ d)) (At at) Nothing
-unfolding place-from
-place-one c at h d n = ap (λ (f : Found). cond (begins-with c (h ∷ d)) (At at) f) (place_none c (header-literals h) (at + 1) d n)
+place_one : (c : Clause) (at : ℕ) (h : ℤ) (d : Clause) → length d ≤ header_literals h → place_from c 0 at (h ∷ d) ≡ cond (begins_with c (h ∷ d)) (At at) Nothing
+unfolding place_from
+place_one c at h d n = ap (λ (f : Found). cond (begins_with c (h ∷ d)) (At at) f) (place_none c (header_literals h) (at + 1) d n)
 
 module _ (c : Clause) (s : List ℤ) (at : ℕ) (h : at < length s) (p : Place s at) where
-  begins-same : begins-with c (header_at s at ∷ clause-at s at) ≡ begins-with c (drop at s)
-  unfolding begins-with
-  begins-same = rw (drop-step s at (pos 0) h, take-take (size-at s at) (size-at s at) (drop (at + 1) s) (omega arith)) refl
+  begins_same : begins_with c (header_at s at ∷ clause_at s at) ≡ begins_with c (drop at s)
+  unfolding begins_with
+  begins_same = rw (drop_step s at (pos 0) h, take-take (size_at s at) (size_at s at) (drop (at + 1) s) (omega arith)) refl
 
-  place-next-entry : place_of c (take (past s at) s) ≡ or_else (place_of c (take at s)) (cond (begins-with c (drop at s)) (At at) Nothing)
-  place-next-entry =
-      ap (place_of c) (prefix-next s at h)
-      ∙ place-++ c 0 0 (take at s) (header_at s at ∷ clause-at s at) p.before
-      ∙ ap (λ (n : ℕ). or_else (place_of c (take at s)) (place-from c 0 n (header_at s at ∷ clause-at s at))) (let e : 0 + length (take at s) ≡ at = omega (arith, length-take-le at s p.inside) in e)
-      ∙ ap (or_else (place_of c (take at s))) (place-one c at (header_at s at) (clause-at s at) (omega (arith, clause-length s at h p.rest)))
-      ∙ ap (λ (b : Bool). or_else (place_of c (take at s)) (cond b (At at) Nothing)) begins-same
+  place_next_entry : place_of c (take (past s at) s) ≡ or_else (place_of c (take at s)) (cond (begins_with c (drop at s)) (At at) Nothing)
+  place_next_entry =
+      ap (place_of c) (prefix_next s at h)
+      ∙ place-++ c 0 0 (take at s) (header_at s at ∷ clause_at s at) p.before
+      ∙ ap (λ (n : ℕ). or_else (place_of c (take at s)) (place_from c 0 n (header_at s at ∷ clause_at s at))) (let e : 0 + length (take at s) ≡ at = omega (arith, length-take-le at s p.inside) in e)
+      ∙ ap (or_else (place_of c (take at s))) (place_one c at (header_at s at) (clause_at s at) (omega (arith, clause_length s at h p.rest)))
+      ∙ ap (λ (b : Bool). or_else (place_of c (take at s)) (cond b (At at) Nothing)) begins_same
 
   -- an entry with another key is no match
-  other_key : eqb (key-at s at) (key_of c) ≡ false → begins-with c (drop at s) ≡ false
-  other_key e = by-test (begins-with c (drop at s)) (λ b. by-test (deleted-at s at) (λ d. sym (matches-deleted s at h c d)) (λ d. no (matches-stands s at h c d ∙ b))) (λ b. b)
+  other_key : eqb (key_at s at) (key_of c) ≡ false → begins_with c (drop at s) ≡ false
+  other_key e = by_test (begins_with c (drop at s)) (λ b. by_test (deleted_at s at) (λ d. sym (matches_deleted s at h c d)) (λ d. no (matches_stands s at h c d ∙ b))) (λ b. b)
     where
-      no : same_set c (clause-at s at) ≡ true → begins-with c (drop at s) ≡ false
-      no m = absurd (eqb-false (key-at s at) (key_of c) e (sym (key-same c (clause-at s at) m)))
+      no : same_set c (clause_at s at) ≡ true → begins_with c (drop at s) ≡ false
+      no m = absurd (eqb-false (key_at s at) (key_of c) e (sym (key_same c (clause_at s at) m)))
 
 -- ---- from the last entry with the clause's key on
 
 abbrev Newest : Clause → List ℤ → ℕ → ℕ → Type 0
 Newest c s q zero = place_of c (take q s) ≡ Nothing
-Newest c s q (suc a) = (a < q) × Place s a × (key-at s a ≡ key_of c) × (place_of c (take q s) ≡ or_else (place_of c (take a s)) (cond (begins-with c (drop a s)) (At a) Nothing))
+Newest c s q (suc a) = (a < q) × Place s a × (key_at s a ≡ key_of c) × (place_of c (take q s) ≡ or_else (place_of c (take a s)) (cond (begins_with c (drop a s)) (At a) Nothing))
 
-newest-later : (c : Clause) (s : List ℤ) (a b p : ℕ) → a ≤ b → place_of c (take b s) ≡ place_of c (take a s) → Newest c s a p → Newest c s b p
-newest-later c s a b zero l e n = e ∙ n
-newest-later c s a b (suc p) l e n = (omega (arith, n.0), n.1, n.2, e ∙ n.3)
+newest_later : (c : Clause) (s : List ℤ) (a b p : ℕ) → a ≤ b → place_of c (take b s) ≡ place_of c (take a s) → Newest c s a p → Newest c s b p
+newest_later c s a b zero l e n = e ∙ n
+newest_later c s a b (suc p) l e n = (omega (arith, n.0), n.1, n.2, e ∙ n.3)
 
-newest : (c : Clause) (s : List ℤ) (q : ℕ) → Place s q → Newest c s q (last-with (key_of c) (take q s))
-unfolding place-from last-from
-newest c s q e = by_entries s (λ (q : ℕ). Newest c s q (last-with (key_of c) (take q s))) refl step q e
+newest : (c : Clause) (s : List ℤ) (q : ℕ) → Place s q → Newest c s q (last_with (key_of c) (take q s))
+unfolding place_from last_from
+newest c s q e = by_entries s (λ (q : ℕ). Newest c s q (last_with (key_of c) (take q s))) refl step q e
   where
-    step : (at : ℕ) → at < length s → Place s at → Newest c s at (last-with (key_of c) (take at s)) → Newest c s (past s at) (last-with (key_of c) (take (past s at) s))
-    step at h p n = rw (last-next (key_of c) s at h p) (go (eqb (key-at s at) (key_of c)) refl)
+    step : (at : ℕ) → at < length s → Place s at → Newest c s at (last_with (key_of c) (take at s)) → Newest c s (past s at) (last_with (key_of c) (take (past s at) s))
+    step at h p n = rw (last_next (key_of c) s at h p) (go (eqb (key_at s at) (key_of c)) refl)
       where
-        go : (t : Bool) → eqb (key-at s at) (key_of c) ≡ t → Newest c s (past s at) (cond t (suc at) (last-with (key_of c) (take at s)))
-        go true m = (omega arith, p, eqb-true (key-at s at) (key_of c) m, place-next-entry c s at h p)
+        go : (t : Bool) → eqb (key_at s at) (key_of c) ≡ t → Newest c s (past s at) (cond t (suc at) (last_with (key_of c) (take at s)))
+        go true m = (omega arith, p, eqb-true (key_at s at) (key_of c) m, place_next_entry c s at h p)
         go false m =
-            newest-later c s at (past s at) (last-with (key_of c) (take at s)) (omega arith)
-            (place-next-entry c s at h p ∙ ap (λ (b : Bool). or_else (place_of c (take at s)) (cond b (At at) Nothing)) (other_key c s at h p m) ∙ or_nothing (place_of c (take at s)))
+            newest_later c s at (past s at) (last_with (key_of c) (take at s)) (omega arith)
+            (place_next_entry c s at h p ∙ ap (λ (b : Bool). or_else (place_of c (take at s)) (cond b (At at) Nothing)) (other_key c s at h p m) ∙ or_nothing (place_of c (take at s)))
             n
 
 -- ---- the walk along the links of a key: the entries behind `bound` are seen, `best` is the first match among them, and p leads on
@@ -236,14 +236,14 @@ newest c s q e = by_entries s (λ (q : ℕ). Newest c s q (last-with (key_of c) 
 pub record Walking (c : Clause) (s : List ℤ) (p : ℕ) (best : Found) : Type 0 where
   pub bound : ℕ
   pub place : Place s bound
-  pub here : p ≡ last-with (key_of c) (take bound s)
+  pub here : p ≡ last_with (key_of c) (take bound s)
   pub first : or_else (place_of c (take bound s)) best ≡ place_of c s
 
 pub walking_start : (c : Clause) (s links : List ℤ) (heads : List ℕ) (p : ℕ) → Formed s → Indexed s (length s) links heads → p ≡ get_or heads (key_of c) 0 → Walking c s p Nothing
 walking_start c s links heads p f i e = record {
   bound = length s;
   place = place_end f;
-  here = e ∙ i.newest (key_of c) (key-within c);
+  here = e ∙ i.newest (key_of c) (key_within c);
   first = or_nothing (place_of c (take (length s) s)) ∙ ap (place_of c) (take-length s);
 }
 
@@ -256,29 +256,29 @@ module _ (c : Clause) (s : List ℤ) (p : ℕ) (best : Found) (w : Walking c s p
     led : Newest c s w.bound (suc a)
     led = subst (λ (k : ℕ). Newest c s w.bound k) e walked
 
-    pub led-inside : a < length s
-    led-inside = omega (arith, led.0, w.place.inside)
+    pub led_inside : a < length s
+    led_inside = omega (arith, led.0, w.place.inside)
 
-    pub led-place : Place s a
-    led-place = led.1
+    pub led_place : Place s a
+    led_place = led.1
 
-    pub led-back : (links : List ℤ) (heads : List ℕ) (next : ℕ) → Indexed s (length s) links heads → next ≡ header-literals (header_at links a) → next ≤ a
-    led-back links heads next i n = omega (arith, n, i.linked a led-inside led-place, last_within (key-at s a) (take a s), length-take-le a s led-place.inside)
+    pub led_back : (links : List ℤ) (heads : List ℕ) (next : ℕ) → Indexed s (length s) links heads → next ≡ header_literals (header_at links a) → next ≤ a
+    led_back links heads next i n = omega (arith, n, i.linked a led_inside led_place, last_within (key_at s a) (take a s), length-take-le a s led_place.inside)
 
-    pub walking-step : (links : List ℤ) (heads : List ℕ) (next : ℕ) (more : Found) → Indexed s (length s) links heads → next ≡ header-literals (header_at links a) → more ≡ cond (begins-with c (drop a s)) (At a) best → Walking c s next more
-    walking-step links heads next more i n m = record {
+    pub walking_step : (links : List ℤ) (heads : List ℕ) (next : ℕ) (more : Found) → Indexed s (length s) links heads → next ≡ header_literals (header_at links a) → more ≡ cond (begins_with c (drop a s)) (At a) best → Walking c s next more
+    walking_step links heads next more i n m = record {
       bound = a;
-      place = led-place;
-      here = n ∙ i.linked a led-inside led-place ∙ ap (λ (k : ℕ). last-with k (take a s)) led.2;
+      place = led_place;
+      here = n ∙ i.linked a led_inside led_place ∙ ap (λ (k : ℕ). last_with k (take a s)) led.2;
       first =
           ap (or_else (place_of c (take a s))) m
-          ∙ sym (or-found (place_of c (take a s)) (begins-with c (drop a s)) a best)
+          ∙ sym (or_found (place_of c (take a s)) (begins_with c (drop a s)) a best)
           ∙ ap (λ (f : Found). or_else f best) (sym led.3)
           ∙ w.first;
     }
 
-  pub walking-end : p ≡ 0 → best ≡ place_of c s
+  pub walking_end : p ≡ 0 → best ≡ place_of c s
   unfolding or_else
-  walking-end e =
+  walking_end e =
       let n : place_of c (take w.bound s) ≡ Nothing = subst (λ (k : ℕ). Newest c s w.bound k) e walked in
       sym (ap (λ (f : Found). or_else f best) n) ∙ w.first

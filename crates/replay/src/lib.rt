@@ -1,15 +1,15 @@
 // Lines replayed over a store, with an index of its clauses by key.
 ghost use Rattle.std.specs.Prelude.{◌≡◌, cond, ◌+◌, ◌-◌, ◌≤◌, ◌<◌, ◌^◌, length, get_or, set, take, drop};
 ghost use Rattle.std.proofs.lemmas.List.Edits.{sets};
-ghost use Rattle.definition.specs.Standing.{deletion, replay-line, replay as replay-all};
-ghost use Rattle.definition.specs.LogReading.{numbers-in};
+ghost use Rattle.definition.specs.Standing.{deletion, replay_line, replay as replay_all};
+ghost use Rattle.definition.specs.LogReading.{numbers_in};
 ghost use Rattle.theory_base.specs.Slices.{between};
 ghost use Rattle.literals.specs.Literal.{header_of};
-ghost use Rattle.store.specs.Store.{Formed, stored, entry, size-at, begins-with, place_of};
+ghost use Rattle.store.specs.Store.{Formed, stored, entry, size_at, begins_with, place_of};
 ghost use Rattle.store.specs.declared.Found.TheVariants.{At};
-ghost use Rattle.drat.specs.Loaded.{lines-in, line_at, past-line};
-ghost use Rattle.replay.specs.Index.{keys, lowest-index, greatest-index, key_of, key-at, Indexed, Linkable, Linked, Linked-after};
-ghost use Rattle.replay.specs.Replayed.{Replayable, Laid_out, Clause-added, Replays};
+ghost use Rattle.drat.specs.Loaded.{lines_in, line_at, past_line};
+ghost use Rattle.replay.specs.Index.{keys, lowest_index, greatest_index, key_of, key_at, Indexed, Linkable, Linked, LinkedAfter};
+ghost use Rattle.replay.specs.Replayed.{Replayable, Laid_out, ClauseAdded, Replays};
 
 // ---- an index of the clauses by key: a table of the last entry of each key, and a link from each entry to the one before it with the same key
 
@@ -20,7 +20,7 @@ const LAST: usize = tables::LOG_SIZE - 1;
 
 // The lowest index of a clause's literals, no more than the last that counts.
 fn lowest(clause: &[i32]) -> usize
-    ensures { result ≡ lowest-index clause.now }
+    ensures { result ≡ lowest_index clause.now }
 {
     let mut low = LAST;
     let mut i = 0;
@@ -33,7 +33,7 @@ fn lowest(clause: &[i32]) -> usize
 
 // The greatest index of a clause's literals, counted up to the last that counts.
 fn greatest(clause: &[i32]) -> usize
-    ensures { result ≡ greatest-index clause.now }
+    ensures { result ≡ greatest_index clause.now }
 {
     let mut top = 0;
     let mut i = 0;
@@ -59,7 +59,7 @@ fn key_of(clause: &[i32]) -> usize
 // The key of the clause at a place.
 fn key_at(store: &[i32], at: usize) -> usize
     requires { (at < length store.now) × Formed (drop at store.now) }
-    ensures { result ≡ key-at store.now at }
+    ensures { result ≡ key_at store.now at }
 {
     let next = store::next_at(store, at);
     let first = at + 1;
@@ -76,8 +76,8 @@ fn index_entry(
     at: usize,
 )
     requires { (store + at < end) × (end ≤ links) × (links + at < length work.old) × (length heads.old ≡ keys) × Formed (drop at (between store end work.old)) }
-    ensures linked { work.new ≡ set work.old (links + at) (header_of (get_or heads.old (key-at (between store end work.old) at) 0)) }
-    ensures newest { heads.new ≡ set heads.old (key-at (between store end work.old) at) (at + 1) }
+    ensures linked { work.new ≡ set work.old (links + at) (header_of (get_or heads.old (key_at (between store end work.old) at) 0)) }
+    ensures newest { heads.new ≡ set heads.old (key_at (between store end work.old) at) (at + 1) }
 {
     let key = key_at(&work[store..end], at);
     work[links + at] = literals::header(heads[key]);
@@ -177,7 +177,7 @@ fn add_part(
     n: usize,
 ) -> usize
     requires { (first + n ≤ store) × (end + (n + 1) ≤ links) × (n < 2 ^ 31) × Linked work.old heads.old store end links }
-    ensures added { Clause-added work.old store end (take n (drop first work.old)) result work.new }
+    ensures added { ClauseAdded work.old store end (take n (drop first work.old)) result work.new }
     ensures linked { Linked work.new heads.new store result links }
 {
     let next = append_part(work, end, first, n);
@@ -196,9 +196,9 @@ fn delete_part(
     n: usize,
 ) -> Replayed
     requires { (first + n ≤ store) × Linked work.old heads.now store end links }
-    ensures result { Replays (replay-line (stored (between store end work.old)) (deletion (take n (drop first work.old)))) store end result work.new }
+    ensures result { Replays (replay_line (stored (between store end work.old)) (deletion (take n (drop first work.old)))) store end result work.new }
     ensures kept { take store work.new ≡ take store work.old }
-    ensures linked { Linked-after result work.new heads.now store links }
+    ensures linked { LinkedAfter result work.new heads.now store links }
 {
     match find_clause(work, heads, store, end, links, first, n) {
         store::Found::At(at) => {
@@ -218,10 +218,10 @@ fn replay_line(
     end: usize,
     links: usize,
 ) -> Replayed
-    requires { (past-line work.old at ≤ store) × (end + (size-at work.old at + 1) ≤ links) × Linked work.old heads.old store end links }
-    ensures result { Replays (replay-line (stored (between store end work.old)) (line_at work.old at)) store (end + (size-at work.old at + 1)) result work.new }
+    requires { (past_line work.old at ≤ store) × (end + (size_at work.old at + 1) ≤ links) × Linked work.old heads.old store end links }
+    ensures result { Replays (replay_line (stored (between store end work.old)) (line_at work.old at)) store (end + (size_at work.old at + 1)) result work.new }
     ensures kept { take store work.new ≡ take store work.old }
-    ensures linked { Linked-after result work.new heads.new store links }
+    ensures linked { LinkedAfter result work.new heads.new store links }
 {
     let n = literals::header_length(work[at]);
     let first = at + 1;
@@ -240,8 +240,8 @@ fn replay_lines(
     end: usize,
     links: usize,
 ) -> Replayed
-    requires { Laid_out work.old lines store end × (end + numbers-in (lines-in (between lines store work.old)) ≤ links) × Linked work.old heads.old store end links }
-    ensures result { Replays (replay-all (stored (between store end work.old)) (lines-in (between lines store work.old))) store (length work.old) result work.new }
+    requires { Laid_out work.old lines store end × (end + numbers_in (lines_in (between lines store work.old)) ≤ links) × Linked work.old heads.old store end links }
+    ensures result { Replays (replay_all (stored (between store end work.old)) (lines_in (between lines store work.old))) store (length work.old) result work.new }
     ensures kept { take store work.new ≡ take store work.old }
 {
     let mut filled = end;
@@ -265,7 +265,7 @@ fn replay_lines(
 // middle of the room there.
 pub fn replay(work: &mut [i32], n: usize, m: usize) -> Replayed
     requires { Replayable work.old n m }
-    ensures result { Replays (replay-all (stored (take n work.old)) (lines-in (between n m work.old))) m (length work.old) result work.new }
+    ensures result { Replays (replay_all (stored (take n work.old)) (lines_in (between n m work.old))) m (length work.old) result work.new }
     ensures kept { take m work.new ≡ take m work.old }
 {
     copy_up(work, m, 0, n);

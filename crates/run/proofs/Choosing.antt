@@ -8,19 +8,19 @@ use lib.IntN.{ℤ}
 use lib.ListN.{length, take, drop, length-append, length-drop}
 use lib.Seq.{length-take-le, take_at}
 use Rattle.definition.specs.Literals.{Formula}
-use Rattle.definition.specs.Clearing.{unique, choice-size}
+use Rattle.definition.specs.Clearing.{unique, choice_size}
 use Rattle.definition.specs.Counter.{choices}
-use Rattle.definition.specs.Alignment.{Arrangement, as-listed, alignment, arranged}
+use Rattle.definition.specs.Alignment.{Arrangement, as_listed, alignment, arranged}
 use Rattle.theory_base.specs.Clauses.{Fits}
-use Rattle.theory_base.proofs.Members.{those-mem}
+use Rattle.theory_base.proofs.Members.{those_mem}
 use Rattle.store.specs.Store.{Formed, stored}
 use Rattle.progress.specs.declared.Progress.{Progress}
 use Rattle.progress.specs.Progress.{standing}
 use Rattle.pass_choose.specs.Collecting.{Collected}
-use Rattle.pass_align.specs.Aligned.{Proper-store, Choices, Mapped}
+use Rattle.pass_align.specs.Aligned.{ProperStore, Choices, Mapped}
 use Rattle.run.specs.declared.Arrangement as Code
 use Rattle.run.specs.declared.Arrangement.TheVariants as Named
-use Rattle.run.specs.Settings.{named-arrangement}
+use Rattle.run.specs.Settings.{named_arrangement}
 use Rattle.run.specs.Choices.{Choosable, Chosen}
 
 -- ---- nothing is arranged
@@ -29,35 +29,35 @@ map_same : {A : Type 0} (f : A → A) → ((x : A) → f x ≡ x) → (xs : List
 map_same f e [] = refl
 map_same f e (x ∷ xs) = sym (ap (λ y. y ∷ map f xs) (e x) ∙ ap (λ ys. x ∷ ys) (sym (map_same f e xs)))
 
-as-listed-stays : (F : Formula) (chosen : List ℤ) → Formed chosen → Mapped (arranged as-listed F (stored chosen)) chosen chosen
+as_listed_stays : (F : Formula) (chosen : List ℤ) → Formed chosen → Mapped (arranged as_listed F (stored chosen)) chosen chosen
 unfolding arranged
-as-listed-stays F chosen f = record { same_size = refl; formed = f; stands = map_same (arranged as-listed F (stored chosen)) (λ c. refl) (stored chosen) }
+as_listed_stays F chosen f = record { same_size = refl; formed = f; stands = map_same (arranged as_listed F (stored chosen)) (λ c. refl) (stored chosen) }
 
 -- ---- collected
 
-choices-fit : {h : ℕ} (F : Formula) → Fits h F → Fits h (choices F)
+choices_fit : {h : ℕ} (F : Formula) → Fits h F → Fits h (choices F)
 unfolding choices
-choices-fit F f d m = f d (those-mem (λ c. choice-size c && unique F c) F d m).0
+choices_fit F f d m = f d (those_mem (λ c. choice_size c && unique F c) F d m).0
 
 module _ {work chosen : List ℤ} {p : Progress} (c : Choosable work p chosen) where
   abbrev F : Formula
   F = standing work p
 
-  pub store-proper : Proper-store (take p.end work)
-  store-proper = record { formed = c.good.formed; proper = c.good.proper; fits = c.good.fits }
+  pub store_proper : ProperStore (take p.end work)
+  store_proper = record { formed = c.good.formed; proper = c.good.proper; fits = c.good.fits }
 
   module _ {full : List ℤ} {n : ℕ} (o : Collected (choices F) (length chosen) n full) where
-    pub choices-collected : Choices (take n full)
-    choices-collected = record {
+    pub choices_collected : Choices (take n full)
+    choices_collected = record {
       short = omega (arith, c.few, o.inside, o.same_size, length-take-le n full o.inside);
       formed = o.formed;
-      fits = rw o.stands (choices-fit F c.good.fits);
+      fits = rw o.stands (choices_fit F c.good.fits);
       parted = rw o.stands c.parted;
     }
 
     -- the first n elements arranged
-    pub chosen-arranged : {a : Arrangement} {part : List ℤ} → Mapped (arranged a F (stored (take n full))) (take n full) part → Chosen a F (length chosen) n (part ++ drop n full)
-    chosen-arranged {a} {part} r =
+    pub chosen_arranged : {a : Arrangement} {part : List ℤ} → Mapped (arranged a F (stored (take n full))) (take n full) part → Chosen a F (length chosen) n (part ++ drop n full)
+    chosen_arranged {a} {part} r =
         let e : take n (part ++ drop n full) ≡ part = take_at part (drop n full) n (r.same_size ∙ length-take-le n full o.inside) in
         record {
           inside = omega (arith, o.inside, o.same_size);
@@ -68,9 +68,9 @@ module _ {work chosen : List ℤ} {p : Progress} (c : Choosable work p chosen) w
 
 -- ---- by the arrangement that is named
 
-pub listed-returned : {a : Code.Arrangement} → a ≡ Named.AsListed → (s chosen : List ℤ) → Formed chosen → Mapped (arranged (named-arrangement a) (stored s) (stored chosen)) chosen chosen
-listed-returned e s chosen f = rw e (as-listed-stays (stored s) chosen f)
+pub listed_returned : {a : Code.Arrangement} → a ≡ Named.AsListed → (s chosen : List ℤ) → Formed chosen → Mapped (arranged (named_arrangement a) (stored s) (stored chosen)) chosen chosen
+listed_returned e s chosen f = rw e (as_listed_stays (stored s) chosen f)
 
-pub aligned-returned : {a : Code.Arrangement} {new : List ℤ} → a ≡ Named.Alignment → (s chosen : List ℤ) →
-    Mapped (arranged alignment (stored s) (stored chosen)) chosen new → Mapped (arranged (named-arrangement a) (stored s) (stored chosen)) chosen new
-aligned-returned e s chosen m = rw e m
+pub aligned_returned : {a : Code.Arrangement} {new : List ℤ} → a ≡ Named.Alignment → (s chosen : List ℤ) →
+    Mapped (arranged alignment (stored s) (stored chosen)) chosen new → Mapped (arranged (named_arrangement a) (stored s) (stored chosen)) chosen new
+aligned_returned e s chosen m = rw e m

@@ -9,20 +9,20 @@ use lib.ListN.{length, take, drop}
 use Rattle.definition.specs.Literals.{Clause, Formula}
 use Rattle.definition.specs.Text.{Bytes}
 use Rattle.definition.specs.Standing.{after}
-use Rattle.definition.specs.Events.{Event, choice-of}
-use Rattle.definition.specs.Counter.{below_new, last-new}
-use Rattle.definition.specs.Reencoding.{lines, Form, choice-events, choices-events}
+use Rattle.definition.specs.Events.{Event, choice_of}
+use Rattle.definition.specs.Counter.{below_new, last_new}
+use Rattle.definition.specs.Reencoding.{lines, Form, choice_events, choices_events}
 use Rattle.theory_base.proofs.Replay.{lines-++}
-use Rattle.theory_room.specs.Choices.{used-after}
-use Rattle.theory_room.proofs.Lines.{used-least}
-use Rattle.theory_run.specs.Choices.{Takeable, All-takeable, at-choice, taken-events}
-use Rattle.store.specs.Store.{stored, deleted-at, clause-at, past, Place}
-use Rattle.store.proofs.Laws.{place-start, place-next, rest-stands, rest-deleted, stored-end, part-there, clause-length, few-stored}
+use Rattle.theory_room.specs.Choices.{used_after}
+use Rattle.theory_room.proofs.Lines.{used_least}
+use Rattle.theory_run.specs.Choices.{Takeable, AllTakeable, at_choice, taken_events}
+use Rattle.store.specs.Store.{stored, deleted_at, clause_at, past, Place}
+use Rattle.store.proofs.Laws.{place_start, place_next, rest_stands, rest_deleted, stored_end, part_there, clause_length, few_stored}
 use Rattle.progress.specs.declared.Progress.{Progress}
-use Rattle.progress.specs.Progress.{standing, Log-room, Runs}
-use Rattle.progress.proofs.Laws.{lines_none, room-first, room-rest, runs-nothing, runs-holds, runs-written, runs-join, runs_as}
+use Rattle.progress.specs.Progress.{standing, LogRoom, Runs}
+use Rattle.progress.proofs.Laws.{lines_none, room_first, room_rest, runs_nothing, runs_holds, runs_written, runs_join, runs_as}
 use Rattle.run.specs.declared.Reached.{Reached}
-use Rattle.run.specs.Choices.{One-ready, events-at, At-ready, Taken-at, All-ready, Taken-all}
+use Rattle.run.specs.Choices.{OneReady, events_at, AtReady, TakenAt, AllReady, TakenAll}
 
 -- the choices before `at` are taken: their events, and what is known of those to come
 pub record Turns (form : Form) (g step : ℕ) (work₀ : List ℤ) (log₀ : Bytes) (p₀ : Progress) (n₀ : ℕ) (ls : List Clause) (work : List ℤ) (log : Bytes) (r : Reached) (chosen : List ℤ) (at : ℕ) : Type 0 where
@@ -31,31 +31,31 @@ pub record Turns (form : Form) (g step : ℕ) (work₀ : List ℤ) (log₀ : Byt
   pub events : List Event
   pub place : Place chosen at
   pub runs : Runs events work₀ log₀ p₀ work log r.progress
-  pub takeable : All-takeable form g (length work₀) step r.highest (standing work r.progress) (stored (drop at chosen))
-  pub rest : events ++ taken-events form g r.highest (standing work r.progress) (stored (drop at chosen)) ≡ taken-events form g n₀ (standing work₀ p₀) ls
-  pub room : Log-room (lines (taken-events form g r.highest (standing work r.progress) (stored (drop at chosen)))) r.progress
-  pub step-least : 1 ≤ g
-  pub step-most : g ≤ 100
-  pub low : used-after g (λ l. l) n₀ ls ≤ 70_000
+  pub takeable : AllTakeable form g (length work₀) step r.highest (standing work r.progress) (stored (drop at chosen))
+  pub rest : events ++ taken_events form g r.highest (standing work r.progress) (stored (drop at chosen)) ≡ taken_events form g n₀ (standing work₀ p₀) ls
+  pub room : LogRoom (lines (taken_events form g r.highest (standing work r.progress) (stored (drop at chosen)))) r.progress
+  pub step_least : 1 ≤ g
+  pub step_most : g ≤ 100
+  pub low : used_after g (λ l. l) n₀ ls ≤ 70_000
   pub counted : r.choices + length (stored (drop at chosen)) ≡ length ls
-  pub used : used-after g (λ l. l) r.highest (stored (drop at chosen)) ≡ used-after g (λ l. l) n₀ ls
+  pub used : used_after g (λ l. l) r.highest (stored (drop at chosen)) ≡ used_after g (λ l. l) n₀ ls
 
 -- before the first
 abbrev pub none_yet : Progress → ℕ → Reached
 none_yet p n = record { progress = p; choices = 0; highest = n }
 
-pub turns-start : {form : Form} {g step : ℕ} {work : List ℤ} {p : Progress} {chosen : List ℤ} {n : ℕ} (log : Bytes) → All-ready form g step work p chosen n → Turns form g step work log p n (stored chosen) work log (none_yet p n) chosen 0
-turns-start {work = work} {p} {chosen} log a = record {
+pub turns_start : {form : Form} {g step : ℕ} {work : List ℤ} {p : Progress} {chosen : List ℤ} {n : ℕ} (log : Bytes) → AllReady form g step work p chosen n → Turns form g step work log p n (stored chosen) work log (none_yet p n) chosen 0
+turns_start {work = work} {p} {chosen} log a = record {
   small = a.good.small;
-  few = omega (arith, a.few, few-stored chosen);
+  few = omega (arith, a.few, few_stored chosen);
   events = [];
-  place = place-start a.chosen-formed;
-  runs = runs-nothing log p p refl (record { inside = a.good.inside; formed = a.good.formed; stands = refl }) refl refl;
+  place = place_start a.chosen_formed;
+  runs = runs_nothing log p p refl (record { inside = a.good.inside; formed = a.good.formed; stands = refl }) refl refl;
   takeable = a.takeable;
   rest = refl;
   room = a.good.room;
-  step-least = a.step-least;
-  step-most = a.step-most;
+  step_least = a.step_least;
+  step_most = a.step_most;
   low = a.low;
   counted = omega arith;
   used = refl;
@@ -63,22 +63,22 @@ turns-start {work = work} {p} {chosen} log a = record {
 
 -- ---- the events of choices
 
-taken-cons : (form : Form) (g n : ℕ) (F : Formula) (l : Clause) (ls : List Clause) → let k = choice-of l (below_new g n) in
-    taken-events form g n F (l ∷ ls) ≡ choice-events form F l k ++ taken-events form g (last-new k) (after F (lines (choice-events form F l k))) ls
-unfolding choices-events
-taken-cons form g n F l ls = refl
+taken_cons : (form : Form) (g n : ℕ) (F : Formula) (l : Clause) (ls : List Clause) → let k = choice_of l (below_new g n) in
+    taken_events form g n F (l ∷ ls) ≡ choice_events form F l k ++ taken_events form g (last_new k) (after F (lines (choice_events form F l k))) ls
+unfolding choices_events
+taken_cons form g n F l ls = refl
 
-taken-nil : (form : Form) (g n : ℕ) (F : Formula) → taken-events form g n F [] ≡ []
-unfolding choices-events
-taken-nil form g n F = refl
+taken_nil : (form : Form) (g n : ℕ) (F : Formula) → taken_events form g n F [] ≡ []
+unfolding choices_events
+taken_nil form g n F = refl
 
 -- the first choice to come, and those behind it
-first-takeable : {form : Form} {g size step n : ℕ} {F : Formula} {l : Clause} {ls : List Clause} → All-takeable form g size step n F (l ∷ ls) → (c : Clause) × Takeable size step F c (choice-of l (below_new g n))
-first-takeable (at-choice c t r) = (c, t)
+first_takeable : {form : Form} {g size step n : ℕ} {F : Formula} {l : Clause} {ls : List Clause} → AllTakeable form g size step n F (l ∷ ls) → (c : Clause) × Takeable size step F c (choice_of l (below_new g n))
+first_takeable (at_choice c t r) = (c, t)
 
-rest-takeable : {form : Form} {g size step n : ℕ} {F : Formula} {l : Clause} {ls : List Clause} → All-takeable form g size step n F (l ∷ ls) → let k = choice-of l (below_new g n) in
-    All-takeable form g size step (last-new k) (after F (lines (choice-events form F l k))) ls
-rest-takeable (at-choice c t r) = r
+rest_takeable : {form : Form} {g size step n : ℕ} {F : Formula} {l : Clause} {ls : List Clause} → AllTakeable form g size step n F (l ∷ ls) → let k = choice_of l (below_new g n) in
+    AllTakeable form g size step (last_new k) (after F (lines (choice_events form F l k))) ls
+rest_takeable (at_choice c t r) = r
 
 -- ---- at a turn
 
@@ -88,142 +88,142 @@ module _ {form : Form} {g step : ℕ} {work₀ : List ℤ} {log₀ : Bytes} {p�
   F = standing work r.progress
 
   abbrev l : Clause
-  l = clause-at chosen at
+  l = clause_at chosen at
 
   abbrev behind : List Clause
   behind = stored (drop (past chosen at) chosen)
 
   module _ (h : at < length chosen) where
-    module _ (e : deleted-at chosen at ≡ false) where
+    module _ (e : deleted_at chosen at ≡ false) where
       stands : stored (drop at chosen) ≡ l ∷ behind
-      stands = rest-stands chosen at h e
+      stands = rest_stands chosen at h e
 
-      events-here : let k = choice-of l (below_new g r.highest) in
-          taken-events form g r.highest F (stored (drop at chosen)) ≡ choice-events form F l k ++ taken-events form g (last-new k) (after F (lines (choice-events form F l k))) behind
-      events-here = ap (taken-events form g r.highest F) stands ∙ taken-cons form g r.highest F l behind
+      events_here : let k = choice_of l (below_new g r.highest) in
+          taken_events form g r.highest F (stored (drop at chosen)) ≡ choice_events form F l k ++ taken_events form g (last_new k) (after F (lines (choice_events form F l k))) behind
+      events_here = ap (taken_events form g r.highest F) stands ∙ taken_cons form g r.highest F l behind
 
       -- no variable passes 70,000
-      below-few : below_new g r.highest + length l ≤ 70_001
-      unfolding used-after last-new
-      below-few =
-          let k = choice-of l (below_new g r.highest) in
-          omega (arith, ap (used-after g (λ l. l) r.highest) stands, t.used, t.low, used-least g (λ l. l) (last-new k) behind)
+      below_few : below_new g r.highest + length l ≤ 70_001
+      unfolding used_after last_new
+      below_few =
+          let k = choice_of l (below_new g r.highest) in
+          omega (arith, ap (used_after g (λ l. l) r.highest) stands, t.used, t.low, used_least g (λ l. l) (last_new k) behind)
 
-      one-ready : One-ready form step work r.progress l (below_new g r.highest)
-      one-ready =
-          let k = choice-of l (below_new g r.highest) in
-          let f = first-takeable (rw stands at t.takeable) in
-          let es = choice-events form F l k in
-          let more = taken-events form g (last-new k) (after F (lines es)) behind in
+      one_ready : OneReady form step work r.progress l (below_new g r.highest)
+      one_ready =
+          let k = choice_of l (below_new g r.highest) in
+          let f = first_takeable (rw stands at t.takeable) in
+          let es = choice_events form F l k in
+          let more = taken_events form g (last_new k) (after F (lines es)) behind in
           record {
             good = record {
               small = omega (arith, t.small, t.runs.size);
-              inside = (runs-holds t.runs).inside;
+              inside = (runs_holds t.runs).inside;
               formed = t.runs.formed;
               proper = f.1.proper;
               fits = f.1.fits;
-              room = room-first (lines es) (lines more) (rw (ap lines events-here ∙ lines-++ es more) at t.room);
+              room = room_first (lines es) (lines more) (rw (ap lines events_here ∙ lines-++ es more) at t.room);
             };
             clause = f.0;
             takeable = rw t.runs.size f.1;
-            new-few = below-few;
+            new_few = below_few;
           }
 
-    pub at_ready : At-ready form g step work r chosen at
+    pub at_ready : AtReady form g step work r chosen at
     at_ready = record {
-      inside = (runs-holds t.runs).inside;
+      inside = (runs_holds t.runs).inside;
       formed = t.runs.formed;
-      at-inside = h;
+      at_inside = h;
       rest = t.place.rest;
       few = omega (arith, t.counted, t.few);
-      step-least = t.step-least;
-      step-most = t.step-most;
-      low = omega (arith, t.used, t.low, used-least g (λ l. l) r.highest (stored (drop at chosen)));
-      one = one-ready;
+      step_least = t.step_least;
+      step_most = t.step_most;
+      low = omega (arith, t.used, t.low, used_least g (λ l. l) r.highest (stored (drop at chosen)));
+      one = one_ready;
     }
 
     -- ---- to the next
 
-    module _ {new : List ℤ} {new-log : Bytes} {q : Reached} (a : Taken-at form g work log r chosen at new new-log q) where
+    module _ {new : List ℤ} {new_log : Bytes} {q : Reached} (a : TakenAt form g work log r chosen at new new_log q) where
       -- where G stands and n is the highest variable used
       turn : (G : Formula) (n m : ℕ) → standing new q.progress ≡ G → q.highest ≡ n → q.choices ≡ r.choices + m → m + length behind ≡ length (stored (drop at chosen)) →
-          used-after g (λ l. l) n behind ≡ used-after g (λ l. l) r.highest (stored (drop at chosen)) → All-takeable form g (length work₀) step n G behind →
-          taken-events form g r.highest F (stored (drop at chosen)) ≡ events-at form g F chosen at r.highest ++ taken-events form g n G behind →
-          Turns form g step work₀ log₀ p₀ n₀ ls new new-log q chosen (past chosen at)
+          used_after g (λ l. l) n behind ≡ used_after g (λ l. l) r.highest (stored (drop at chosen)) → AllTakeable form g (length work₀) step n G behind →
+          taken_events form g r.highest F (stored (drop at chosen)) ≡ events_at form g F chosen at r.highest ++ taken_events form g n G behind →
+          Turns form g step work₀ log₀ p₀ n₀ ls new new_log q chosen (past chosen at)
       turn G n m f u c d v k e =
-          let es = events-at form g F chosen at r.highest in
-          let more = taken-events form g n G behind in
+          let es = events_at form g F chosen at r.highest in
+          let more = taken_events form g n G behind in
           record {
             small = t.small;
             few = t.few;
             events = t.events ++ es;
-            place = place-next chosen at h t.place;
-            runs = runs-join t.runs a.runs;
+            place = place_next chosen at h t.place;
+            runs = runs_join t.runs a.runs;
             takeable = rw (f, u) k;
             rest = rw (f, u) (append_assoc t.events es more ∙ ap (λ (zs : List Event). t.events ++ zs) (sym e) ∙ t.rest);
-            room = rw (f, u) (room-rest (lines es) (lines more) (rw (ap lines e ∙ lines-++ es more) at t.room) (runs-written a.runs));
-            step-least = t.step-least;
-            step-most = t.step-most;
+            room = rw (f, u) (room_rest (lines es) (lines more) (rw (ap lines e ∙ lines-++ es more) at t.room) (runs_written a.runs));
+            step_least = t.step_least;
+            step_most = t.step_most;
             low = t.low;
             counted = omega (arith, t.counted, c, d);
             used = rw u (v ∙ t.used);
           }
 
-      turned : (b : Bool) → deleted-at chosen at ≡ b → Turns form g step work₀ log₀ p₀ n₀ ls new new-log q chosen (past chosen at)
-      unfolding after used-after
+      turned : (b : Bool) → deleted_at chosen at ≡ b → Turns form g step work₀ log₀ p₀ n₀ ls new new_log q chosen (past chosen at)
+      unfolding after used_after
       turned true e =
-          turn F r.highest 0 (a.runs.stands ∙ rw (e, lines_none) refl) (a.highest ∙ rw e refl) (a.choices ∙ rw e refl) (omega (arith, ap length (rest-deleted chosen at h e)))
-          (ap (used-after g (λ l. l) r.highest) (sym (rest-deleted chosen at h e)))
-          (rw (rest-deleted chosen at h e) at t.takeable)
-          (rw (e, rest-deleted chosen at h e) refl)
+          turn F r.highest 0 (a.runs.stands ∙ rw (e, lines_none) refl) (a.highest ∙ rw e refl) (a.choices ∙ rw e refl) (omega (arith, ap length (rest_deleted chosen at h e)))
+          (ap (used_after g (λ l. l) r.highest) (sym (rest_deleted chosen at h e)))
+          (rw (rest_deleted chosen at h e) at t.takeable)
+          (rw (e, rest_deleted chosen at h e) refl)
       turned false e =
-          let k = choice-of l (below_new g r.highest) in
-          turn (after F (lines (choice-events form F l k))) (last-new k) 1 (a.runs.stands ∙ rw e refl) (a.highest ∙ rw e refl) (a.choices ∙ rw e refl) (omega (arith, ap length (stands e)))
-          (ap (used-after g (λ l. l) r.highest) (sym (stands e)))
-          (rest-takeable (rw (stands e) at t.takeable))
-          (rw e (events-here e))
+          let k = choice_of l (below_new g r.highest) in
+          turn (after F (lines (choice_events form F l k))) (last_new k) 1 (a.runs.stands ∙ rw e refl) (a.highest ∙ rw e refl) (a.choices ∙ rw e refl) (omega (arith, ap length (stands e)))
+          (ap (used_after g (λ l. l) r.highest) (sym (stands e)))
+          (rest_takeable (rw (stands e) at t.takeable))
+          (rw e (events_here e))
 
-      pub turns_next : Turns form g step work₀ log₀ p₀ n₀ ls new new-log q chosen (past chosen at)
-      turns_next = turned (deleted-at chosen at) refl
+      pub turns_next : Turns form g step work₀ log₀ p₀ n₀ ls new new_log q chosen (past chosen at)
+      turns_next = turned (deleted_at chosen at) refl
 
-  pub turns-end : length chosen ≤ at → Taken-all form g work₀ log₀ p₀ ls n₀ work log r
-  unfolding used-after
-  turns-end h =
-      let e : stored (drop at chosen) ≡ [] = stored-end chosen at h in
+  pub turns_end : length chosen ≤ at → TakenAll form g work₀ log₀ p₀ ls n₀ work log r
+  unfolding used_after
+  turns_end h =
+      let e : stored (drop at chosen) ≡ [] = stored_end chosen at h in
       record {
-        runs = runs_as (ap lines (sym (append-nil t.events) ∙ ap (λ (es : List Event). t.events ++ es) (sym (ap (taken-events form g r.highest F) e ∙ taken-nil form g r.highest F)) ∙ t.rest)) t.runs;
+        runs = runs_as (ap lines (sym (append-nil t.events) ∙ ap (λ (es : List Event). t.events ++ es) (sym (ap (taken_events form g r.highest F) e ∙ taken_nil form g r.highest F)) ∙ t.rest)) t.runs;
         choices = omega (arith, t.counted, ap length e);
-        highest = ap (used-after g (λ l. l) r.highest) (sym e) ∙ t.used;
+        highest = ap (used_after g (λ l. l) r.highest) (sym e) ∙ t.used;
       }
 
 -- ---- the choice at a place
 
-module _ {form : Form} {g step : ℕ} {work : List ℤ} {r : Reached} {chosen : List ℤ} {at : ℕ} (a : At-ready form g step work r chosen at) where
-  pub none-taken : (log : Bytes) → deleted-at chosen at ≡ true → Taken-at form g work log r chosen at work log r
-  none-taken log e = record {
-    runs = rw e (runs-nothing log r.progress r.progress refl (record { inside = a.inside; formed = a.formed; stands = refl }) refl refl);
+module _ {form : Form} {g step : ℕ} {work : List ℤ} {r : Reached} {chosen : List ℤ} {at : ℕ} (a : AtReady form g step work r chosen at) where
+  pub none_taken : (log : Bytes) → deleted_at chosen at ≡ true → TakenAt form g work log r chosen at work log r
+  none_taken log e = record {
+    runs = rw e (runs_nothing log r.progress r.progress refl (record { inside = a.inside; formed = a.formed; stands = refl }) refl refl);
     choices = rw e (omega arith);
     highest = rw e refl;
   }
 
-  pub one-takeable : (next below : ℕ) → deleted-at chosen at ≡ false → next ≡ past chosen at → below ≡ below_new g r.highest → One-ready form step work r.progress (take (next - (at + 1)) (drop (at + 1) chosen)) below
-  one-takeable next below e n b = rw b (subst (λ (l : Clause). One-ready form step work r.progress l (below_new g r.highest)) (sym (part-there chosen at next n)) (a.one e))
+  pub one_takeable : (next below : ℕ) → deleted_at chosen at ≡ false → next ≡ past chosen at → below ≡ below_new g r.highest → OneReady form step work r.progress (take (next - (at + 1)) (drop (at + 1) chosen)) below
+  one_takeable next below e n b = rw b (subst (λ (l : Clause). OneReady form step work r.progress l (below_new g r.highest)) (sym (part_there chosen at next n)) (a.one e))
 
   -- its literals, and the place past it
-  module _ (next : ℕ) (e : deleted-at chosen at ≡ false) (n : next ≡ past chosen at) where
-    size-here : next ≡ at + (1 + length (clause-at chosen at))
-    size-here = omega (arith, n, clause-length chosen at a.at-inside a.rest)
+  module _ (next : ℕ) (e : deleted_at chosen at ≡ false) (n : next ≡ past chosen at) where
+    size_here : next ≡ at + (1 + length (clause_at chosen at))
+    size_here = omega (arith, n, clause_length chosen at a.at_inside a.rest)
 
-    pub one-small : (5 ≤ next - (at + 1)) × (next - (at + 1) ≤ 64) × (below_new g r.highest ≤ 70_001)
-    one-small = let t = (a.one e).takeable in (omega (arith, size-here, t.least), omega (arith, size-here, t.most), omega (arith, (a.one e).new-few))
+    pub one_small : (5 ≤ next - (at + 1)) × (next - (at + 1) ≤ 64) × (below_new g r.highest ≤ 70_001)
+    one_small = let t = (a.one e).takeable in (omega (arith, size_here, t.least), omega (arith, size_here, t.most), omega (arith, (a.one e).new_few))
 
-    pub one-taken : {log z : Bytes} {w : List ℤ} {q : Progress} (below m : ℕ) → below ≡ below_new g r.highest → m ≡ next - (at + 1) - 1 →
+    pub one_taken : {log z : Bytes} {w : List ℤ} {q : Progress} (below m : ℕ) → below ≡ below_new g r.highest → m ≡ next - (at + 1) - 1 →
         let part = take (next - (at + 1)) (drop (at + 1) chosen) in
-        Runs (choice-events form (standing work r.progress) part (choice-of part below)) work log r.progress w z q →
-        Taken-at form g work log r chosen at w z (record { progress = q; choices = r.choices + 1; highest = below + m })
-    unfolding last-new
-    one-taken below m b d f = record {
-      runs = rw e (rw (part-there chosen at next n, b) at f);
+        Runs (choice_events form (standing work r.progress) part (choice_of part below)) work log r.progress w z q →
+        TakenAt form g work log r chosen at w z (record { progress = q; choices = r.choices + 1; highest = below + m })
+    unfolding last_new
+    one_taken below m b d f = record {
+      runs = rw e (rw (part_there chosen at next n, b) at f);
       choices = rw e refl;
-      highest = rw e (omega (arith, b, d, size-here));
+      highest = rw e (omega (arith, b, d, size_here));
     }

@@ -1,19 +1,19 @@
 -- What the caller asks for, in the definition's words.
-use Rattle.definition.specs.Alignment.{Arrangement, as-listed, alignment}
-use Rattle.definition.specs.Reencoding.{Form, counter-form, order-form, Settings}
-use Rattle.run.specs.declared.Form as Code-form
+use Rattle.definition.specs.Alignment.{Arrangement, as_listed, alignment}
+use Rattle.definition.specs.Reencoding.{Form, counter_form, order_form, Settings}
+use Rattle.run.specs.declared.Form as CodeForm
 use Rattle.run.specs.declared.Form.TheVariants as Form
-use Rattle.run.specs.declared.Arrangement as Code-arrangement
+use Rattle.run.specs.declared.Arrangement as CodeArrangement
 use Rattle.run.specs.declared.Arrangement.TheVariants as Arrangement
-use Rattle.run.specs.declared.Settings as Code-settings
+use Rattle.run.specs.declared.Settings as CodeSettings
 
-abbrev pub named-form : Code-form.Form → Form
-named-form Form.Counter = counter-form
-named-form Form.Order = order-form
+abbrev pub named_form : CodeForm.Form → Form
+named_form Form.Counter = counter_form
+named_form Form.Order = order_form
 
-abbrev pub named-arrangement : Code-arrangement.Arrangement → Arrangement
-named-arrangement Arrangement.AsListed = as-listed
-named-arrangement Arrangement.Alignment = alignment
+abbrev pub named_arrangement : CodeArrangement.Arrangement → Arrangement
+named_arrangement Arrangement.AsListed = as_listed
+named_arrangement Arrangement.Alignment = alignment
 
-abbrev pub settings-of : Code-settings.Settings → Settings
-settings-of s = record { form = named-form s.form; arrangement = named-arrangement s.arrangement; step = s.step }
+abbrev pub settings_of : CodeSettings.Settings → Settings
+settings_of s = record { form = named_form s.form; arrangement = named_arrangement s.arrangement; step = s.step }

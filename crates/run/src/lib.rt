@@ -1,21 +1,21 @@
 // A run over the store and its index: clashes and pure literals cleared, then the choices chosen, arranged and taken.
 ghost use Rattle.std.specs.Prelude.{◌≡◌, [], ◌∷◌, ◌+◌, ◌*◌, ◌<◌, ◌^◌, length, take, replicate};
 ghost use Rattle.definition.specs.Alignment.{arranged};
-ghost use Rattle.definition.specs.Clearing.{clear-clashes};
-ghost use Rattle.definition.specs.Reencoding.{choice-events, resolved-into};
-ghost use Rattle.definition.specs.Events.{choice-of};
+ghost use Rattle.definition.specs.Clearing.{clear_clashes};
+ghost use Rattle.definition.specs.Reencoding.{choice_events, resolved_into};
+ghost use Rattle.definition.specs.Events.{choice_of};
 ghost use Rattle.theory_room.specs.Choices.{clearing};
-ghost use Rattle.tables.specs.Sizes.{input-size};
+ghost use Rattle.tables.specs.Sizes.{input_size};
 ghost use Rattle.tables.specs.Places.{Places};
 ghost use Rattle.store.specs.Store.{stored};
 ghost use Rattle.index.specs.Index.{nodes, Indexed};
 ghost use Rattle.progress.specs.Progress.{standing, Runs};
 ghost use Rattle.pass_clashes.specs.Weights.{Weighed};
-ghost use Rattle.pass_align.specs.Aligned.{Proper-store, Choices, Mapped};
-ghost use Rattle.run.specs.Settings.{named-form, named-arrangement, settings-of};
+ghost use Rattle.pass_align.specs.Aligned.{ProperStore, Choices, Mapped};
+ghost use Rattle.run.specs.Settings.{named_form, named_arrangement, settings_of};
 ghost use Rattle.pairs.specs.Pairs.{slots};
-ghost use Rattle.run.specs.Choices.{Choosable, Chosen, list-size, Lent, One-ready, Placed-ready, At-ready, Taken-at, All-ready, Taken-all, Take-ready, Took-all};
-ghost use Rattle.run.specs.Run.{Clear-ready, input-in, Run-ready, Ran-all};
+ghost use Rattle.run.specs.Choices.{Choosable, Chosen, list_size, Lent, OneReady, PlacedReady, AtReady, TakenAt, AllReady, TakenAll, TakeReady, TookAll};
+ghost use Rattle.run.specs.Run.{ClearReady, input_in, RunReady, RanAll};
 
 use progress::Progress;
 
@@ -74,11 +74,11 @@ fn clear(
     p: Progress,
     step: usize,
 ) -> Progress
-    requires { Clear-ready step work.old p × Indexed work.old p.end newest.old × (table.old ≡ replicate input-size 0) × (weights.old ≡ replicate input-size 0) }
+    requires { ClearReady step work.old p × Indexed work.old p.end newest.old × (table.old ≡ replicate input_size 0) × (weights.old ≡ replicate input_size 0) }
     ensures runs { Runs (clearing (standing work.old p)) work.old log.old p work.new log.new result }
     ensures indexed { Indexed work.new result.end newest.new }
-    ensures table { table.new ≡ replicate input-size 0 }
-    ensures weighed { Weighed (resolved-into (λ d. 1) (clear-clashes (standing work.old p))) (length (standing work.old p)) (standing work.new result) weights.new }
+    ensures table { table.new ≡ replicate input_size 0 }
+    ensures weighed { Weighed (resolved_into (λ d. 1) (clear_clashes (standing work.old p))) (length (standing work.old p)) (standing work.new result) weights.new }
 {
     let q = pass_clashes::clear_clashes(work, newest, table, weights, log, p, step);
     pass_pure::delete_pure(work, log, q)
@@ -88,8 +88,8 @@ fn clear(
 
 // Arranges the literals of the choices.
 fn arrange(work: &[i32], newest: &[u32], end: usize, chosen: &mut [i32], arrangement: Arrangement)
-    requires { Indexed work.now end newest.now × Proper-store (take end work.now) × Choices chosen.old }
-    ensures { Mapped (arranged (named-arrangement arrangement) (stored (take end work.now)) (stored chosen.old)) chosen.old chosen.new }
+    requires { Indexed work.now end newest.now × ProperStore (take end work.now) × Choices chosen.old }
+    ensures { Mapped (arranged (named_arrangement arrangement) (stored (take end work.now)) (stored chosen.old)) chosen.old chosen.new }
 {
     match arrangement {
         Arrangement::AsListed => {}
@@ -106,7 +106,7 @@ fn choose(
     arrangement: Arrangement,
 ) -> usize
     requires { Choosable work.now p chosen.old × Indexed work.now p.end newest.now }
-    ensures { Chosen (named-arrangement arrangement) (standing work.now p) (length chosen.old) result chosen.new }
+    ensures { Chosen (named_arrangement arrangement) (standing work.now p) (length chosen.old) result chosen.new }
 {
     let end = p.end;
     let n = pass_choose::collect(work, p, chosen);
@@ -129,8 +129,8 @@ fn take_placed(
     literals: &[i32],
     below: u32,
 ) -> Progress
-    requires { Placed-ready (named-form form) work.old newest.old p literals.now below × Places places.now literals.now × (counts.old ≡ replicate slots 0) × (length list.old ≡ list-size) }
-    ensures runs { Runs (choice-events (named-form form) (standing work.old p) literals.now (choice-of literals.now below)) work.old log.old p work.new log.new result }
+    requires { PlacedReady (named_form form) work.old newest.old p literals.now below × Places places.now literals.now × (counts.old ≡ replicate slots 0) × (length list.old ≡ list_size) }
+    ensures runs { Runs (choice_events (named_form form) (standing work.old p) literals.now (choice_of literals.now below)) work.old log.old p work.new log.new result }
     ensures indexed { Indexed work.new result.end newest.new }
     ensures counts { counts.new ≡ replicate slots 0 }
 {
@@ -158,8 +158,8 @@ fn take_one(
     below: u32,
     step: usize,
 ) -> Progress
-    requires { One-ready (named-form form) step work.old p literals.now below × Indexed work.old p.end newest.old × Lent places.old counts.old list.old }
-    ensures runs { Runs (choice-events (named-form form) (standing work.old p) literals.now (choice-of literals.now below)) work.old log.old p work.new log.new result }
+    requires { OneReady (named_form form) step work.old p literals.now below × Indexed work.old p.end newest.old × Lent places.old counts.old list.old }
+    ensures runs { Runs (choice_events (named_form form) (standing work.old p) literals.now (choice_of literals.now below)) work.old log.old p work.new log.new result }
     ensures indexed { Indexed work.new result.end newest.new }
     ensures lent { Lent places.new counts.new list.new }
 {
@@ -187,8 +187,8 @@ fn take_at(
     at: usize,
     step: usize,
 ) -> Reached
-    requires { At-ready (named-form form) g step work.old r chosen.now at × Indexed work.old r.progress.end newest.old × Lent places.old counts.old list.old }
-    ensures taken { Taken-at (named-form form) g work.old log.old r chosen.now at work.new log.new result }
+    requires { AtReady (named_form form) g step work.old r chosen.now at × Indexed work.old r.progress.end newest.old × Lent places.old counts.old list.old }
+    ensures taken { TakenAt (named_form form) g work.old log.old r chosen.now at work.new log.new result }
     ensures indexed { Indexed work.new result.progress.end newest.new }
     ensures lent { Lent places.new counts.new list.new }
 {
@@ -223,8 +223,8 @@ fn take(
     highest: u32,
     step: usize,
 ) -> Reached
-    requires { All-ready (named-form form) g step work.old p chosen.now highest × Indexed work.old p.end newest.old × (places.old ≡ replicate input-size 0) }
-    ensures { Taken-all (named-form form) g work.old log.old p (stored chosen.now) highest work.new log.new result }
+    requires { AllReady (named_form form) g step work.old p chosen.now highest × Indexed work.old p.end newest.old × (places.old ≡ replicate input_size 0) }
+    ensures { TakenAll (named_form form) g work.old log.old p (stored chosen.now) highest work.new log.new result }
 {
     let mut counts = [0u32; pairs::SLOTS];
     let mut list = [0u32; LIST];
@@ -279,8 +279,8 @@ fn take_all(
     highest: u32,
     step: usize,
 ) -> Ran
-    requires { Take-ready (named-form form) g step work.old p chosen.now highest weights.now rows.old × Indexed work.old p.end newest.old × (places.old ≡ replicate input-size 0) }
-    ensures { Took-all (named-form form) g work.old log.old p (stored chosen.now) highest weights.now rows.old work.new log.new rows.new result }
+    requires { TakeReady (named_form form) g step work.old p chosen.now highest weights.now rows.old × Indexed work.old p.end newest.old × (places.old ≡ replicate input_size 0) }
+    ensures { TookAll (named_form form) g work.old log.old p (stored chosen.now) highest weights.now rows.old work.new log.new rows.new result }
 {
     let m = pass_number::number(chosen, weights, rows, highest, g);
     if 70000 < m.highest {
@@ -299,8 +299,8 @@ fn run_indexed(
     highest: u32,
     settings: Settings,
 ) -> Ran
-    requires { Run-ready work.old end highest settings.step rows.old × Indexed work.old end newest.old }
-    ensures { Ran-all (settings-of settings) (input-in work.old end highest) work.old log.old end rows.old work.new log.new rows.new result }
+    requires { RunReady work.old end highest settings.step rows.old × Indexed work.old end newest.old }
+    ensures { RanAll (settings_of settings) (input_in work.old end highest) work.old log.old end rows.old work.new log.new rows.new result }
 {
     let start = Progress {
         end,
@@ -341,8 +341,8 @@ pub fn run(
     highest: u32,
     settings: Settings,
 ) -> Ran
-    requires { Run-ready work.old end highest settings.step rows.old }
-    ensures { Ran-all (settings-of settings) (input-in work.old end highest) work.old log.old end rows.old work.new log.new rows.new result }
+    requires { RunReady work.old end highest settings.step rows.old }
+    ensures { RanAll (settings_of settings) (input_in work.old end highest) work.old log.old end rows.old work.new log.new rows.new result }
 {
     let mut newest = [0u32; tables::LOG_SIZE];
     index::enter_all(work, &mut newest, end);

@@ -11,74 +11,74 @@ use Rattle.definition.specs.Lists.{any, all}
 use Rattle.definition.specs.Literals.{Clause, Formula, holds, same_set}
 use Rattle.definition.specs.Standing.{stands, take_out}
 use Rattle.theory_base.proofs.Tests.{differ}
-use Rattle.literals.specs.Literal.{header-literals}
-use Rattle.store.specs.Store.{Formed-from, Formed, stored-from, stored, size-at, deleted-at, clause-at, past, marked, Place, begins-with, place-from, place_of, Deleted}
+use Rattle.literals.specs.Literal.{header_literals}
+use Rattle.store.specs.Store.{FormedFrom, Formed, stored_from, stored, size_at, deleted_at, clause_at, past, marked, Place, begins_with, place_from, place_of, Deleted}
 use Rattle.store.specs.declared.Found.{Found}
 use Rattle.store.specs.declared.Found.TheVariants.{At, Nothing}
-use Rattle.theory_base.proofs.Slices.{drop-step, drop-end}
-use Rattle.theory_base.proofs.Removal.{stands-past, take-out-past, take-out-none, stands-head, take-out-head}
-use Rattle.store.proofs.Laws.{by_entries, place_end, drop_past, past_is, place-within, place-formed, stored-around, marked-place, marked-stored}
+use Rattle.theory_base.proofs.Slices.{drop_step, drop_end}
+use Rattle.theory_base.proofs.Removal.{stands_past, take_out_past, take_out_none, stands_head, take_out_head}
+use Rattle.store.proofs.Laws.{by_entries, place_end, drop_past, past_is, place_within, place_formed, stored_around, marked_place, marked_stored}
 
-place-skip : (c : Clause) (k at : ℕ) (s : List ℤ) → place-from c k at s ≡ place-from c 0 (at + k) (drop k s)
-unfolding place-from
-place-skip c zero at s = ap (λ (n : ℕ). place-from c 0 n s) (omega arith)
-place-skip c (suc k) at [] = refl
-place-skip c (suc k) at (x ∷ s) = place-skip c k (at + 1) s ∙ ap (λ (n : ℕ). place-from c 0 n (drop k s)) (omega arith)
+place_skip : (c : Clause) (k at : ℕ) (s : List ℤ) → place_from c k at s ≡ place_from c 0 (at + k) (drop k s)
+unfolding place_from
+place_skip c zero at s = ap (λ (n : ℕ). place_from c 0 n s) (omega arith)
+place_skip c (suc k) at [] = refl
+place_skip c (suc k) at (x ∷ s) = place_skip c k (at + 1) s ∙ ap (λ (n : ℕ). place_from c 0 n (drop k s)) (omega arith)
 
-pub same-set-swap : (c d : Clause) → same_set c d ≡ same_set d c
+pub same_set_swap : (c d : Clause) → same_set c d ≡ same_set d c
 unfolding same_set
-same-set-swap c d = and_comm (all (λ (l : ℤ). holds l d) c) (all (λ (l : ℤ). holds l c) d)
+same_set_swap c d = and_comm (all (λ (l : ℤ). holds l d) c) (all (λ (l : ℤ). holds l c) d)
 
 -- ---- the loop
 module _ (s : List ℤ) (at : ℕ) (h : at < length s) (c : Clause) where
-  pub matches-deleted : deleted-at s at ≡ true → false ≡ begins-with c (drop at s)
-  unfolding begins-with
-  matches-deleted e = rw (drop-step s at (pos 0) h, e) refl
+  pub matches_deleted : deleted_at s at ≡ true → false ≡ begins_with c (drop at s)
+  unfolding begins_with
+  matches_deleted e = rw (drop_step s at (pos 0) h, e) refl
 
-  pub matches-stands : deleted-at s at ≡ false → same_set c (clause-at s at) ≡ begins-with c (drop at s)
-  unfolding begins-with
-  matches-stands e = rw (drop-step s at (pos 0) h, e) refl
+  pub matches_stands : deleted_at s at ≡ false → same_set c (clause_at s at) ≡ begins_with c (drop at s)
+  unfolding begins_with
+  matches_stands e = rw (drop_step s at (pos 0) h, e) refl
 
-  pub place-hit : begins-with c (drop at s) ≡ true → At at ≡ place-from c 0 at (drop at s)
-  unfolding place-from
-  place-hit e = rw (drop-step s at (pos 0) h) (rw (rw (drop-step s at (pos 0) h) at e) refl)
+  pub place_hit : begins_with c (drop at s) ≡ true → At at ≡ place_from c 0 at (drop at s)
+  unfolding place_from
+  place_hit e = rw (drop_step s at (pos 0) h) (rw (rw (drop_step s at (pos 0) h) at e) refl)
 
-  pub place-miss : begins-with c (drop at s) ≡ false → place-from c 0 (past s at) (drop (past s at) s) ≡ place-from c 0 at (drop at s)
-  unfolding place-from
-  place-miss e =
-      rw (drop-step s at (pos 0) h)
-      (rw (rw (drop-step s at (pos 0) h) at e)
-      (sym (place-skip c (size-at s at) (at + 1) (drop (at + 1) s)
-      ∙ ap (λ (r : List ℤ). place-from c 0 (at + 1 + size-at s at) r) (drop_past s at h)
-      ∙ ap (λ (n : ℕ). place-from c 0 n (drop (past s at) s)) (past_is s at h))))
+  pub place_miss : begins_with c (drop at s) ≡ false → place_from c 0 (past s at) (drop (past s at) s) ≡ place_from c 0 at (drop at s)
+  unfolding place_from
+  place_miss e =
+      rw (drop_step s at (pos 0) h)
+      (rw (rw (drop_step s at (pos 0) h) at e)
+      (sym (place_skip c (size_at s at) (at + 1) (drop (at + 1) s)
+      ∙ ap (λ (r : List ℤ). place_from c 0 (at + 1 + size_at s at) r) (drop_past s at h)
+      ∙ ap (λ (n : ℕ). place_from c 0 n (drop (past s at) s)) (past_is s at h))))
 
-pub place-nowhere : (c : Clause) (s : List ℤ) (at : ℕ) → length s ≤ at → Nothing ≡ place-from c 0 at (drop at s)
-unfolding place-from
-place-nowhere c s at h = rw (drop-end s at h) refl
+pub place_nowhere : (c : Clause) (s : List ℤ) (at : ℕ) → length s ≤ at → Nothing ≡ place_from c 0 at (drop at s)
+unfolding place_from
+place_nowhere c s at h = rw (drop_end s at h) refl
 
 -- it stands at q, and none of those before it has the same set
-record Hit-from (c : Clause) (k at p : ℕ) (s : List ℤ) : Type 0 where
+record HitFrom (c : Clause) (k at p : ℕ) (s : List ℤ) : Type 0 where
   pub q : ℕ
   pub place : p ≡ at + q
   pub far : k ≤ q
   pub inside : q < length s
-  pub before : Formed-from k (take q s)
-  pub stays : deleted-at s q ≡ false
-  pub same : same_set c (clause-at s q) ≡ true
-  pub none : stands c (stored-from k (take q s)) ≡ false
+  pub before : FormedFrom k (take q s)
+  pub stays : deleted_at s q ≡ false
+  pub same : same_set c (clause_at s q) ≡ true
+  pub none : stands c (stored_from k (take q s)) ≡ false
 
-hit-here : (c : Clause) (at p : ℕ) (h : ℤ) (s : List ℤ) → begins-with c (h ∷ s) ≡ true → At at ≡ At p → Hit-from c 0 at p (h ∷ s)
-unfolding stored-from stands any begins-with
-hit-here c at p (negsuc n) s m e = differ {b = true} tt (sym m)
-hit-here c at p (pos n) s m e =
+hit_here : (c : Clause) (at p : ℕ) (h : ℤ) (s : List ℤ) → begins_with c (h ∷ s) ≡ true → At at ≡ At p → HitFrom c 0 at p (h ∷ s)
+unfolding stored_from stands any begins_with
+hit_here c at p (negsuc n) s m e = differ {b = true} tt (sym m)
+hit_here c at p (pos n) s m e =
     let x : at ≡ p = cc in
     record { q = 0; place = omega arith; far = omega arith; inside = omega arith; before = tt; stays = refl; same = m; none = refl }
 
-deeper : (x : ℤ) (s : List ℤ) (q : ℕ) → clause-at (x ∷ s) (suc q) ≡ clause-at s q
-deeper x s q = let e : suc q + 1 ≡ suc (q + 1) = omega arith in ap (λ (k : ℕ). take (size-at s q) (drop k (x ∷ s))) e
+deeper : (x : ℤ) (s : List ℤ) (q : ℕ) → clause_at (x ∷ s) (suc q) ≡ clause_at s q
+deeper x s q = let e : suc q + 1 ≡ suc (q + 1) = omega arith in ap (λ (k : ℕ). take (size_at s q) (drop k (x ∷ s))) e
 
-hit_later : (c : Clause) (at p : ℕ) (h : ℤ) (s : List ℤ) → begins-with c (h ∷ s) ≡ false → Hit-from c (header-literals h) (at + 1) p s → Hit-from c 0 at p (h ∷ s)
-unfolding stored-from stands any begins-with
+hit_later : (c : Clause) (at p : ℕ) (h : ℤ) (s : List ℤ) → begins_with c (h ∷ s) ≡ false → HitFrom c (header_literals h) (at + 1) p s → HitFrom c 0 at p (h ∷ s)
+unfolding stored_from stands any begins_with
 hit_later c at p (negsuc n) s m r =
     record { q = suc r.q; place = omega (arith, r.place); far = omega arith; inside = omega (arith, r.inside); before = r.before; stays = r.stays; same = ap (same_set c) (deeper (negsuc n) s r.q) ∙ r.same; none = r.none }
 hit_later c at p (pos n) s m r = record {
@@ -92,106 +92,106 @@ hit_later c at p (pos n) s m r = record {
   none = rw (take-take n r.q s r.far, m) r.none;
 }
 
-hit-deeper : (c : Clause) (k at p : ℕ) (x : ℤ) (s : List ℤ) → Hit-from c k (at + 1) p s → Hit-from c (suc k) at p (x ∷ s)
-unfolding stored-from
-hit-deeper c k at p x s r =
+hit_deeper : (c : Clause) (k at p : ℕ) (x : ℤ) (s : List ℤ) → HitFrom c k (at + 1) p s → HitFrom c (suc k) at p (x ∷ s)
+unfolding stored_from
+hit_deeper c k at p x s r =
     record { q = suc r.q; place = omega (arith, r.place); far = omega (arith, r.far); inside = omega (arith, r.inside); before = r.before; stays = r.stays; same = ap (same_set c) (deeper x s r.q) ∙ r.same; none = r.none }
 
-hit-from : (c : Clause) (k at p : ℕ) (s : List ℤ) → place-from c k at s ≡ At p → Hit-from c k at p s
-unfolding place-from
-hit-from c zero at p [] e = absurd (let z : ◌≡◌ {A = ℕ} 0 1 = cc in omega arith)
-hit-from c (suc k) at p [] e = absurd (let z : ◌≡◌ {A = ℕ} 0 1 = cc in omega arith)
-hit-from c zero at p (h ∷ s) e = go (begins-with c (h ∷ s)) refl e (λ x. hit-from c (header-literals h) (at + 1) p s x)
+hit_from : (c : Clause) (k at p : ℕ) (s : List ℤ) → place_from c k at s ≡ At p → HitFrom c k at p s
+unfolding place_from
+hit_from c zero at p [] e = absurd (let z : ◌≡◌ {A = ℕ} 0 1 = cc in omega arith)
+hit_from c (suc k) at p [] e = absurd (let z : ◌≡◌ {A = ℕ} 0 1 = cc in omega arith)
+hit_from c zero at p (h ∷ s) e = go (begins_with c (h ∷ s)) refl e (λ x. hit_from c (header_literals h) (at + 1) p s x)
   where
-    go : (t : Bool) → begins-with c (h ∷ s) ≡ t → cond t (At at) (place-from c (header-literals h) (at + 1) s) ≡ At p →
-        (place-from c (header-literals h) (at + 1) s ≡ At p → Hit-from c (header-literals h) (at + 1) p s) → Hit-from c 0 at p (h ∷ s)
-    go true m x r = hit-here c at p h s m x
+    go : (t : Bool) → begins_with c (h ∷ s) ≡ t → cond t (At at) (place_from c (header_literals h) (at + 1) s) ≡ At p →
+        (place_from c (header_literals h) (at + 1) s ≡ At p → HitFrom c (header_literals h) (at + 1) p s) → HitFrom c 0 at p (h ∷ s)
+    go true m x r = hit_here c at p h s m x
     go false m x r = hit_later c at p h s m (r x)
-hit-from c (suc k) at p (x ∷ s) e = hit-deeper c k at p x s (hit-from c k (at + 1) p s e)
+hit_from c (suc k) at p (x ∷ s) e = hit_deeper c k at p x s (hit_from c k (at + 1) p s e)
 
 -- what is known of the place that was found
 pub record Hit (c : Clause) (p : ℕ) (s : List ℤ) : Type 0 where
   pub inside : p < length s
   pub place : Formed s → Place s p
-  pub stays : deleted-at s p ≡ false
-  pub same : same_set c (clause-at s p) ≡ true
+  pub stays : deleted_at s p ≡ false
+  pub same : same_set c (clause_at s p) ≡ true
   -- none before it has the same set
   pub none : stands c (stored (take p s)) ≡ false
 
 pub hit : (c : Clause) (s : List ℤ) (p : ℕ) → place_of c s ≡ At p → Hit c p s
 hit c s p e =
-    let r = hit-from c 0 0 p s e in
+    let r = hit_from c 0 0 p s e in
     let i : p ≡ r.q = omega (arith, r.place) in
     subst (λ (k : ℕ). Hit c k s) (sym i)
-    (record { inside = r.inside; place = λ f. place-within f (omega (arith, r.inside)) r.before; stays = r.stays; same = r.same; none = r.none })
+    (record { inside = r.inside; place = λ f. place_within f (omega (arith, r.inside)) r.before; stays = r.stays; same = r.same; none = r.none })
 
-miss-from : (c : Clause) (k at : ℕ) (s : List ℤ) → place-from c k at s ≡ Nothing → stands c (stored-from k s) ≡ false
-unfolding place-from stored-from stands any begins-with
-miss-from c zero at [] e = refl
-miss-from c (suc k) at [] e = refl
-miss-from c zero at (h ∷ s) e = go h (begins-with c (h ∷ s)) refl e (λ x. miss-from c (header-literals h) (at + 1) s x)
+miss_from : (c : Clause) (k at : ℕ) (s : List ℤ) → place_from c k at s ≡ Nothing → stands c (stored_from k s) ≡ false
+unfolding place_from stored_from stands any begins_with
+miss_from c zero at [] e = refl
+miss_from c (suc k) at [] e = refl
+miss_from c zero at (h ∷ s) e = go h (begins_with c (h ∷ s)) refl e (λ x. miss_from c (header_literals h) (at + 1) s x)
   where
-    go : (h : ℤ) (t : Bool) → begins-with c (h ∷ s) ≡ t → cond t (At at) (place-from c (header-literals h) (at + 1) s) ≡ Nothing →
-        (place-from c (header-literals h) (at + 1) s ≡ Nothing → stands c (stored-from (header-literals h) s) ≡ false) →
-        stands c (stored-from 0 (h ∷ s)) ≡ false
+    go : (h : ℤ) (t : Bool) → begins_with c (h ∷ s) ≡ t → cond t (At at) (place_from c (header_literals h) (at + 1) s) ≡ Nothing →
+        (place_from c (header_literals h) (at + 1) s ≡ Nothing → stands c (stored_from (header_literals h) s) ≡ false) →
+        stands c (stored_from 0 (h ∷ s)) ≡ false
     go h true m x r = absurd (let z : ◌≡◌ {A = ℕ} 0 1 = cc in omega arith)
     go (negsuc n) false m x r = r x
     go (pos n) false m x r = rw m (r x)
-miss-from c (suc k) at (x ∷ s) e = miss-from c k (at + 1) s e
+miss_from c (suc k) at (x ∷ s) e = miss_from c k (at + 1) s e
 
 miss : (c : Clause) (s : List ℤ) → place_of c s ≡ Nothing → stands c (stored s) ≡ false
-miss c s e = miss-from c 0 0 s e
+miss c s e = miss_from c 0 0 s e
 
 -- whether one was found is whether one stands
-hit-stands : (c : Clause) (s : List ℤ) (p : ℕ) → Formed s → place_of c s ≡ At p → stands c (stored s) ≡ true
-hit-stands c s p f e =
+hit_stands : (c : Clause) (s : List ℤ) (p : ℕ) → Formed s → place_of c s ≡ At p → stands c (stored s) ≡ true
+hit_stands c s p f e =
     let r = hit c s p e in
-    ap (stands c) (stored-around s p r.inside (r.place f) r.stays)
-    ∙ stands-past c (stored (take p s)) (clause-at s p ∷ stored (drop (past s p) s)) r.none
-    ∙ stands-head c (clause-at s p) (stored (drop (past s p) s)) r.same
+    ap (stands c) (stored_around s p r.inside (r.place f) r.stays)
+    ∙ stands_past c (stored (take p s)) (clause_at s p ∷ stored (drop (past s p) s)) r.none
+    ∙ stands_head c (clause_at s p) (stored (drop (past s p) s)) r.same
 
-pub deleted-hit : (c s t : List ℤ) (p : ℕ) → Formed s → place_of c s ≡ At p → t ≡ marked s p → Deleted c s true t
-deleted-hit c s t p f e d =
+pub deleted_hit : (c s t : List ℤ) (p : ℕ) → Formed s → place_of c s ≡ At p → t ≡ marked s p → Deleted c s true t
+deleted_hit c s t p f e d =
     let r = hit c s p e in
     let l = r.place f in
     rw d (record {
-      found = sym (hit-stands c s p f e);
-      formed = place-formed (marked-place s p r.inside l);
+      found = sym (hit_stands c s p f e);
+      formed = place_formed (marked_place s p r.inside l);
       left =
-          marked-stored s p r.inside l r.stays
-          ∙ sym (ap (take_out c) (stored-around s p r.inside l r.stays)
-          ∙ take-out-past c (stored (take p s)) (clause-at s p ∷ stored (drop (past s p) s)) r.none
-          ∙ ap (λ (a : Formula). stored (take p s) ++ a) (take-out-head c (clause-at s p) (stored (drop (past s p) s)) r.same));
+          marked_stored s p r.inside l r.stays
+          ∙ sym (ap (take_out c) (stored_around s p r.inside l r.stays)
+          ∙ take_out_past c (stored (take p s)) (clause_at s p ∷ stored (drop (past s p) s)) r.none
+          ∙ ap (λ (a : Formula). stored (take p s) ++ a) (take_out_head c (clause_at s p) (stored (drop (past s p) s)) r.same));
     })
 
-pub deleted-miss : (c s : List ℤ) → Formed s → place_of c s ≡ Nothing → Deleted c s false s
-deleted-miss c s f e = let r = miss c s e in record { found = sym r; formed = f; left = sym (take-out-none c (stored s) r) }
+pub deleted_miss : (c s : List ℤ) → Formed s → place_of c s ≡ Nothing → Deleted c s false s
+deleted_miss c s f e = let r = miss c s e in record { found = sym r; formed = f; left = sym (take_out_none c (stored s) r) }
 
 -- the best match with this entry
 module _ (c : Clause) (s : List ℤ) (at : ℕ) (h : at < length s) (best : Found) where
-  better-by : (b : Bool) → b ≡ begins-with c (drop at s) → cond b (At at) best ≡ cond (begins-with c (drop at s)) (At at) best
-  better-by b e = ap (λ (t : Bool). cond t (At at) best) e
+  better_by : (b : Bool) → b ≡ begins_with c (drop at s) → cond b (At at) best ≡ cond (begins_with c (drop at s)) (At at) best
+  better_by b e = ap (λ (t : Bool). cond t (At at) best) e
 
-  pub better-deleted : deleted-at s at ≡ true → best ≡ cond (begins-with c (drop at s)) (At at) best
-  better-deleted d = better-by false (matches-deleted s at h c d)
+  pub better_deleted : deleted_at s at ≡ true → best ≡ cond (begins_with c (drop at s)) (At at) best
+  better_deleted d = better_by false (matches_deleted s at h c d)
 
-  pub better-here : deleted-at s at ≡ false → (r : Bool) → r ≡ same_set c (clause-at s at) → r ≡ true → At at ≡ cond (begins-with c (drop at s)) (At at) best
-  better-here d r e t = better-by true (sym t ∙ e ∙ matches-stands s at h c d)
+  pub better_here : deleted_at s at ≡ false → (r : Bool) → r ≡ same_set c (clause_at s at) → r ≡ true → At at ≡ cond (begins_with c (drop at s)) (At at) best
+  better_here d r e t = better_by true (sym t ∙ e ∙ matches_stands s at h c d)
 
-  pub better-not : deleted-at s at ≡ false → (r : Bool) → r ≡ same_set c (clause-at s at) → r ≡ false → best ≡ cond (begins-with c (drop at s)) (At at) best
-  better-not d r e t = better-by false (sym t ∙ e ∙ matches-stands s at h c d)
+  pub better_not : deleted_at s at ≡ false → (r : Bool) → r ≡ same_set c (clause_at s at) → r ≡ false → best ≡ cond (begins_with c (drop at s)) (At at) best
+  better_not d r e t = better_by false (sym t ∙ e ∙ matches_stands s at h c d)
 
 -- ---- a match that no other comes before is found
 
 module _ (c : Clause) (s : List ℤ) (f : Formed s) where
-  unmatched-before : (p : ℕ) → Place s p → ((q : ℕ) → q < p → Place s q → begins-with c (drop q s) ≡ false) → place-from c 0 p (drop p s) ≡ place_of c s
-  unmatched-before p e g = by_entries s (λ (at : ℕ). at ≤ p → place-from c 0 at (drop at s) ≡ place_of c s) (λ _. refl) step p e (omega arith)
+  unmatched_before : (p : ℕ) → Place s p → ((q : ℕ) → q < p → Place s q → begins_with c (drop q s) ≡ false) → place_from c 0 p (drop p s) ≡ place_of c s
+  unmatched_before p e g = by_entries s (λ (at : ℕ). at ≤ p → place_from c 0 at (drop at s) ≡ place_of c s) (λ _. refl) step p e (omega arith)
     where
-      step : (at : ℕ) → at < length s → Place s at → (at ≤ p → place-from c 0 at (drop at s) ≡ place_of c s) → past s at ≤ p → place-from c 0 (past s at) (drop (past s at) s) ≡ place_of c s
-      step at h a r m = place-miss s at h c (g at (omega arith) a) ∙ r (omega arith)
+      step : (at : ℕ) → at < length s → Place s at → (at ≤ p → place_from c 0 at (drop at s) ≡ place_of c s) → past s at ≤ p → place_from c 0 (past s at) (drop (past s at) s) ≡ place_of c s
+      step at h a r m = place_miss s at h c (g at (omega arith) a) ∙ r (omega arith)
 
-  pub first-match : (p : ℕ) → Place s p → p < length s → begins-with c (drop p s) ≡ true → ((q : ℕ) → q < p → Place s q → begins-with c (drop q s) ≡ false) → place_of c s ≡ At p
-  first-match p e h b g = sym (unmatched-before p e g) ∙ sym (place-hit s p h c b)
+  pub first_match : (p : ℕ) → Place s p → p < length s → begins_with c (drop p s) ≡ true → ((q : ℕ) → q < p → Place s q → begins_with c (drop q s) ≡ false) → place_of c s ≡ At p
+  first_match p e h b g = sym (unmatched_before p e g) ∙ sym (place_hit s p h c b)
 
-  pub no-match : ((q : ℕ) → q < length s → Place s q → begins-with c (drop q s) ≡ false) → place_of c s ≡ Nothing
-  no-match g = sym (unmatched-before (length s) (place_end f) g) ∙ sym (place-nowhere c s (length s) (omega arith))
+  pub no_match : ((q : ℕ) → q < length s → Place s q → begins_with c (drop q s) ≡ false) → place_of c s ≡ Nothing
+  no_match g = sym (unmatched_before (length s) (place_end f) g) ∙ sym (place_nowhere c s (length s) (omega arith))

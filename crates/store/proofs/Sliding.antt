@@ -9,34 +9,34 @@ use lib.ListN.{length, take, drop, length-drop}
 use lib.Seq.{length-take-le, sets, length-sets}
 use Rattle.definition.specs.Literals.{Formula}
 use Rattle.definition.specs.Calls.{numbers_of}
-use Rattle.theory_base.proofs.Tests.{by-test}
-use Rattle.store.specs.Store.{Formed, stored-from, stored, header_at, size-at, deleted-at, clause-at, past, slid, slid-to, Compacted}
-use Rattle.theory_base.proofs.Slices.{sets-after, taken-sets}
-use Rattle.theory_base.proofs.Clauses.{numbers-none, numbers-first, numbers-++}
-use Rattle.store.proofs.Laws.{formed-++, stored-++, stored-end, formed-next, rest-deleted, rest-stands, piece, clause-length, formed-one-at, stored-one-at}
+use Rattle.theory_base.proofs.Tests.{by_test}
+use Rattle.store.specs.Store.{Formed, stored_from, stored, header_at, size_at, deleted_at, clause_at, past, slid, slid_to, Compacted}
+use Rattle.theory_base.proofs.Slices.{sets_after, taken_sets}
+use Rattle.theory_base.proofs.Clauses.{numbers_none, numbers_first, numbers-++}
+use Rattle.store.proofs.Laws.{formed-++, stored-++, stored_end, formed_next, rest_deleted, rest_stands, piece, clause_length, formed_one_at, stored_one_at}
 
 -- ---- the entry at a place, moved down
 module _ (s : List ℤ) (to from : ℕ) (l : to ≤ from) (h : from < length s) (f : Formed (drop from s)) (g : Formed (take to s)) where
   abbrev moved : List ℤ
-  moved = sets s to (take (1 + size-at s from) (drop from s))
+  moved = sets s to (take (1 + size_at s from) (drop from s))
 
-  moved_length : length (take (1 + size-at s from) (drop from s)) ≡ 1 + size-at s from
-  moved_length = length-take-le (1 + size-at s from) (drop from s) (omega (arith, (formed-next s from h f).0, length-drop from s))
+  moved_length : length (take (1 + size_at s from) (drop from s)) ≡ 1 + size_at s from
+  moved_length = length-take-le (1 + size_at s from) (drop from s) (omega (arith, (formed_next s from h f).0, length-drop from s))
 
-  moved-behind : drop (past s from) moved ≡ drop (past s from) s
-  moved-behind = sets-after (take (1 + size-at s from) (drop from s)) s to (past s from) (omega (arith, moved_length))
+  moved_behind : drop (past s from) moved ≡ drop (past s from) s
+  moved_behind = sets_after (take (1 + size_at s from) (drop from s)) s to (past s from) (omega (arith, moved_length))
 
-  moved_front : take (to + (1 + size-at s from)) moved ≡ take to s ++ header_at s from ∷ clause-at s from
+  moved_front : take (to + (1 + size_at s from)) moved ≡ take to s ++ header_at s from ∷ clause_at s from
   moved_front =
       ap (λ (k : ℕ). take (to + k) moved) (sym moved_length)
-      ∙ taken-sets (take (1 + size-at s from) (drop from s)) s to (omega (arith, moved_length, (formed-next s from h f).0))
+      ∙ taken_sets (take (1 + size_at s from) (drop from s)) s to (omega (arith, moved_length, (formed_next s from h f).0))
       ∙ ap (λ (r : List ℤ). take to s ++ r) (piece s from h)
 
-  moved-formed : Formed (take (to + (1 + size-at s from)) moved)
-  moved-formed = rw moved_front (formed-++ (take to s) _ g (formed-one-at s from h f))
+  moved_formed : Formed (take (to + (1 + size_at s from)) moved)
+  moved_formed = rw moved_front (formed-++ (take to s) _ g (formed_one_at s from h f))
 
-  moved-stored : deleted-at s from ≡ false → stored (take (to + (1 + size-at s from)) moved) ≡ stored (take to s) ++ (clause-at s from ∷ [])
-  moved-stored e = ap stored moved_front ∙ stored-++ (take to s) _ g ∙ ap (λ (r : Formula). stored (take to s) ++ r) (stored-one-at s from h f ∙ rw e refl)
+  moved_stored : deleted_at s from ≡ false → stored (take (to + (1 + size_at s from)) moved) ≡ stored (take to s) ++ (clause_at s from ∷ [])
+  moved_stored e = ap stored moved_front ∙ stored-++ (take to s) _ g ∙ ap (λ (r : Formula). stored (take to s) ++ r) (stored_one_at s from h f ∙ rw e refl)
 
 -- ---- the loop of `compact`: what stands before `to` and what stands from `from` on make up the old store
 
@@ -49,49 +49,49 @@ pub record Sliding (old s : List ℤ) (to from : ℕ) : Type 0 where
   pub same : stored (take to s) ++ stored (drop from s) ≡ stored old
   pub size : to ≡ numbers_of (stored (take to s))
 
-pub sliding-start : (s : List ℤ) → Formed s → Sliding s s 0 0
-unfolding stored-from
-sliding-start s f = record { order = omega arith; inside = omega arith; len = refl; front = tt; rest = f; same = refl; size = sym numbers-none }
+pub sliding_start : (s : List ℤ) → Formed s → Sliding s s 0 0
+unfolding stored_from
+sliding_start s f = record { order = omega arith; inside = omega arith; len = refl; front = tt; rest = f; same = refl; size = sym numbers_none }
 
 module _ (old s : List ℤ) (to from : ℕ) (i : Sliding old s to from) (h : from < length s) where
-  sliding-deleted : deleted-at s from ≡ true → Sliding old s to (past s from)
-  sliding-deleted e =
-      let f = formed-next s from h i.rest in
+  sliding_deleted : deleted_at s from ≡ true → Sliding old s to (past s from)
+  sliding_deleted e =
+      let f = formed_next s from h i.rest in
       record {
         order = omega (arith, i.order);
         inside = f.0;
         len = i.len;
         front = i.front;
         rest = f.1;
-        same = ap (λ (r : Formula). stored (take to s) ++ r) (sym (rest-deleted s from h e)) ∙ i.same;
+        same = ap (λ (r : Formula). stored (take to s) ++ r) (sym (rest_deleted s from h e)) ∙ i.same;
         size = i.size;
       }
 
-  sliding-stands : deleted-at s from ≡ false → Sliding old (moved s to from i.order h i.rest i.front) (to + (1 + size-at s from)) (past s from)
-  sliding-stands e =
-      let f = formed-next s from h i.rest in
-      let m = moved-stored s to from i.order h i.rest i.front e in
-      let b = moved-behind s to from i.order h i.rest i.front in
+  sliding_stands : deleted_at s from ≡ false → Sliding old (moved s to from i.order h i.rest i.front) (to + (1 + size_at s from)) (past s from)
+  sliding_stands e =
+      let f = formed_next s from h i.rest in
+      let m = moved_stored s to from i.order h i.rest i.front e in
+      let b = moved_behind s to from i.order h i.rest i.front in
       record {
         order = omega (arith, i.order);
         inside = simp length-sets f.0;
         len = simp length-sets i.len;
-        front = moved-formed s to from i.order h i.rest i.front;
+        front = moved_formed s to from i.order h i.rest i.front;
         rest = rw b f.1;
         same =
             ap₂ (λ (a b : Formula). a ++ b) m (ap stored b)
-            ∙ append_assoc (stored (take to s)) (clause-at s from ∷ []) (stored (drop (past s from) s))
-            ∙ ap (λ (r : Formula). stored (take to s) ++ r) (sym (rest-stands s from h e))
+            ∙ append_assoc (stored (take to s)) (clause_at s from ∷ []) (stored (drop (past s from) s))
+            ∙ ap (λ (r : Formula). stored (take to s) ++ r) (sym (rest_stands s from h e))
             ∙ i.same;
         size =
-            let a = ap numbers_of m ∙ numbers-++ (stored (take to s)) (clause-at s from ∷ []) in
-            omega (arith, a, i.size, numbers-first (clause-at s from) [], numbers-none, clause-length s from h i.rest);
+            let a = ap numbers_of m ∙ numbers-++ (stored (take to s)) (clause_at s from ∷ []) in
+            omega (arith, a, i.size, numbers_first (clause_at s from) [], numbers_none, clause_length s from h i.rest);
       }
 
-  pub sliding-turn : (t : List ℤ) (r next : ℕ) → t ≡ slid s to from → r ≡ slid-to s to from → next ≡ past s from → Sliding old t r next
-  sliding-turn t r next d k n = rw (d, k, n) (by-test (deleted-at s from) (λ e. rw e (sliding-deleted e)) (λ e. rw e (sliding-stands e)))
+  pub sliding_turn : (t : List ℤ) (r next : ℕ) → t ≡ slid s to from → r ≡ slid_to s to from → next ≡ past s from → Sliding old t r next
+  sliding_turn t r next d k n = rw (d, k, n) (by_test (deleted_at s from) (λ e. rw e (sliding_deleted e)) (λ e. rw e (sliding_stands e)))
 
-pub sliding-end : (old s : List ℤ) (to from : ℕ) → Sliding old s to from → length s ≤ from → Compacted old to s
-sliding-end old s to from i h =
-    let e : stored (take to s) ≡ stored old = sym (append-nil (stored (take to s))) ∙ ap (λ (r : Formula). stored (take to s) ++ r) (sym (stored-end s from h)) ∙ i.same in
+pub sliding_end : (old s : List ℤ) (to from : ℕ) → Sliding old s to from → length s ≤ from → Compacted old to s
+sliding_end old s to from i h =
+    let e : stored (take to s) ≡ stored old = sym (append-nil (stored (take to s))) ∙ ap (λ (r : Formula). stored (take to s) ++ r) (sym (stored_end s from h)) ∙ i.same in
     record { within = omega (arith, i.order, i.inside); formed = i.front; same = e; size = i.size ∙ ap numbers_of e }

@@ -5,7 +5,7 @@ use Rattle.definition.specs.Literals.{Clause, Formula, same_set}
 use Rattle.definition.specs.Standing.{stands, take_out}
 use Rattle.definition.specs.Calls.{numbers_of}
 use Rattle.theory_base.specs.Clauses.{Fits}
-use Rattle.literals.specs.Literal.{largest, negative, header_of, flip, header-literals}
+use Rattle.literals.specs.Literal.{largest, negative, header_of, flip, header_literals}
 use Rattle.tables.specs.Entries.{tallied}
 use Rattle.tables.specs.Counts.{Counts}
 use Rattle.store.specs.declared.Found.{Found}
@@ -14,27 +14,27 @@ use Rattle.store.specs.declared.Added.{Added}
 use Rattle.store.specs.declared.Added.TheVariants.{To, Full}
 
 -- the entries fill the list, of which the first k elements belong to the clause before
-abbrev pub Formed-from : ℕ → List ℤ → Type 0
-Formed-from zero [] = Unit {0}
-Formed-from (suc k) [] = ⊥
-Formed-from zero (h ∷ s) = Formed-from (header-literals h) s
-Formed-from (suc k) (x ∷ s) = Formed-from k s
+abbrev pub FormedFrom : ℕ → List ℤ → Type 0
+FormedFrom zero [] = Unit {0}
+FormedFrom (suc k) [] = ⊥
+FormedFrom zero (h ∷ s) = FormedFrom (header_literals h) s
+FormedFrom (suc k) (x ∷ s) = FormedFrom k s
 
 -- the entries fill the list
 abbrev pub Formed : List ℤ → Type 0
-Formed s = Formed-from 0 s
+Formed s = FormedFrom 0 s
 
 -- the standing clauses in order, where the first k elements belong to the clause before
-unfoldable pub stored-from : ℕ → List ℤ → Formula
-stored-from k [] = []
-stored-from zero (h ∷ s) =
-    let more = stored-from (header-literals h) s in
-    cond (negative h) more (take (header-literals h) s ∷ more)
-stored-from (suc k) (x ∷ s) = stored-from k s
+unfoldable pub stored_from : ℕ → List ℤ → Formula
+stored_from k [] = []
+stored_from zero (h ∷ s) =
+    let more = stored_from (header_literals h) s in
+    cond (negative h) more (take (header_literals h) s ∷ more)
+stored_from (suc k) (x ∷ s) = stored_from k s
 
 -- what stands in a store
 abbrev pub stored : List ℤ → Formula
-stored s = stored-from 0 s
+stored s = stored_from 0 s
 
 -- a clause as it stands in a store
 abbrev pub entry : Clause → List ℤ
@@ -45,26 +45,26 @@ entry c = header_of (length c) ∷ c
 abbrev pub header_at : List ℤ → ℕ → ℤ
 header_at s at = get_or s at (pos 0)
 
-abbrev pub size-at : List ℤ → ℕ → ℕ
-size-at s at = header-literals (header_at s at)
+abbrev pub size_at : List ℤ → ℕ → ℕ
+size_at s at = header_literals (header_at s at)
 
-abbrev pub deleted-at : List ℤ → ℕ → Bool
-deleted-at s at = negative (header_at s at)
+abbrev pub deleted_at : List ℤ → ℕ → Bool
+deleted_at s at = negative (header_at s at)
 
-abbrev pub clause-at : List ℤ → ℕ → Clause
-clause-at s at = take (size-at s at) (drop (at + 1) s)
+abbrev pub clause_at : List ℤ → ℕ → Clause
+clause_at s at = take (size_at s at) (drop (at + 1) s)
 
 -- the place past it
 abbrev pub past : List ℤ → ℕ → ℕ
-past s at = at + (1 + size-at s at)
+past s at = at + (1 + size_at s at)
 
 -- the store with the clause at a place deleted, or standing again
 abbrev pub marked : List ℤ → ℕ → List ℤ
 marked s at = set s at (flip (header_at s at))
 
 -- a table of counts with the clause at a place, if it stands
-abbrev pub tallied-at : List ℕ → List ℤ → ℕ → List ℕ
-tallied-at t s at = cond (deleted-at s at) t (tallied t (clause-at s at))
+abbrev pub tallied_at : List ℕ → List ℤ → ℕ → List ℕ
+tallied_at t s at = cond (deleted_at s at) t (tallied t (clause_at s at))
 
 -- an entry begins at the place, or the store ends there
 pub record Place (s : List ℤ) (at : ℕ) : Type 0 where
@@ -81,22 +81,22 @@ pub record Counted (h : ℕ) (s : List ℤ) (t : List ℕ) : Type 0 where
 -- ---- the first standing clause with the same set of literals
 
 -- the clause that a store begins with stands and has the literals of c
-unfoldable pub begins-with : Clause → List ℤ → Bool
-begins-with c [] = false
-begins-with c (h ∷ s) =
-    let same = same_set c (take (header-literals h) s) in
+unfoldable pub begins_with : Clause → List ℤ → Bool
+begins_with c [] = false
+begins_with c (h ∷ s) =
+    let same = same_set c (take (header_literals h) s) in
     cond (negative h) false same
 
 -- its place, counted from at, where the first k elements belong to the clause before
-unfoldable pub place-from : Clause → ℕ → ℕ → List ℤ → Found
-place-from c k at [] = Nothing
-place-from c zero at (h ∷ s) =
-    let more = place-from c (header-literals h) (at + 1) s in
-    cond (begins-with c (h ∷ s)) (At at) more
-place-from c (suc k) at (x ∷ s) = place-from c k (at + 1) s
+unfoldable pub place_from : Clause → ℕ → ℕ → List ℤ → Found
+place_from c k at [] = Nothing
+place_from c zero at (h ∷ s) =
+    let more = place_from c (header_literals h) (at + 1) s in
+    cond (begins_with c (h ∷ s)) (At at) more
+place_from c (suc k) at (x ∷ s) = place_from c k (at + 1) s
 
 abbrev pub place_of : Clause → List ℤ → Found
-place_of c s = place-from c 0 0 s
+place_of c s = place_from c 0 0 s
 
 -- the first standing clause with the literals of c is taken out; r says whether there was one
 pub record Deleted (c : Clause) (old : List ℤ) (r : Bool) (new : List ℤ) : Type 0 where
@@ -113,15 +113,15 @@ fits_in size end c = leb (length c) largest && leb (length c + 1) (size - end)
 abbrev pub end_after : ℕ → ℕ → Clause → Added
 end_after size end c = cond (fits_in size end c) (To (end + (length c + 1))) Full
 
-abbrev pub with-entry : List ℤ → ℕ → Clause → List ℤ
-with-entry s end c = cond (fits_in (length s) end c) (sets s end (entry c)) s
+abbrev pub with_entry : List ℤ → ℕ → Clause → List ℤ
+with_entry s end c = cond (fits_in (length s) end c) (sets s end (entry c)) s
 
 -- the clause at `from` moved down to `to` if it stands, and the place past it then
 abbrev pub slid : List ℤ → ℕ → ℕ → List ℤ
-slid s to from = cond (deleted-at s from) s (sets s to (take (1 + size-at s from) (drop from s)))
+slid s to from = cond (deleted_at s from) s (sets s to (take (1 + size_at s from) (drop from s)))
 
-abbrev pub slid-to : List ℤ → ℕ → ℕ → ℕ
-slid-to s to from = cond (deleted-at s from) to (to + (1 + size-at s from))
+abbrev pub slid_to : List ℤ → ℕ → ℕ → ℕ
+slid_to s to from = cond (deleted_at s from) to (to + (1 + size_at s from))
 
 -- the standing clauses fill the first r elements
 pub record Compacted (old : List ℤ) (r : ℕ) (new : List ℤ) : Type 0 where
@@ -135,5 +135,5 @@ sample : List ℤ
 sample = pos 2 ∷ pos 1 ∷ negsuc 1 ∷ negsuc 1 ∷ negsuc 2 ∷ pos 1 ∷ pos 4 ∷ []
 
 examples : (stored sample ≡ (pos 1 ∷ negsuc 1 ∷ []) ∷ (pos 4 ∷ []) ∷ []) × (place_of (pos 4 ∷ []) sample ≡ At 5) × (place_of (negsuc 2 ∷ []) sample ≡ Nothing)
-unfolding sample stored-from place-from begins-with Rattle.definition.specs.Literals.computing Rattle.definition.specs.Lists.computing
+unfolding sample stored_from place_from begins_with Rattle.definition.specs.Literals.computing Rattle.definition.specs.Lists.computing
 examples = (refl, refl, refl)

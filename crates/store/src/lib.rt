@@ -2,11 +2,11 @@
 ghost use Rattle.std.specs.Prelude.{◌≡◌, cond, ◌+◌, ◌≤◌, ◌<◌, ◌^◌, length, set, take, drop};
 ghost use Rattle.std.proofs.lemmas.List.Edits.{sets};
 ghost use Rattle.definition.specs.Lists.{all};
-ghost use Rattle.definition.specs.Literals.{holds as holds-literal, same_set as same-literals};
+ghost use Rattle.definition.specs.Literals.{holds as holds_literal, same_set as same_literals};
 ghost use Rattle.definition.specs.Calls.{numbers_of};
-ghost use Rattle.tables.specs.Entries.{tallied-all};
+ghost use Rattle.tables.specs.Entries.{tallied_all};
 ghost use Rattle.store.specs.declared.Found.TheVariants.{At};
-ghost use Rattle.store.specs.Store.{Formed, stored, past, marked, tallied-at, begins-with, place_of, end_after, with-entry, slid, slid-to, Compacted};
+ghost use Rattle.store.specs.Store.{Formed, stored, past, marked, tallied_at, begins_with, place_of, end_after, with_entry, slid, slid_to, Compacted};
 
 #[derive(Drop)]
 pub enum Found {
@@ -46,7 +46,7 @@ pub fn clause_part<'a>(
 
 // Whether a literal is in a clause.
 fn holds(clause: &[i32], l: i32) -> bool
-    ensures { result ≡ holds-literal l clause.now }
+    ensures { result ≡ holds_literal l clause.now }
 {
     let mut i = 0;
     while i < clause.len() {
@@ -60,7 +60,7 @@ fn holds(clause: &[i32], l: i32) -> bool
 
 // Whether every literal of a clause is in another.
 fn all_in(a: &[i32], b: &[i32]) -> bool
-    ensures { result ≡ all (λ l. holds-literal l b.now) a.now }
+    ensures { result ≡ all (λ l. holds_literal l b.now) a.now }
 {
     let mut i = 0;
     while i < a.len() {
@@ -75,7 +75,7 @@ fn all_in(a: &[i32], b: &[i32]) -> bool
 
 // Whether two clauses have the same set of literals.
 fn same_set(a: &[i32], b: &[i32]) -> bool
-    ensures { result ≡ same-literals a.now b.now }
+    ensures { result ≡ same_literals a.now b.now }
 {
     if all_in(a, b) { all_in(b, a) } else { false }
 }
@@ -94,7 +94,7 @@ pub fn next_at(store: &[i32], at: usize) -> usize
 fn matches(store: &[i32], at: usize, clause: &[i32]) -> bool
     requires at_in_bounds { at < length store.now }
     requires formed { Formed (drop at store.now) }
-    ensures { result ≡ begins-with clause.now (drop at store.now) }
+    ensures { result ≡ begins_with clause.now (drop at store.now) }
 {
     if literals::is_negative(store[at]) {
         return false;
@@ -122,7 +122,7 @@ pub fn find_same_set(store: &[i32], clause: &[i32]) -> Found
 // The clause at a place if it stands and has the same set of literals, else the best match so far.
 pub fn better(store: &[i32], at: usize, clause: &[i32], best: Found) -> Found
     requires { (at < length store.now) × Formed (drop at store.now) }
-    ensures { result ≡ cond (begins-with clause.now (drop at store.now)) (At at) best }
+    ensures { result ≡ cond (begins_with clause.now (drop at store.now)) (At at) best }
 {
     if literals::is_negative(store[at]) {
         return best;
@@ -171,7 +171,7 @@ pub fn copy_at(store: &mut [i32], at: usize, elements: &[i32])
 pub fn append_clause(work: &mut [i32], end: usize, clause: &[i32]) -> Added
     requires { end ≤ length work.old }
     ensures end { result ≡ end_after (length work.old) end clause.now }
-    ensures written { work.new ≡ with-entry work.old end clause.now }
+    ensures written { work.new ≡ with_entry work.old end clause.now }
 {
     let n = clause.len();
     if 2147483647 < n {
@@ -203,7 +203,7 @@ fn move_down(store: &mut [i32], to: usize, from: usize, n: usize)
 // Moves the clause at a place down if it stands; the result is the place past it.
 fn slide(store: &mut [i32], to: usize, from: usize) -> usize
     requires { (to ≤ from) × (from < length store.old) × Formed (drop from store.old) }
-    ensures next { result ≡ slid-to store.old to from }
+    ensures next { result ≡ slid_to store.old to from }
     ensures moved { store.new ≡ slid store.old to from }
 {
     if literals::is_negative(store[from]) {
@@ -234,7 +234,7 @@ pub fn compact(store: &mut [i32]) -> usize
 // Counts the literals of the clause at a place if it stands.
 fn count_entry(table: &mut [u32], store: &[i32], at: usize)
     requires { (at < length store.now) × Formed (drop at store.now) }
-    ensures { table.new ≡ tallied-at table.old store.now at }
+    ensures { table.new ≡ tallied_at table.old store.now at }
 {
     if literals::is_negative(store[at]) {
         return;
@@ -247,7 +247,7 @@ fn count_entry(table: &mut [u32], store: &[i32], at: usize)
 // Counts the literals of the standing clauses.
 pub fn count_all(table: &mut [u32], store: &[i32])
     requires { Formed store.now }
-    ensures { table.new ≡ tallied-all table.old (stored store.now) }
+    ensures { table.new ≡ tallied_all table.old (stored store.now) }
 {
     let mut at = 0;
     while at < store.len() {

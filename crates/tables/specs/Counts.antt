@@ -2,7 +2,7 @@
 use Rattle.std.specs.Prelude.{◌≡◌, Bool, not, ◌&&◌, List, ℕ, ◌≤◌, eqb, ltb, ℤ, nat_abs, length}
 use Rattle.definition.specs.Lists.{all}
 use Rattle.definition.specs.Literals.{Clause, Formula}
-use Rattle.definition.specs.Clearing.{times, choice-size}
+use Rattle.definition.specs.Clearing.{times, choice_size}
 use Rattle.literals.specs.Literal.{negation}
 use Rattle.tables.specs.Entries.{entry_of}
 
@@ -11,21 +11,21 @@ abbrev pub Counts : ℕ → List ℕ → Formula → Type 0
 Counts h t F = (l : ℤ) → nat_abs l ≤ h → entry_of t l ≡ times l F
 
 -- l stands in one clause
-abbrev pub once-in : List ℕ → ℤ → Bool
-once-in t l = eqb (entry_of t l) 1
+abbrev pub once_in : List ℕ → ℤ → Bool
+once_in t l = eqb (entry_of t l) 1
 
 -- l's negation stands nowhere
-abbrev pub pure-in : List ℕ → ℤ → Bool
-pure-in t l = eqb (entry_of t (negation l)) 0
+abbrev pub pure_in : List ℕ → ℤ → Bool
+pure_in t l = eqb (entry_of t (negation l)) 0
 
 -- c is a unique literal clause
-abbrev pub unique-by : List ℕ → Clause → Bool
-unique-by t c = ltb 0 (length c) && all (once-in t) c
+abbrev pub unique_by : List ℕ → Clause → Bool
+unique_by t c = ltb 0 (length c) && all (once_in t) c
 
 -- c is a choice
-abbrev pub choice-by : List ℕ → Clause → Bool
-choice-by t c = choice-size c && unique-by t c
+abbrev pub choice_by : List ℕ → Clause → Bool
+choice_by t c = choice_size c && unique_by t c
 
 -- c is deleted if it has a pure literal
-abbrev pub deletable-by : List ℕ → Clause → Bool
-deletable-by t c = unique-by t c && not (choice-size c)
+abbrev pub deletable_by : List ℕ → Clause → Bool
+deletable_by t c = unique_by t c && not (choice_size c)

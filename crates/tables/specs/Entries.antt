@@ -18,14 +18,14 @@ abbrev pub most : ℕ
 most = 4294967295
 
 -- one more at an index, up to the largest u32
-abbrev pub counted-at : List ℕ → ℕ → List ℕ
-counted-at t i = set t i (min (get_or t i 0 + 1) most)
+abbrev pub counted_at : List ℕ → ℕ → List ℕ
+counted_at t i = set t i (min (get_or t i 0 + 1) most)
 
 -- one more for each literal of a clause, of a formula
 unfoldable pub tallied : List ℕ → Clause → List ℕ
 tallied t [] = t
-tallied t (l ∷ c) = tallied (counted-at t (index_of l)) c
+tallied t (l ∷ c) = tallied (counted_at t (index_of l)) c
 
-unfoldable pub tallied-all : List ℕ → Formula → List ℕ
-tallied-all t [] = t
-tallied-all t (c ∷ f) = tallied-all (tallied t c) f
+unfoldable pub tallied_all : List ℕ → Formula → List ℕ
+tallied_all t [] = t
+tallied_all t (c ∷ f) = tallied_all (tallied t c) f

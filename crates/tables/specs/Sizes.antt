@@ -2,18 +2,18 @@
 use Rattle.std.specs.Prelude.{◌≡◌, refl, ℕ, ◌+◌}
 
 -- an input's variables
-abbrev pub input-reach : ℕ
-input-reach = 8000
+abbrev pub input_reach : ℕ
+input_reach = 8000
 
-abbrev pub input-size : ℕ
-input-size = 16002
+abbrev pub input_size : ℕ
+input_size = 16002
 
 -- a log's variables
-abbrev pub log-reach : ℕ
-log-reach = 70000
+abbrev pub log_reach : ℕ
+log_reach = 70000
 
-abbrev pub log-size : ℕ
-log-size = 140002
+abbrev pub log_size : ℕ
+log_size = 140002
 
-examples : (input-size ≡ input-reach + input-reach + 2) × (log-size ≡ log-reach + log-reach + 2)
+examples : (input_size ≡ input_reach + input_reach + 2) × (log_size ≡ log_reach + log_reach + 2)
 examples = (refl, refl)

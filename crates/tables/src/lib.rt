@@ -2,13 +2,13 @@
 ghost use Rattle.std.specs.Prelude.{◌≡◌, ◌≤◌, ◌<◌, ◌^◌, nat_abs, length, get_or, set};
 ghost use Rattle.definition.specs.Lists.{all, sum_of};
 ghost use Rattle.definition.specs.Literals.{Clause};
-ghost use Rattle.definition.specs.Clearing.{choice-size};
+ghost use Rattle.definition.specs.Clearing.{choice_size};
 ghost use Rattle.literals.specs.Literal.{index_of};
-ghost use Rattle.tables.specs.Sizes.{log-reach, log-size};
-ghost use Rattle.tables.specs.Entries.{entry_of as entry-at-literal, with_entries, counted-at, tallied};
-ghost use Rattle.tables.specs.Counts.{once-in, pure-in, unique-by, choice-by, deletable-by};
-ghost use Rattle.tables.specs.Places.{with-numbers, place_in};
-ghost use Rattle.tables.specs.Stamps.{Marks, Fresh, At-most, Mark-post};
+ghost use Rattle.tables.specs.Sizes.{log_reach, log_size};
+ghost use Rattle.tables.specs.Entries.{entry_of as entry_at_literal, with_entries, counted_at, tallied};
+ghost use Rattle.tables.specs.Counts.{once_in, pure_in, unique_by, choice_by, deletable_by};
+ghost use Rattle.tables.specs.Places.{with_numbers, place_in};
+ghost use Rattle.tables.specs.Stamps.{Marks, Fresh, AtMost, MarkPost};
 
 // The highest variable of an input, and the size of a table that reaches it.
 pub const INPUT_REACH: u32 = 8000;
@@ -43,7 +43,7 @@ pub fn set_at(table: &mut [u32], i: usize, value: u32)
 
 // The entry of a literal.
 pub fn entry_of(table: &[u32], l: i32) -> u32
-    ensures { result ≡ entry-at-literal table.now l }
+    ensures { result ≡ entry_at_literal table.now l }
 {
     entry_at(table, literals::literal_index(l))
 }
@@ -68,8 +68,8 @@ pub fn set_entries(table: &mut [u32], clause: &[i32], value: u32)
 
 // The entries of a clause's literals, added up.
 pub fn sum_entries(table: &[u32], clause: &[i32]) -> u32
-    requires { sum_of (entry-at-literal table.now) clause.now < 2 ^ 32 }
-    ensures { result ≡ sum_of (entry-at-literal table.now) clause.now }
+    requires { sum_of (entry_at_literal table.now) clause.now < 2 ^ 32 }
+    ensures { result ≡ sum_of (entry_at_literal table.now) clause.now }
 {
     let mut sum = 0;
     let mut i = 0;
@@ -83,7 +83,7 @@ pub fn sum_entries(table: &[u32], clause: &[i32]) -> u32
 // Sets the entry of each literal of a clause to its place there, from 1 on.
 pub fn set_places(table: &mut [u32], clause: &[i32])
     requires { length clause.now < 2 ^ 32 }
-    ensures { table.new ≡ with-numbers table.old 1 clause.now }
+    ensures { table.new ≡ with_numbers table.old 1 clause.now }
 {
     let mut i = 0;
     while i < clause.len() {
@@ -103,7 +103,7 @@ pub fn place_of(table: &[u32], l: i32) -> u32
 
 // One more at an index, and no more than the largest u32.
 pub fn count_at(table: &mut [u32], i: usize)
-    ensures { table.new ≡ counted-at table.old i }
+    ensures { table.new ≡ counted_at table.old i }
 {
     let n = entry_at(table, i);
     if n < LARGEST {
@@ -124,21 +124,21 @@ pub fn count_clause(table: &mut [u32], clause: &[i32])
 
 // Whether a literal stands in one clause.
 fn is_once(counts: &[u32], l: i32) -> bool
-    ensures { result ≡ once-in counts.now l }
+    ensures { result ≡ once_in counts.now l }
 {
     entry_of(counts, l) == 1
 }
 
 // Whether a literal's negation stands nowhere.
 pub fn is_pure(counts: &[u32], l: i32) -> bool
-    ensures { result ≡ pure-in counts.now l }
+    ensures { result ≡ pure_in counts.now l }
 {
     entry_of(counts, literals::negated(l)) == 0
 }
 
 // Whether each literal of a clause stands in one clause.
 fn all_once(counts: &[u32], clause: &[i32]) -> bool
-    ensures { result ≡ all (once-in counts.now) clause.now }
+    ensures { result ≡ all (once_in counts.now) clause.now }
 {
     let mut i = 0;
     while i < clause.len() {
@@ -153,7 +153,7 @@ fn all_once(counts: &[u32], clause: &[i32]) -> bool
 
 // Whether a clause is a unique literal clause.
 pub fn is_unique(counts: &[u32], clause: &[i32]) -> bool
-    ensures { result ≡ unique-by counts.now clause.now }
+    ensures { result ≡ unique_by counts.now clause.now }
 {
     if 0 < clause.len() {
         all_once(counts, clause)
@@ -164,7 +164,7 @@ pub fn is_unique(counts: &[u32], clause: &[i32]) -> bool
 
 // Whether a clause has as many literals as a choice.
 fn is_choice_size(clause: &[i32]) -> bool
-    ensures { result ≡ choice-size clause.now }
+    ensures { result ≡ choice_size clause.now }
 {
     if clause.len() < 5 {
         return false;
@@ -174,7 +174,7 @@ fn is_choice_size(clause: &[i32]) -> bool
 
 // Whether a clause is a choice.
 pub fn is_choice(counts: &[u32], clause: &[i32]) -> bool
-    ensures { result ≡ choice-by counts.now clause.now }
+    ensures { result ≡ choice_by counts.now clause.now }
 {
     if is_choice_size(clause) {
         is_unique(counts, clause)
@@ -185,7 +185,7 @@ pub fn is_choice(counts: &[u32], clause: &[i32]) -> bool
 
 // Whether a clause is deleted if it has a pure literal: a unique literal clause that is no choice.
 pub fn is_deletable(counts: &[u32], clause: &[i32]) -> bool
-    ensures { result ≡ deletable-by counts.now clause.now }
+    ensures { result ≡ deletable_by counts.now clause.now }
 {
     if is_choice_size(clause) {
         false
@@ -206,9 +206,9 @@ pub enum Marked {
 
 // Marks a literal with the stamp of its clause or line if it is new there; says whether it is.
 pub fn mark(seen: &mut [u32], stamp: u32, l: i32) -> Marked
-    requires l_bound { nat_abs l ≤ log-reach }
-    requires log_size_in_bounds { log-size ≤ length seen.old }
-    ensures { (here : Clause) → Marks seen.old stamp here → Mark-post here l seen.new stamp result }
+    requires l_bound { nat_abs l ≤ log_reach }
+    requires log_size_in_bounds { log_size ≤ length seen.old }
+    ensures { (here : Clause) → Marks seen.old stamp here → MarkPost here l seen.new stamp result }
 {
     if entry_of(seen, l) == stamp {
         return Marked::Repeated;
@@ -222,7 +222,7 @@ pub fn mark(seen: &mut [u32], stamp: u32, l: i32) -> Marked
 
 // Makes every entry 0.
 pub fn clear(seen: &mut [u32])
-    ensures { At-most seen.new 0 }
+    ensures { AtMost seen.new 0 }
 {
     let mut i = 0;
     while i < seen.len() {
@@ -233,7 +233,7 @@ pub fn clear(seen: &mut [u32])
 
 // The stamp for the next clause or line: one more, or 1 in a table made zero after the largest.
 pub fn next_stamp(seen: &mut [u32], stamp: u32) -> u32
-    requires { At-most seen.old stamp }
+    requires { AtMost seen.old stamp }
     ensures { Fresh seen.new result }
 {
     if stamp < LARGEST {

@@ -8,18 +8,18 @@ use lib.ListN.{length, set, take, drop, length-append}
 use lib.Seq.{sets, sets-eq, length-sets, take_at, length-take-le}
 use mir.Syntax.{w32}
 use mir.Val.{SFits}
-use Rattle.definition.specs.Text.{Bytes, digits, literal-text}
+use Rattle.definition.specs.Text.{Bytes, digits, literal_text}
 use Rattle.theory_base.proofs.Tests.{differ}
 use Rattle.literals.specs.Literal.{negative}
 use mathlib.Core.Bool.{true, false}
 use Rattle.text.specs.Output.{Put}
-use Rattle.theory_base.proofs.Slices.{sets_then, sets_first, sets-past, sets-rest}
-use Rattle.theory_base.proofs.Digits.{digits-one, digits_more, count-one, count-more, digits-within}
+use Rattle.theory_base.proofs.Slices.{sets_then, sets_first, sets_past, sets_rest}
+use Rattle.theory_base.proofs.Digits.{digits_one, digits_more, count_one, count_more, digits_within}
 
 -- ---- nothing, one byte, one text after another
 
-pub put-none : (l : Bytes) (at : ℕ) → Put l at [] at l
-put-none l at = record { next = omega arith; kept = refl }
+pub put_none : (l : Bytes) (at : ℕ) → Put l at [] at l
+put_none l at = record { next = omega arith; kept = refl }
 
 pub put_then : {l m n : Bytes} {at r q : ℕ} {xs ys : Bytes} → Put l at xs r m → Put m r ys q n → Put l at (xs ++ ys) q n
 put_then {l} {m} {n} {at} {r} {q} {xs} {ys} p s = record {
@@ -28,8 +28,8 @@ put_then {l} {m} {n} {at} {r} {q} {xs} {ys} p s = record {
 }
 
 -- past the buffer's end nothing is stored
-pub put-past : (l : Bytes) (at : ℕ) (xs : Bytes) {r : ℕ} → length l ≤ at → r ≡ at + length xs → Put l at xs r l
-put-past l at xs h e = record { next = e; kept = sym (sets-past xs l at h) }
+pub put_past : (l : Bytes) (at : ℕ) (xs : Bytes) {r : ℕ} → length l ≤ at → r ≡ at + length xs → Put l at xs r l
+put_past l at xs h e = record { next = e; kept = sym (sets_past xs l at h) }
 
 -- the bytes are the same
 pub put_same : {l n : Bytes} {at r : ℕ} {xs ys : Bytes} → Put l at xs r n → xs ≡ ys → Put l at ys r n
@@ -38,22 +38,22 @@ put_same p e = rw e at p
 -- ---- what the buffer holds then
 
 module _ {l n xs : Bytes} {at r : ℕ} (p : Put l at xs r n) where
-  pub put-length : length n ≡ length l
-  put-length = ap length p.kept ∙ length-sets l at xs
+  pub put_length : length n ≡ length l
+  put_length = ap length p.kept ∙ length-sets l at xs
 
   -- where all fits, the text stands there
-  pub put-fits : r ≤ length l → n ≡ take at l ++ xs ++ drop r l
-  put-fits h =
+  pub put_fits : r ≤ length l → n ≡ take at l ++ xs ++ drop r l
+  put_fits h =
       p.kept ∙ sets-eq xs l at (omega (arith, p.next)) ∙ ap (λ (k : ℕ). take at l ++ xs ++ drop k l) (sym p.next)
 
-  pub put-read : r ≤ length l → take r n ≡ take at l ++ xs
-  put-read h =
-      ap (take r) (put-fits h)
+  pub put_read : r ≤ length l → take r n ≡ take at l ++ xs
+  put_read h =
+      ap (take r) (put_fits h)
       ∙ take_at (take at l ++ xs) (drop r l) r (omega (arith, p.next, length-append (take at l) xs, length-take-le at l (omega (arith, p.next))))
 
 -- a text in `&mut l[a..]` is one in l
-pub put-part : {l n xs : Bytes} {at r : ℕ} (a : ℕ) → Put (take (length l - a) (drop a l)) at xs r n → Put l (a + at) xs (a + r) (take a l ++ (n ++ drop (length l - a) (drop a l)))
-put-part {l} {n} {xs} {at} a p = record { next = omega (arith, p.next); kept = sets-rest xs l n a at p.kept }
+pub put_part : {l n xs : Bytes} {at r : ℕ} (a : ℕ) → Put (take (length l - a) (drop a l)) at xs r n → Put l (a + at) xs (a + r) (take a l ++ (n ++ drop (length l - a) (drop a l)))
+put_part {l} {n} {xs} {at} a p = record { next = omega (arith, p.next); kept = sets_rest xs l n a at p.kept }
 
 -- ---- a number, its last digit first
 
@@ -67,24 +67,24 @@ pub record Writing (old : Bytes) (at n k m : ℕ) (new : Bytes) : Type 0 where
 pub writing_start : (l : Bytes) (at n : ℕ) → Writing l at n (at + length (digits n)) n l
 writing_start l at n = record { tail = []; split = sym (append-nil (digits n)); place = refl; stored = refl }
 
-pub writing-room : {l x : Bytes} {at n k m : ℕ} → Writing l at n k m x → 10 ≤ m → 1 ≤ k
-writing-room {m = m} w h = omega (arith, w.place, count-more m h)
+pub writing_room : {l x : Bytes} {at n k m : ℕ} → Writing l at n k m x → 10 ≤ m → 1 ≤ k
+writing_room {m = m} w h = omega (arith, w.place, count_more m h)
 
 pub writing_step : {l x : Bytes} {at n k m : ℕ} → Writing l at n k m x → 10 ≤ m → Writing l at n (k - 1) (m / 10) (set x (k - 1) (48 + m % 10))
 writing_step {l} {x} {at} {n} {k} {m} w h = record {
   tail = (48 + m % 10) ∷ w.tail;
   split = w.split ∙ ap (λ (d : Bytes). d ++ w.tail) (digits_more m h) ∙ append_assoc (digits (m / 10)) _ w.tail;
-  place = omega (arith, w.place, count-more m h);
-  stored = ap (λ (d : Bytes). set d (k - 1) (48 + m % 10)) (w.stored ∙ ap (λ (j : ℕ). sets l j w.tail) (later w.place (count-more m h))) ∙ sets_first w.tail l (k - 1) (48 + m % 10);
+  place = omega (arith, w.place, count_more m h);
+  stored = ap (λ (d : Bytes). set d (k - 1) (48 + m % 10)) (w.stored ∙ ap (λ (j : ℕ). sets l j w.tail) (later w.place (count_more m h))) ∙ sets_first w.tail l (k - 1) (48 + m % 10);
 }
   where
     later : k ≡ at + length (digits m) → length (digits m) ≡ length (digits (m / 10)) + 1 → k ≡ suc (k - 1)
     later p q = omega arith
 
-pub writing-end : {l x : Bytes} {at n k m : ℕ} → Writing l at n k m x → m < 10 → Put l at (digits n) (at + length (digits n)) (set x at (48 + m))
-writing-end {l} {x} {at} {n} {k} {m} w h = record {
+pub writing_end : {l x : Bytes} {at n k m : ℕ} → Writing l at n k m x → m < 10 → Put l at (digits n) (at + length (digits n)) (set x at (48 + m))
+writing_end {l} {x} {at} {n} {k} {m} w h = record {
   next = refl;
-  kept = ap (λ (d : Bytes). set d at (48 + m)) (w.stored ∙ ap (λ (j : ℕ). sets l j w.tail) (first w.place (count-one m h))) ∙ sets_first w.tail l at (48 + m) ∙ ap (sets l at) (sym (w.split ∙ ap (λ (d : Bytes). d ++ w.tail) (digits-one m h)));
+  kept = ap (λ (d : Bytes). set d at (48 + m)) (w.stored ∙ ap (λ (j : ℕ). sets l j w.tail) (first w.place (count_one m h))) ∙ sets_first w.tail l at (48 + m) ∙ ap (sets l at) (sym (w.split ∙ ap (λ (d : Bytes). d ++ w.tail) (digits_one m h)));
 }
   where
     first : k ≡ at + length (digits m) → length (digits m) ≡ 1 → k ≡ suc at
@@ -92,21 +92,21 @@ writing-end {l} {x} {at} {n} {k} {m} w h = record {
 
 -- ---- a literal
 
-pub negative-text : (l : ℤ) → negative l ≡ true → (45 ∷ []) ++ digits (nat_abs l) ≡ literal-text l
-unfolding literal-text
-negative-text (pos n) e = differ {b = true} tt (sym e)
-negative-text (negsuc n) e = refl
+pub negative_text : (l : ℤ) → negative l ≡ true → (45 ∷ []) ++ digits (nat_abs l) ≡ literal_text l
+unfolding literal_text
+negative_text (pos n) e = differ {b = true} tt (sym e)
+negative_text (negsuc n) e = refl
 
-pub positive-text : (l : ℤ) → negative l ≡ false → digits (nat_abs l) ≡ literal-text l
-unfolding literal-text
-positive-text (pos n) e = refl
-positive-text (negsuc n) e = differ {b = true} tt e
+pub positive_text : (l : ℤ) → negative l ≡ false → digits (nat_abs l) ≡ literal_text l
+unfolding literal_text
+positive_text (pos n) e = refl
+positive_text (negsuc n) e = differ {b = true} tt e
 
 -- how long the texts are that the functions write
-pub number-length : (n : ℕ) → n < 2 ^ 32 → length (digits n) ≤ 10
-number-length n h = digits-within 9 n (omega arith)
+pub number_length : (n : ℕ) → n < 2 ^ 32 → length (digits n) ≤ 10
+number_length n h = digits_within 9 n (omega arith)
 
-pub literal-length : (l : ℤ) → SFits w32 l → length (literal-text l) ≤ 11
-unfolding literal-text
-literal-length (pos n) f = omega (arith, number-length n (omega arith))
-literal-length (negsuc n) f = omega (arith, number-length (suc n) (omega arith))
+pub literal_length : (l : ℤ) → SFits w32 l → length (literal_text l) ≤ 11
+unfolding literal_text
+literal_length (pos n) f = omega (arith, number_length n (omega arith))
+literal_length (negsuc n) f = omega (arith, number_length (suc n) (omega arith))

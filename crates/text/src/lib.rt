@@ -1,21 +1,21 @@
 // Bytes to words, lines and numbers; numbers and clauses to bytes.
 ghost use Rattle.std.specs.Prelude.{◌≡◌, true, false, [], ◌∷◌, ◌++◌, ◌+◌, ◌*◌, ◌-◌, ◌≤◌, ◌<◌, ◌^◌, min, length, drop, set, replicate};
-ghost use Rattle.definition.specs.Text.{bytes, blank, digit, digits, literal-text, natural, number};
-ghost use Rattle.definition.specs.Answer.{begins-with, space-or-tab};
-ghost use Rattle.definition.specs.Log.{clause-text};
-ghost use Rattle.theory_text.specs.Runs.{in-run, leading};
-ghost use Rattle.theory_text.specs.ClauseText.{literals-text};
-ghost use Rattle.theory_text.specs.TextLines.{Line-end, Trimmed};
-ghost use Rattle.text.specs.Numbers.{all_digits, natural-class, number-class, with-sign};
+ghost use Rattle.definition.specs.Text.{bytes, blank, digit, digits, literal_text, natural, number};
+ghost use Rattle.definition.specs.Answer.{begins_with, space_or_tab};
+ghost use Rattle.definition.specs.Log.{clause_text};
+ghost use Rattle.theory_text.specs.Runs.{in_run, leading};
+ghost use Rattle.theory_text.specs.ClauseText.{literals_text};
+ghost use Rattle.theory_text.specs.TextLines.{LineEnd, Trimmed};
+ghost use Rattle.text.specs.Numbers.{all_digits, natural_class, number_class, with_sign};
 ghost use Rattle.text.specs.Words.{separator, word_at};
-ghost use Rattle.text.specs.Lines.{Line-says};
+ghost use Rattle.text.specs.Lines.{LineSays};
 ghost use Rattle.text.specs.Output.{Put};
 
 // ---- bytes
 
 // Whether a byte is a space or a tab, which part the words of a line.
 pub fn is_space_or_tab(b: u8) -> bool
-    ensures { result ≡ space-or-tab b }
+    ensures { result ≡ space_or_tab b }
 {
     if b == 32 {
         return true;
@@ -82,7 +82,7 @@ fn next_value(value: u32, b: u8) -> u32
 // The value of a word of digits only.
 fn digits_value(word: &[u8], most: u32) -> Natural
     requires { most ≤ 1000000 }
-    ensures { result ≡ natural-class most (all_digits 0 word.now) }
+    ensures { result ≡ natural_class most (all_digits 0 word.now) }
 {
     let mut value: u32 = 0;
     let mut i = 0;
@@ -105,7 +105,7 @@ fn digits_value(word: &[u8], most: u32) -> Natural
 // The number that a word says: 0, or digits that begin with 1 to 9.
 fn natural_up_to(word: &[u8], most: u32) -> Natural
     requires { most ≤ 1000000 }
-    ensures { result ≡ natural-class most (natural word.now) }
+    ensures { result ≡ natural_class most (natural word.now) }
 {
     if word.len() == 0 {
         return Natural::NotANumber;
@@ -121,14 +121,14 @@ fn natural_up_to(word: &[u8], most: u32) -> Natural
 
 // The number without a sign that a word says, up to 1,000,000.
 pub fn read_natural(word: &[u8]) -> Natural
-    ensures { result ≡ natural-class 1000000 (natural word.now) }
+    ensures { result ≡ natural_class 1000000 (natural word.now) }
 {
     natural_up_to(word, 1000000)
 }
 
 // The number of a sign and what follows it; 0 takes no sign.
 fn signed_number(negative: bool, n: Natural) -> Number
-    ensures { result ≡ with-sign negative n }
+    ensures { result ≡ with_sign negative n }
 {
     match n {
         Natural::Value(v) => {
@@ -147,7 +147,7 @@ fn signed_number(negative: bool, n: Natural) -> Number
 
 // The number that a word says, up to the absolute value of a log's highest variable.
 pub fn read_number(word: &[u8]) -> Number
-    ensures { result ≡ number-class (number word.now) }
+    ensures { result ≡ number_class (number word.now) }
 {
     if word.len() == 0 {
         return Number::NotANumber;
@@ -181,7 +181,7 @@ fn separates(lines: bool, b: u8) -> bool
 
 // Whether a byte belongs to a run of separators, or to a run of other bytes.
 fn belongs(lines: bool, parting: bool, b: u8) -> bool
-    ensures { result ≡ in-run (separator lines) parting b }
+    ensures { result ≡ in_run (separator lines) parting b }
 {
     let s = separates(lines, b);
     if parting { s } else { !s }
@@ -189,7 +189,7 @@ fn belongs(lines: bool, parting: bool, b: u8) -> bool
 
 // The place past a run that starts at a place.
 fn run_end(lines: bool, parting: bool, text: &[u8], at: usize) -> usize
-    ensures { result ≡ at + leading (in-run (separator lines) parting) (drop at text.now) }
+    ensures { result ≡ at + leading (in_run (separator lines) parting) (drop at text.now) }
 {
     let mut i = at;
     while i < text.len() {
@@ -224,7 +224,7 @@ pub fn next_word(text: &[u8], at: usize) -> Word
 
 // The first word of a line at a place or after it.
 pub fn next_word_of_line(line: &[u8], at: usize) -> Word
-    ensures { result ≡ word_at space-or-tab line.now at }
+    ensures { result ≡ word_at space_or_tab line.now at }
 {
     word_from(false, line, at)
 }
@@ -245,7 +245,7 @@ pub enum Line {
 // The place of the first LF at a place or after it, or the text's end.
 fn line_end(text: &[u8], at: usize) -> usize
     requires { at ≤ length text.now }
-    ensures { Line-end text.now at result }
+    ensures { LineEnd text.now at result }
 {
     let mut i = at;
     while i < text.len() {
@@ -273,7 +273,7 @@ fn without_cr(text: &[u8], start: usize, end: usize) -> usize
 
 // The first line of the rest of a text.
 pub fn next_line(text: &[u8], at: usize) -> Line
-    ensures { Line-says text.now at result }
+    ensures { LineSays text.now at result }
 {
     if text.len() <= at {
         return Line::End;
@@ -296,7 +296,7 @@ pub fn next_line(text: &[u8], at: usize) -> Line
 
 // Whether a line begins with some bytes.
 pub fn begins(line: &[u8], prefix: &[u8]) -> bool
-    ensures { result ≡ begins-with prefix.now line.now }
+    ensures { result ≡ begins_with prefix.now line.now }
 {
     if line.len() < prefix.len() {
         return false;
@@ -366,7 +366,7 @@ pub fn put_number(buf: &mut [u8], at: usize, n: u32) -> usize
 // Writes a literal in decimal.
 pub fn put_literal(buf: &mut [u8], at: usize, l: i32) -> usize
     requires { at + 11 < 2 ^ 64 }
-    ensures written { Put buf.old at (literal-text l) result buf.new }
+    ensures written { Put buf.old at (literal_text l) result buf.new }
     ensures within { result ≤ at + 11 }
 {
     let v = literals::variable(l);
@@ -423,7 +423,7 @@ fn variable_length(v: u32) -> usize
 
 // How many bytes a literal and a blank take.
 fn item_length(l: i32) -> usize
-    ensures { result ≡ length (literal-text l ++ bytes " ") }
+    ensures { result ≡ length (literal_text l ++ bytes " ") }
 {
     let n = variable_length(literals::variable(l)) + 1;
     if literals::is_negative(l) { n + 1 } else { n }
@@ -432,7 +432,7 @@ fn item_length(l: i32) -> usize
 // Writes a literal and a blank; past the buffer's end they are only counted.
 pub fn put_item(buf: &mut [u8], at: usize, l: i32) -> usize
     requires { at + 12 < 2 ^ 64 }
-    ensures written { Put buf.old at (literal-text l ++ bytes " ") result buf.new }
+    ensures written { Put buf.old at (literal_text l ++ bytes " ") result buf.new }
     ensures within { result ≤ at + 12 }
 {
     if buf.len() <= at {
@@ -445,7 +445,7 @@ pub fn put_item(buf: &mut [u8], at: usize, l: i32) -> usize
 // Writes literals, a blank after each.
 fn put_items(buf: &mut [u8], at: usize, clause: &[i32]) -> usize
     requires { at + 12 * length clause.now < 2 ^ 64 }
-    ensures written { Put buf.old at (literals-text clause.now) result buf.new }
+    ensures written { Put buf.old at (literals_text clause.now) result buf.new }
     ensures within { result ≤ at + 12 * length clause.now }
 {
     let mut end = at;
@@ -460,7 +460,7 @@ fn put_items(buf: &mut [u8], at: usize, clause: &[i32]) -> usize
 // Writes a clause: its literals and 0, single blanks, LF after.
 pub fn put_clause(buf: &mut [u8], at: usize, clause: &[i32]) -> usize
     requires { at + 12 * length clause.now + 2 < 2 ^ 64 }
-    ensures written { Put buf.old at (clause-text clause.now) result buf.new }
+    ensures written { Put buf.old at (clause_text clause.now) result buf.new }
     ensures within { result ≤ at + 12 * length clause.now + 2 }
 {
     let a = put_items(buf, at, clause);

@@ -1,7 +1,7 @@
 -- Laws of the leaf `index`.
-use Rattle.index.proofs.Laws.{indexed-marked}
-use Rattle.index.proofs.Table.{table-holding}
-use Rattle.theorems.specs.ByLiteral.{By-literal}
+use Rattle.index.proofs.Laws.{indexed_marked}
+use Rattle.index.proofs.Table.{table_holding}
+use Rattle.theorems.specs.ByLiteral.{ByLiteral}
 
-pub by-literal : By-literal
-by-literal = record { table-is-walk = table-holding; deletion-keeps = λ work end newest i at p h. indexed-marked i p h }
+pub by_literal : ByLiteral
+by_literal = record { table_is_walk = table_holding; deletion_keeps = λ work end newest i at p h. indexed_marked i p h }

@@ -1,7 +1,7 @@
 -- The law of the leaf `marks`, from its first variable on.
-use Rattle.marks.proofs.Laws.{lowest-marked}
-use Rattle.theorems.specs.Marks.{Lowest-marked-holds}
+use Rattle.marks.proofs.Laws.{lowest_marked}
+use Rattle.theorems.specs.Marks.{LowestMarkedHolds}
 
-pub lowest-mark : Lowest-marked-holds
-unfolding Lowest-marked-holds
-lowest-mark m = lowest-marked m 0
+pub lowest_mark : LowestMarkedHolds
+unfolding LowestMarkedHolds
+lowest_mark m = lowest_marked m 0

@@ -13,25 +13,25 @@ use Rattle.definition.specs.Clearing
 use Rattle.definition.specs.Counter
 use Rattle.definition.specs.Order
 use Rattle.definition.specs.Alignment
-use Rattle.definition.specs.Alignment.{as-listed}
-use Rattle.definition.specs.Events.{Choice, choice-of}
+use Rattle.definition.specs.Alignment.{as_listed}
+use Rattle.definition.specs.Events.{Choice, choice_of}
 use Rattle.definition.specs.Reencoding
-use Rattle.definition.specs.Reencoding.{Settings, order-form, events, Goes-into, taken}
+use Rattle.definition.specs.Reencoding.{Settings, order_form, events, GoesInto, taken}
 
-first-clause : Clause
-first-clause = pos 1 ∷ pos 2 ∷ pos 3 ∷ pos 4 ∷ pos 5 ∷ []
+first_clause : Clause
+first_clause = pos 1 ∷ pos 2 ∷ pos 3 ∷ pos 4 ∷ pos 5 ∷ []
 
-input-f : Input
-unfolding first-clause
-input-f = as_read 6 7 (first-clause ∷ (negsuc 0 ∷ negsuc 1 ∷ []) ∷ (negsuc 0 ∷ pos 6 ∷ []) ∷ (negsuc 1 ∷ pos 6 ∷ []) ∷ (negsuc 2 ∷ pos 6 ∷ []) ∷ (negsuc 3 ∷ negsuc 5 ∷ []) ∷ (negsuc 4 ∷ negsuc 5 ∷ []) ∷ [])
+input_f : Input
+unfolding first_clause
+input_f = as_read 6 7 (first_clause ∷ (negsuc 0 ∷ negsuc 1 ∷ []) ∷ (negsuc 0 ∷ pos 6 ∷ []) ∷ (negsuc 1 ∷ pos 6 ∷ []) ∷ (negsuc 2 ∷ pos 6 ∷ []) ∷ (negsuc 3 ∷ negsuc 5 ∷ []) ∷ (negsuc 4 ∷ negsuc 5 ∷ []) ∷ [])
 
-choice-f : Choice
-unfolding first-clause
-choice-f = choice-of first-clause 6
+choice_f : Choice
+unfolding first_clause
+choice_f = choice_of first_clause 6
 
 order : Settings
-order = record { form = order-form; arrangement = as-listed; step = 1 }
+order = record { form = order_form; arrangement = as_listed; step = 1 }
 
-first-goes-into : Goes-into choice-f (events order input-f) first-clause
-unfolding first-clause input-f choice-f order Lists.computing Checked.computing Literals.computing Text.computing Reading.computing Standing.computing Clearing.computing Counter.computing Order.computing Alignment.computing Reencoding.computing
-first-goes-into = taken
+first_goes_into : GoesInto choice_f (events order input_f) first_clause
+unfolding first_clause input_f choice_f order Lists.computing Checked.computing Literals.computing Text.computing Reading.computing Standing.computing Clearing.computing Counter.computing Order.computing Alignment.computing Reencoding.computing
+first_goes_into = taken

@@ -7,242 +7,242 @@ use mathlib.Core.Option.{Option, some, none}
 use Prim.Native.Nat.{ℕ}
 use lib.Dec.{T, eqb, eqb→eq}
 use lib.IntN.{ℤ, nat_abs}
-use Rattle.definition.specs.Checked.{Checked, ◌>>=◌, refuse-if, or-fault, through}
+use Rattle.definition.specs.Checked.{Checked, ◌>>=◌, refuse_if, or_fault, through}
 use Rattle.definition.specs.Lists.{any, all}
 use Rattle.definition.specs.Literals.{Clause, Formula}
-use Rattle.definition.specs.Text.{Bytes, TextLine, bytes, text-lines, line-text, same_bytes}
-use Rattle.definition.specs.Reading.{Limits, input-limits, read-back-limits, Input, Header, Reader, read-header-fields, read-header-line, read-header, read-literal, read_word, end-text, read-clauses, read-formula, end-clause}
-use Rattle.definition.specs.Standing.{Line, addition, deletion, replay-line, replay}
+use Rattle.definition.specs.Text.{Bytes, TextLine, bytes, text_lines, line_text, same_bytes}
+use Rattle.definition.specs.Reading.{Limits, input_limits, read_back_limits, Input, Header, Reader, read_header_fields, read_header_line, read_header, read_literal, read_word, end_text, read_clauses, read_formula, end_clause}
+use Rattle.definition.specs.Standing.{Line, addition, deletion, replay_line, replay}
 use Rattle.definition.specs.Assignments.{Assignment}
-use Rattle.definition.specs.LogReading.{read-line-clause, allowed-clause, read-line-fields, read-line, read_log}
-use Rattle.definition.specs.Answer.{Answer, begins-with, read-answer-word, read-answer-line, read_answer}
+use Rattle.definition.specs.LogReading.{read_line_clause, allowed_clause, read_line_fields, read_line, read_log}
+use Rattle.definition.specs.Answer.{Answer, begins_with, read_answer_word, read_answer_line, read_answer}
 use Rattle.definition.specs.Reencoding.{Settings}
-use Rattle.definition.specs.Calls.{limited, run, fitted, reencode, sizes, fitting-line, highest-allowed, read_back, read-texts, carry-answer, walk-back, carry-plan, carry-forward, buffer-after, read-input}
-use Rattle.theory_base.proofs.Members.{any-mem, all-at}
-use Rattle.theory_text.proofs.Accepted.{input-read}
-use Rattle.theorems.specs.Refusals.{formula-numbers, log-numbers, answer-numbers, sizes-numbers, reencode-numbers, read-back-numbers, walk-back-numbers, carry-forward-numbers, Listed, accepted, refused, Demand-1}
+use Rattle.definition.specs.Calls.{limited, run, fitted, reencode, sizes, fitting_line, highest_allowed, read_back, read_texts, carry_answer, walk_back, carry_plan, carry_forward, buffer_after, read_input}
+use Rattle.theory_base.proofs.Members.{any_mem, all_at}
+use Rattle.theory_text.proofs.Accepted.{input_read}
+use Rattle.theorems.specs.Refusals.{formula_numbers, log_numbers, answer_numbers, sizes_numbers, reencode_numbers, read_back_numbers, walk_back_numbers, carry_forward_numbers, Listed, accepted, refused, Demand1}
 
 -- the test that a number is in a list, which computes for a list written out
 abbrev among : List ℕ → ℕ → Bool
 among ns n = any (eqb n) ns
 
 -- a number that passes the test is in the list
-among-mem : {ns : List ℕ} {n : ℕ} → T (among ns n) → Memᴰ n ns
-among-mem {ns} {n} t = let r = any-mem (eqb n) ns t in Memᴰ.cast (eqb→eq n r.0 r.2) r.1
+among_mem : {ns : List ℕ} {n : ℕ} → T (among ns n) → Memᴰ n ns
+among_mem {ns} {n} t = let r = any_mem (eqb n) ns t in Memᴰ.cast (eqb→eq n r.0 r.2) r.1
 
 -- ---- the parts of an outcome
 module _ {ns : List ℕ} {A : Type 0} where
   -- a test with a listed number before a listed outcome
-  pub refuse-listed : (n : ℕ) (t : Bool) {x : Checked A} → T (among ns n) → Listed ns x → Listed ns (refuse-if t n x)
-  unfolding refuse-if
-  refuse-listed n true m p = refused (among-mem m)
-  refuse-listed n false m p = p
+  pub refuse_listed : (n : ℕ) (t : Bool) {x : Checked A} → T (among ns n) → Listed ns x → Listed ns (refuse_if t n x)
+  unfolding refuse_if
+  refuse_listed n true m p = refused (among_mem m)
+  refuse_listed n false m p = p
 
   -- a demand with a listed number: what follows may rely on it
-  pub unless-listed : (n : ℕ) (t : Bool) {x : Checked A} → T (among ns n) → (T t → Listed ns x) → Listed ns (refuse-if (not t) n x)
-  unfolding refuse-if
-  unless-listed n true m p = p tt
-  unless-listed n false m p = refused (among-mem m)
+  pub unless_listed : (n : ℕ) (t : Bool) {x : Checked A} → T (among ns n) → (T t → Listed ns x) → Listed ns (refuse_if (not t) n x)
+  unfolding refuse_if
+  unless_listed n true m p = p tt
+  unless_listed n false m p = refused (among_mem m)
 
   -- a value, or a listed number
-  or-fault-listed : (n : ℕ) (o : Option A) → T (among ns n) → Listed ns (or-fault o n)
-  unfolding or-fault
-  or-fault-listed n none m = refused (among-mem m)
-  or-fault-listed n (some a) m = accepted
+  or_fault_listed : (n : ℕ) (o : Option A) → T (among ns n) → Listed ns (or_fault o n)
+  unfolding or_fault
+  or_fault_listed n none m = refused (among_mem m)
+  or_fault_listed n (some a) m = accepted
 
   -- one of two listed outcomes
-  cond-listed : (b : Bool) {x y : Checked A} → Listed ns x → Listed ns y → Listed ns (cond b x y)
-  cond-listed true p q = p
-  cond-listed false p q = q
+  cond_listed : (b : Bool) {x y : Checked A} → Listed ns x → Listed ns y → Listed ns (cond b x y)
+  cond_listed true p q = p
+  cond_listed false p q = q
 
   -- a listed outcome after a listed outcome
-  pub bind-listed : {B : Type 0} {x : Checked A} {f : A → Checked B} → Listed ns x → ((a : A) → Listed ns (f a)) → Listed ns (x >>= f)
+  pub bind_listed : {B : Type 0} {x : Checked A} {f : A → Checked B} → Listed ns x → ((a : A) → Listed ns (f a)) → Listed ns (x >>= f)
   unfolding ◌>>=◌
-  bind-listed (accepted {a}) q = q a
-  bind-listed (refused m) q = refused m
+  bind_listed (accepted {a}) q = q a
+  bind_listed (refused m) q = refused m
 
   -- numbers that are all in another list
-  pub listed-among : {ms : List ℕ} {x : Checked A} → T (all (among ns) ms) → Listed ms x → Listed ns x
-  listed-among w accepted = accepted
-  listed-among {ms} w (refused {n} m) = refused (among-mem (all-at (among ns) ms w n m))
+  pub listed_among : {ms : List ℕ} {x : Checked A} → T (all (among ns) ms) → Listed ms x → Listed ns x
+  listed_among w accepted = accepted
+  listed_among {ms} w (refused {n} m) = refused (among_mem (all_at (among ns) ms w n m))
 
 -- a loop whose step is listed
-through-listed : {ns : List ℕ} {S W : Type 0} {step : S → W → Checked S} → ((s : S) (w : W) → Listed ns (step s w)) → (s : S) (ws : List W) → Listed ns (through step s ws)
+through_listed : {ns : List ℕ} {S W : Type 0} {step : S → W → Checked S} → ((s : S) (w : W) → Listed ns (step s w)) → (s : S) (ws : List W) → Listed ns (through step s ws)
 unfolding through
-through-listed p s [] = accepted
-through-listed p s (w ∷ ws) = bind-listed (p s w) (λ t. through-listed p t ws)
+through_listed p s [] = accepted
+through_listed p s (w ∷ ws) = bind_listed (p s w) (λ t. through_listed p t ws)
 
 -- ---- the formula
 -- the text's end: 7, 8
-end-listed : (c : ℕ) (r : Reader) → Listed formula-numbers (end-text c r)
-unfolding end-text formula-numbers any
-end-listed c r = refuse-listed 7 _ tt (refuse-listed 8 _ tt accepted)
+end_listed : (c : ℕ) (r : Reader) → Listed formula_numbers (end_text c r)
+unfolding end_text formula_numbers any
+end_listed c r = refuse_listed 7 _ tt (refuse_listed 8 _ tt accepted)
 
 module _ (most : Limits) where
   -- the header: 1, 2
-  header-fields-listed : (f : List Bytes) (after : Bytes) → Listed formula-numbers (read-header-fields most f after)
-  unfolding read-header-fields formula-numbers any
-  header-fields-listed f after =
-      refuse-listed 1 _ tt
-      (bind-listed (or-fault-listed 1 _ tt) (λ v.
-      bind-listed (or-fault-listed 1 _ tt) (λ c.
-      refuse-listed 2 _ tt accepted)))
+  header_fields_listed : (f : List Bytes) (after : Bytes) → Listed formula_numbers (read_header_fields most f after)
+  unfolding read_header_fields formula_numbers any
+  header_fields_listed f after =
+      refuse_listed 1 _ tt
+      (bind_listed (or_fault_listed 1 _ tt) (λ v.
+      bind_listed (or_fault_listed 1 _ tt) (λ c.
+      refuse_listed 2 _ tt accepted)))
 
-  header-line-listed : (ls : List TextLine) (t : Bytes) → Listed formula-numbers (read-header-line most ls t)
-  unfolding read-header-line formula-numbers any
-  header-line-listed [] t = refused (among-mem tt)
-  header-line-listed (l ∷ ls) t = header-fields-listed _ _
+  header_line_listed : (ls : List TextLine) (t : Bytes) → Listed formula_numbers (read_header_line most ls t)
+  unfolding read_header_line formula_numbers any
+  header_line_listed [] t = refused (among_mem tt)
+  header_line_listed (l ∷ ls) t = header_fields_listed _ _
 
-  header-listed : (t : Bytes) → Listed formula-numbers (read-header most t)
-  unfolding read-header
-  header-listed t = header-line-listed _ _
+  header_listed : (t : Bytes) → Listed formula_numbers (read_header most t)
+  unfolding read_header
+  header_listed t = header_line_listed _ _
 
   -- a literal: 4
-  literal-listed : (v : ℕ) (r : Reader) (l : ℤ) → Listed formula-numbers (read-literal v r l)
-  unfolding read-literal formula-numbers any
-  literal-listed v r l = refuse-listed 4 _ tt accepted
+  literal_listed : (v : ℕ) (r : Reader) (l : ℤ) → Listed formula_numbers (read_literal v r l)
+  unfolding read_literal formula_numbers any
+  literal_listed v r l = refuse_listed 4 _ tt accepted
 
   -- the end of a clause: 9
-  end-clause-listed : (r : Reader) → Listed formula-numbers (end-clause most r)
-  unfolding end-clause formula-numbers any
-  end-clause-listed r = refuse-listed 9 _ tt accepted
+  end_clause_listed : (r : Reader) → Listed formula_numbers (end_clause most r)
+  unfolding end_clause formula_numbers any
+  end_clause_listed r = refuse_listed 9 _ tt accepted
 
   -- a word: 8, 3, and those of a literal or of the end of a clause
-  word-listed : (v c : ℕ) (r : Reader) (w : Bytes) → Listed formula-numbers (read_word most v c r w)
-  unfolding read_word formula-numbers any
-  word-listed v c r w =
-      refuse-listed 8 _ tt
-      (bind-listed (or-fault-listed 3 _ tt) (λ n. cond-listed (eqb 0 (nat_abs n)) (end-clause-listed r) (literal-listed v r n)))
+  word_listed : (v c : ℕ) (r : Reader) (w : Bytes) → Listed formula_numbers (read_word most v c r w)
+  unfolding read_word formula_numbers any
+  word_listed v c r w =
+      refuse_listed 8 _ tt
+      (bind_listed (or_fault_listed 3 _ tt) (λ n. cond_listed (eqb 0 (nat_abs n)) (end_clause_listed r) (literal_listed v r n)))
 
-  clauses-listed : (h : Header) → Listed formula-numbers (read-clauses most h)
-  unfolding read-clauses
-  clauses-listed h =
-      bind-listed (through-listed (word-listed h.variables h.clauses) _ h.after) (λ r.
-      bind-listed (end-listed h.clauses r) (λ f. accepted))
+  clauses_listed : (h : Header) → Listed formula_numbers (read_clauses most h)
+  unfolding read_clauses
+  clauses_listed h =
+      bind_listed (through_listed (word_listed h.variables h.clauses) _ h.after) (λ r.
+      bind_listed (end_listed h.clauses r) (λ f. accepted))
 
-  formula-listed : (t : Bytes) → Listed formula-numbers (read-formula most t)
-  unfolding read-formula
-  formula-listed t = bind-listed (header-listed t) clauses-listed
+  formula_listed : (t : Bytes) → Listed formula_numbers (read_formula most t)
+  unfolding read_formula
+  formula_listed t = bind_listed (header_listed t) clauses_listed
 
 -- ---- the log
 -- a line's clause: 31
-allowed-listed : (c : Option Clause) → Listed log-numbers (allowed-clause c)
-unfolding allowed-clause log-numbers any
-allowed-listed none = refused (among-mem tt)
-allowed-listed (some c) = refuse-listed 31 _ tt accepted
+allowed_listed : (c : Option Clause) → Listed log_numbers (allowed_clause c)
+unfolding allowed_clause log_numbers any
+allowed_listed none = refused (among_mem tt)
+allowed_listed (some c) = refuse_listed 31 _ tt accepted
 
-line-fields-listed : (ws : List Bytes) → Listed log-numbers (read-line-fields ws)
-unfolding read-line-fields log-numbers any
-line-fields-listed [] = refused (among-mem tt)
-line-fields-listed (w ∷ ws) =
-    cond-listed (same_bytes w (bytes "d")) (bind-listed (allowed-listed (read-line-clause ws)) (λ c. accepted)) (bind-listed (allowed-listed (read-line-clause (w ∷ ws))) (λ c. accepted))
+line_fields_listed : (ws : List Bytes) → Listed log_numbers (read_line_fields ws)
+unfolding read_line_fields log_numbers any
+line_fields_listed [] = refused (among_mem tt)
+line_fields_listed (w ∷ ws) =
+    cond_listed (same_bytes w (bytes "d")) (bind_listed (allowed_listed (read_line_clause ws)) (λ c. accepted)) (bind_listed (allowed_listed (read_line_clause (w ∷ ws))) (λ c. accepted))
 
-line-listed : (ss : List Line) (l : TextLine) → Listed log-numbers (read-line ss l)
-unfolding read-line log-numbers any
-line-listed ss l = refuse-listed 31 _ tt (bind-listed (line-fields-listed _) (λ s. accepted))
+line_listed : (ss : List Line) (l : TextLine) → Listed log_numbers (read_line ss l)
+unfolding read_line log_numbers any
+line_listed ss l = refuse_listed 31 _ tt (bind_listed (line_fields_listed _) (λ s. accepted))
 
 -- the kept lines: 31, 34
-log-listed : (kept : ℕ) (t : Bytes) → Listed log-numbers (read_log kept t)
-unfolding read_log log-numbers any
-log-listed kept t = bind-listed (through-listed line-listed _ _) (λ ss. refuse-listed 34 _ tt accepted)
+log_listed : (kept : ℕ) (t : Bytes) → Listed log_numbers (read_log kept t)
+unfolding read_log log_numbers any
+log_listed kept t = bind_listed (through_listed line_listed _ _) (λ ss. refuse_listed 34 _ tt accepted)
 
 -- ---- the answer
 module _ (x : ℕ) where
   -- a number of a `v ` line: 41, 42, 43
-  answer-word-listed : (a : Answer) (w : Bytes) → Listed answer-numbers (read-answer-word x a w)
-  unfolding read-answer-word answer-numbers any
-  answer-word-listed a w =
-      refuse-listed 41 _ tt
-      (bind-listed (or-fault-listed 41 _ tt) (λ l.
-      cond-listed (eqb 0 (nat_abs l)) accepted (refuse-listed 42 _ tt (refuse-listed 43 _ tt accepted))))
+  answer_word_listed : (a : Answer) (w : Bytes) → Listed answer_numbers (read_answer_word x a w)
+  unfolding read_answer_word answer_numbers any
+  answer_word_listed a w =
+      refuse_listed 41 _ tt
+      (bind_listed (or_fault_listed 41 _ tt) (λ l.
+      cond_listed (eqb 0 (nat_abs l)) accepted (refuse_listed 42 _ tt (refuse_listed 43 _ tt accepted))))
 
   -- a line: 41, and those of its numbers
-  answer-line-listed : (a : Answer) (t : Bytes) → Listed answer-numbers (read-answer-line x a t)
-  unfolding read-answer-line answer-numbers any
-  answer-line-listed a t =
-      cond-listed (begins-with (bytes "c") t) accepted
-      (cond-listed (same_bytes t (bytes "s SATISFIABLE") && not a.begun) accepted
-      (refuse-listed 41 _ tt (through-listed answer-word-listed a _)))
+  answer_line_listed : (a : Answer) (t : Bytes) → Listed answer_numbers (read_answer_line x a t)
+  unfolding read_answer_line answer_numbers any
+  answer_line_listed a t =
+      cond_listed (begins_with (bytes "c") t) accepted
+      (cond_listed (same_bytes t (bytes "s SATISFIABLE") && not a.begun) accepted
+      (refuse_listed 41 _ tt (through_listed answer_word_listed a _)))
 
-  pub answer-listed : (t : Bytes) → Listed answer-numbers (read_answer x t)
-  unfolding read_answer answer-numbers any
-  answer-listed t =
-      bind-listed (through-listed (λ a l. answer-line-listed a (line-text l)) _ (text-lines t)) (λ a. refuse-listed 41 _ tt accepted)
+  pub answer_listed : (t : Bytes) → Listed answer_numbers (read_answer x t)
+  unfolding read_answer answer_numbers any
+  answer_listed t =
+      bind_listed (through_listed (λ a l. answer_line_listed a (line_text l)) _ (text_lines t)) (λ a. refuse_listed 41 _ tt accepted)
 
 -- ---- the calls
-input-listed : (t : Bytes) → Listed formula-numbers (read-input t)
-input-listed t = subst (Listed formula-numbers) (sym (input-read t)) (formula-listed input-limits t)
+input_listed : (t : Bytes) → Listed formula_numbers (read_input t)
+input_listed t = subst (Listed formula_numbers) (sym (input_read t)) (formula_listed input_limits t)
 
-run-listed : (s : Settings) (workspace : ℕ) (t : Bytes) → Listed sizes-numbers (run s workspace t)
-unfolding run limited formula-numbers sizes-numbers any all
-run-listed s workspace t =
-    refuse-listed 15 _ tt
-    (bind-listed (listed-among tt (input-listed t)) (λ i. refuse-listed 11 _ tt (refuse-listed 16 _ tt accepted)))
+run_listed : (s : Settings) (workspace : ℕ) (t : Bytes) → Listed sizes_numbers (run s workspace t)
+unfolding run limited formula_numbers sizes_numbers any all
+run_listed s workspace t =
+    refuse_listed 15 _ tt
+    (bind_listed (listed_among tt (input_listed t)) (λ i. refuse_listed 11 _ tt (refuse_listed 16 _ tt accepted)))
 
-reencode-listed : (s : Settings) (workspace log-room formula-room table-room : ℕ) (t : Bytes) → Listed reencode-numbers (reencode s workspace log-room formula-room table-room t)
-unfolding reencode fitted formula-numbers sizes-numbers reencode-numbers any all
-reencode-listed s workspace log-room formula-room table-room t =
-    bind-listed (listed-among tt (run-listed s workspace t)) (λ r. refuse-listed 17 _ tt (refuse-listed 12 _ tt (refuse-listed 13 _ tt accepted)))
+reencode_listed : (s : Settings) (workspace log_room formula_room table_room : ℕ) (t : Bytes) → Listed reencode_numbers (reencode s workspace log_room formula_room table_room t)
+unfolding reencode fitted formula_numbers sizes_numbers reencode_numbers any all
+reencode_listed s workspace log_room formula_room table_room t =
+    bind_listed (listed_among tt (run_listed s workspace t)) (λ r. refuse_listed 17 _ tt (refuse_listed 12 _ tt (refuse_listed 13 _ tt accepted)))
 
-sizes-listed : (s : Settings) (workspace : ℕ) (t : Bytes) → Listed sizes-numbers (sizes s workspace t)
+sizes_listed : (s : Settings) (workspace : ℕ) (t : Bytes) → Listed sizes_numbers (sizes s workspace t)
 unfolding sizes
-sizes-listed s workspace t = bind-listed (run-listed s workspace t) (λ r. accepted)
+sizes_listed s workspace t = bind_listed (run_listed s workspace t) (λ r. accepted)
 
-read-back-listed : (workspace : ℕ) (t : Bytes) → Listed read-back-numbers (read_back workspace t)
-unfolding read_back formula-numbers read-back-numbers any all
-read-back-listed workspace t =
-    bind-listed (listed-among tt (formula-listed read-back-limits t)) (λ i. refuse-listed 11 _ tt accepted)
+read_back_listed : (workspace : ℕ) (t : Bytes) → Listed read_back_numbers (read_back workspace t)
+unfolding read_back formula_numbers read_back_numbers any all
+read_back_listed workspace t =
+    bind_listed (listed_among tt (formula_listed read_back_limits t)) (λ i. refuse_listed 11 _ tt accepted)
 
 -- the three texts read, whatever variables are allowed: those of each, and 11
-texts-listed : (most : Input → List Line → ℕ) (workspace kept : ℕ) (t log answer : Bytes) → Listed (formula-numbers ++ log-numbers ++ answer-numbers ++ (11 ∷ [])) (read-texts most workspace kept t log answer)
-unfolding read-texts formula-numbers log-numbers answer-numbers any all
-texts-listed most workspace kept t log answer =
-    bind-listed (listed-among tt (input-listed t)) (λ i.
-    bind-listed (listed-among tt (log-listed kept log)) (λ ss.
-    bind-listed (listed-among tt (answer-listed (most i ss) answer)) (λ named.
-    refuse-listed 11 _ tt accepted)))
+texts_listed : (most : Input → List Line → ℕ) (workspace kept : ℕ) (t log answer : Bytes) → Listed (formula_numbers ++ log_numbers ++ answer_numbers ++ (11 ∷ [])) (read_texts most workspace kept t log answer)
+unfolding read_texts formula_numbers log_numbers answer_numbers any all
+texts_listed most workspace kept t log answer =
+    bind_listed (listed_among tt (input_listed t)) (λ i.
+    bind_listed (listed_among tt (log_listed kept log)) (λ ss.
+    bind_listed (listed_among tt (answer_listed (most i ss) answer)) (λ named.
+    refuse_listed 11 _ tt accepted)))
 
 -- a deletion without its clause: 32
-replay-listed : (f : Formula) (ss : List Line) → Listed (32 ∷ []) (replay f ss)
-unfolding replay replay-line any
-replay-listed f ss = through-listed step f ss
+replay_listed : (f : Formula) (ss : List Line) → Listed (32 ∷ []) (replay f ss)
+unfolding replay replay_line any
+replay_listed f ss = through_listed step f ss
   where
-    step : (f : Formula) (s : Line) → Listed (32 ∷ []) (replay-line f s)
+    step : (f : Formula) (s : Line) → Listed (32 ∷ []) (replay_line f s)
     step f (addition c) = accepted
-    step f (deletion c) = refuse-listed 32 _ tt accepted
+    step f (deletion c) = refuse_listed 32 _ tt accepted
 
 -- a line: 14
-pub fitting-listed : (room v : ℕ) (a : Assignment) → Listed (14 ∷ []) (fitting-line room v a)
-unfolding fitting-line any
-fitting-listed room v a = refuse-listed 14 _ tt accepted
+pub fitting_listed : (room v : ℕ) (a : Assignment) → Listed (14 ∷ []) (fitting_line room v a)
+unfolding fitting_line any
+fitting_listed room v a = refuse_listed 14 _ tt accepted
 
 -- after the texts: 32, the tests of the answer carried back, 14
-walk-back-listed : (workspace room kept : ℕ) (t log answer : Bytes) → Listed walk-back-numbers (walk-back workspace room kept t log answer)
-unfolding walk-back carry-answer formula-numbers log-numbers answer-numbers walk-back-numbers any all
-walk-back-listed workspace room kept t log answer =
-    bind-listed (listed-among tt (texts-listed highest-allowed workspace kept t log answer)) (λ h.
-    bind-listed (listed-among tt (replay-listed h.input.formula h.lines)) (λ standing.
-    refuse-listed 44 _ tt (refuse-listed 33 _ tt (listed-among tt (fitting-listed room _ _)))))
+walk_back_listed : (workspace room kept : ℕ) (t log answer : Bytes) → Listed walk_back_numbers (walk_back workspace room kept t log answer)
+unfolding walk_back carry_answer formula_numbers log_numbers answer_numbers walk_back_numbers any all
+walk_back_listed workspace room kept t log answer =
+    bind_listed (listed_among tt (texts_listed highest_allowed workspace kept t log answer)) (λ h.
+    bind_listed (listed_among tt (replay_listed h.input.formula h.lines)) (λ standing.
+    refuse_listed 44 _ tt (refuse_listed 33 _ tt (listed_among tt (fitting_listed room _ _)))))
 
 -- after the texts: the plan's test, 32, the test of what comes, 14
-carry-forward-listed : (workspace room kept : ℕ) (t log plan : Bytes) → Listed carry-forward-numbers (carry-forward workspace room kept t log plan)
-unfolding carry-forward carry-plan formula-numbers log-numbers answer-numbers carry-forward-numbers any all
-carry-forward-listed workspace room kept t log plan =
-    bind-listed (listed-among tt (texts-listed (λ i ss. i.variables) workspace kept t log plan)) (λ h.
-    refuse-listed 45 _ tt
-    (bind-listed (listed-among tt (replay-listed h.input.formula h.lines)) (λ standing.
-    refuse-listed 46 _ tt (listed-among tt (fitting-listed room _ _)))))
+carry_forward_listed : (workspace room kept : ℕ) (t log plan : Bytes) → Listed carry_forward_numbers (carry_forward workspace room kept t log plan)
+unfolding carry_forward carry_plan formula_numbers log_numbers answer_numbers carry_forward_numbers any all
+carry_forward_listed workspace room kept t log plan =
+    bind_listed (listed_among tt (texts_listed (λ i ss. i.variables) workspace kept t log plan)) (λ h.
+    refuse_listed 45 _ tt
+    (bind_listed (listed_among tt (replay_listed h.input.formula h.lines)) (λ standing.
+    refuse_listed 46 _ tt (listed_among tt (fitting_listed room _ _)))))
 
-pub demand-1 : Demand-1
-unfolding buffer-after
-demand-1 = record {
-  formula = formula-listed;
-  log = log-listed;
-  answer = answer-listed;
-  reencoding = reencode-listed;
-  sizing = sizes-listed;
-  reading-back = read-back-listed;
-  walking-back = walk-back-listed;
-  carrying-forward = carry-forward-listed;
+pub demand_1 : Demand1
+unfolding buffer_after
+demand_1 = record {
+  formula = formula_listed;
+  log = log_listed;
+  answer = answer_listed;
+  reencoding = reencode_listed;
+  sizing = sizes_listed;
+  reading_back = read_back_listed;
+  walking_back = walk_back_listed;
+  carrying_forward = carry_forward_listed;
   zeroed = λ nought n written before. refl;
 }

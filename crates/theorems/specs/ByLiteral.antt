@@ -3,13 +3,13 @@
 -- and `index::compact` (the standing clauses are slid down). The contracts of the first and the last give `Indexed` again; a deletion leaves it as it is.
 use Rattle.std.specs.Prelude.{◌≡◌, List, ℕ, ◌<◌, ℤ, take}
 use Rattle.literals.specs.Literal.{index_of}
-use Rattle.tables.specs.Sizes.{log-size}
+use Rattle.tables.specs.Sizes.{log_size}
 use Rattle.store.specs.Store.{Place, marked}
-use Rattle.index.specs.Index.{Indexed, table-places, holding}
+use Rattle.index.specs.Index.{Indexed, table_places, holding}
 
--- for every workspace, proved as `by-literal` in proofs/ByLiteral
-pub record By-literal : Type 0 where
+-- for every workspace, proved as `by_literal` in proofs/ByLiteral
+pub record ByLiteral : Type 0 where
   -- for each literal that the table reaches, the table, read, is what a walk over the list finds
-  pub table-is-walk : (work : List ℤ) (end : ℕ) (newest : List ℕ) → Indexed work end newest → (l : ℤ) → index_of l < log-size → table-places work newest l ≡ holding l (take end work)
+  pub table_is_walk : (work : List ℤ) (end : ℕ) (newest : List ℕ) → Indexed work end newest → (l : ℤ) → index_of l < log_size → table_places work newest l ≡ holding l (take end work)
   -- a clause deleted
-  pub deletion-keeps : (work : List ℤ) (end : ℕ) (newest : List ℕ) → Indexed work end newest → (at : ℕ) → Place (take end work) at → at < end → Indexed (marked work at) end newest
+  pub deletion_keeps : (work : List ℤ) (end : ℕ) (newest : List ℕ) → Indexed work end newest → (at : ℕ) → Place (take end work) at → at < end → Indexed (marked work at) end newest

@@ -9,7 +9,7 @@ use mathlib.Core.List.{List, [], ◌∷◌, ◌++◌, map, Memᴰ}
 use Prim.Native.Nat.{ℕ, zero, suc, ◌+◌, ◌*◌, ◌≤◌, ◌<◌}
 use native.Mathlib.Omega.{arith}
 use lib.ListN.{length}
-use Rattle.definition.specs.Lists.{bit, count, those, sum_of, for-from, for-each}
+use Rattle.definition.specs.Lists.{bit, count, those, sum_of, for_from, for_each}
 
 module _ {A : Type 0} where
   pub sum-++ : (w : A → ℕ) (xs ys : List A) → sum_of w (xs ++ ys) ≡ sum_of w xs + sum_of w ys
@@ -22,51 +22,51 @@ module _ {A : Type 0} where
   sum-≤ v w [] h = omega arith
   sum-≤ v w (x ∷ xs) h = omega (arith, h x (here refl), sum-≤ v w xs (λ y m. h y (there m)))
 
-  pub sum-at : (w : A → ℕ) {x : A} {xs : List A} → Memᴰ x xs → w x ≤ sum_of w xs
+  pub sum_at : (w : A → ℕ) {x : A} {xs : List A} → Memᴰ x xs → w x ≤ sum_of w xs
   unfolding sum_of
-  sum-at w (here {xs = xs} e) = omega (arith, ap w e)
-  sum-at w (there m) = omega (arith, sum-at w m)
+  sum_at w (here {xs = xs} e) = omega (arith, ap w e)
+  sum_at w (there m) = omega (arith, sum_at w m)
 
-  pub sum-none : (w : A → ℕ) (xs : List A) → ((x : A) → Memᴰ x xs → w x ≡ 0) → sum_of w xs ≡ 0
+  pub sum_none : (w : A → ℕ) (xs : List A) → ((x : A) → Memᴰ x xs → w x ≡ 0) → sum_of w xs ≡ 0
   unfolding sum_of
-  sum-none w [] h = refl
-  sum-none w (x ∷ xs) h = omega (arith, h x (here refl), sum-none w xs (λ y m. h y (there m)))
+  sum_none w [] h = refl
+  sum_none w (x ∷ xs) h = omega (arith, h x (here refl), sum_none w xs (λ y m. h y (there m)))
 
   -- where each has at most, or at least, b
-  pub sum-most : (b : ℕ) (w : A → ℕ) → ((x : A) → w x ≤ b) → (xs : List A) → sum_of w xs ≤ length xs * b
+  pub sum_most : (b : ℕ) (w : A → ℕ) → ((x : A) → w x ≤ b) → (xs : List A) → sum_of w xs ≤ length xs * b
   unfolding sum_of
-  sum-most b w h [] = omega arith
-  sum-most b w h (x ∷ xs) = omega (arith, h x, sum-most b w h xs)
+  sum_most b w h [] = omega arith
+  sum_most b w h (x ∷ xs) = omega (arith, h x, sum_most b w h xs)
 
-  pub sum-least : (b : ℕ) (w : A → ℕ) → ((x : A) → b ≤ w x) → (xs : List A) → length xs * b ≤ sum_of w xs
+  pub sum_least : (b : ℕ) (w : A → ℕ) → ((x : A) → b ≤ w x) → (xs : List A) → length xs * b ≤ sum_of w xs
   unfolding sum_of
-  sum-least b w h [] = omega arith
-  sum-least b w h (x ∷ xs) = omega (arith, h x, sum-least b w h xs)
+  sum_least b w h [] = omega arith
+  sum_least b w h (x ∷ xs) = omega (arith, h x, sum_least b w h xs)
 
-  pub count-length : (xs : List A) → sum_of (λ _. 1) xs ≡ length xs
+  pub count_length : (xs : List A) → sum_of (λ _. 1) xs ≡ length xs
   unfolding sum_of
-  count-length [] = refl
-  count-length (x ∷ xs) = omega (arith, count-length xs)
+  count_length [] = refl
+  count_length (x ∷ xs) = omega (arith, count_length xs)
 
-  pub count-sum : (p : A → Bool) (xs : List A) → count p xs ≡ sum_of (λ x. bit (p x)) xs
+  pub count_sum : (p : A → Bool) (xs : List A) → count p xs ≡ sum_of (λ x. bit (p x)) xs
   unfolding count sum_of
-  count-sum p [] = refl
-  count-sum p (x ∷ xs) = omega (arith, count-sum p xs)
+  count_sum p [] = refl
+  count_sum p (x ∷ xs) = omega (arith, count_sum p xs)
 
-  pub sum-those : (w : A → ℕ) (p : A → Bool) (xs : List A) → sum_of w (those p xs) ≤ sum_of w xs
+  pub sum_those : (w : A → ℕ) (p : A → Bool) (xs : List A) → sum_of w (those p xs) ≤ sum_of w xs
   unfolding sum_of those
-  sum-those w p [] = omega arith
-  sum-those w p (x ∷ xs) = go (p x) (sum-those w p xs)
+  sum_those w p [] = omega arith
+  sum_those w p (x ∷ xs) = go (p x) (sum_those w p xs)
     where
       go : (b : Bool) → sum_of w (those p xs) ≤ sum_of w xs → sum_of w (cond b (x ∷ those p xs) (those p xs)) ≤ w x + sum_of w xs
       go true ih = omega arith
       go false ih = omega arith
 
   -- where each number gives at most b
-  pub sum-for-from : (w : A → ℕ) (b i n : ℕ) (f : ℕ → List A) → ((j : ℕ) → i ≤ j → j < i + n → sum_of w (f j) ≤ b) → sum_of w (for-from i n f) ≤ n * b
-  unfolding sum_of for-from
-  sum-for-from w b i zero f h = omega arith
-  sum-for-from w b i (suc n) f h = omega (arith, sum-++ w (f i) (for-from (suc i) n f), h i (omega arith) (omega arith), sum-for-from w b (suc i) n f (λ j p q. h j (omega arith) (omega arith)))
+  pub sum_for_from : (w : A → ℕ) (b i n : ℕ) (f : ℕ → List A) → ((j : ℕ) → i ≤ j → j < i + n → sum_of w (f j) ≤ b) → sum_of w (for_from i n f) ≤ n * b
+  unfolding sum_of for_from
+  sum_for_from w b i zero f h = omega arith
+  sum_for_from w b i (suc n) f h = omega (arith, sum-++ w (f i) (for_from (suc i) n f), h i (omega arith) (omega arith), sum_for_from w b (suc i) n f (λ j p q. h j (omega arith) (omega arith)))
 
   -- ---- no element twice
   abbrev pub Distinct : List A → Type 0
@@ -91,20 +91,20 @@ module _ {A : Type 0} where
       rest zs h y (there m) n = there (h y m n)
 
   -- distinct elements of a list sum up to no more than the list
-  pub sum-within : (w : A → ℕ) (xs ys : List A) → Distinct xs → ((x : A) → Memᴰ x xs → Memᴰ x ys) → sum_of w xs ≤ sum_of w ys
+  pub sum_within : (w : A → ℕ) (xs ys : List A) → Distinct xs → ((x : A) → Memᴰ x xs → Memᴰ x ys) → sum_of w xs ≤ sum_of w ys
   unfolding sum_of
-  sum-within w [] ys d h = omega arith
-  sum-within w (x ∷ xs) ys d h =
+  sum_within w [] ys d h = omega arith
+  sum_within w (x ∷ xs) ys d h =
       let r = taken_out w (h x (here refl)) in
-      omega (arith, r.1, sum-within w xs r.0 d.1 (λ y m. r.2 y (h y (there m)) (λ q. d.0 (Memᴰ.cast (sym q) m))))
+      omega (arith, r.1, sum_within w xs r.0 d.1 (λ y m. r.2 y (h y (there m)) (λ q. d.0 (Memᴰ.cast (sym q) m))))
 
 module _ {A B : Type 0} where
-  pub sum-map : (w : B → ℕ) (f : A → B) (xs : List A) → sum_of w (map f xs) ≡ sum_of (λ x. w (f x)) xs
+  pub sum_map : (w : B → ℕ) (f : A → B) (xs : List A) → sum_of w (map f xs) ≡ sum_of (λ x. w (f x)) xs
   unfolding sum_of
-  sum-map w f [] = refl
-  sum-map w f (x ∷ xs) = omega (arith, sum-map w f xs)
+  sum_map w f [] = refl
+  sum_map w f (x ∷ xs) = omega (arith, sum_map w f xs)
 
-  pub sum-for-each : (w : B → ℕ) (xs : List A) (f : A → List B) → sum_of w (for-each xs f) ≡ sum_of (λ x. sum_of w (f x)) xs
-  unfolding sum_of for-each
-  sum-for-each w [] f = refl
-  sum-for-each w (x ∷ xs) f = omega (arith, sum-++ w (f x) (for-each xs f), sum-for-each w xs f)
+  pub sum_for_each : (w : B → ℕ) (xs : List A) (f : A → List B) → sum_of w (for_each xs f) ≡ sum_of (λ x. sum_of w (f x)) xs
+  unfolding sum_of for_each
+  sum_for_each w [] f = refl
+  sum_for_each w (x ∷ xs) f = omega (arith, sum-++ w (f x) (for_each xs f), sum_for_each w xs f)

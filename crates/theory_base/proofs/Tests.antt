@@ -7,26 +7,26 @@ use native.Mathlib.Omega.{arith}
 use lib.Dec.{T}
 use Rattle.definition.specs.Lists.{bit}
 
-pub to-true : {b : Bool} → T b → b ≡ true
-to-true {b = true} t = refl
+pub to_true : {b : Bool} → T b → b ≡ true
+to_true {b = true} t = refl
 
-pub of-true : {b : Bool} → b ≡ true → T b
-of-true e = rw e tt
+pub of_true : {b : Bool} → b ≡ true → T b
+of_true e = rw e tt
 
 -- true is not false
 pub differ : {P : Type 0} {b : Bool} → T b → b ≡ false → P
 differ t e = absurd (rw e at t)
 
-pub to-false : {b : Bool} → (T b → ⊥) → b ≡ false
-to-false {b = true} n = absurd (n tt)
-to-false {b = false} n = refl
+pub to_false : {b : Bool} → (T b → ⊥) → b ≡ false
+to_false {b = true} n = absurd (n tt)
+to_false {b = false} n = refl
 
-pub not-true : {b : Bool} → T (not b) → b ≡ false
-not-true {b = false} t = refl
+pub not_true : {b : Bool} → T (not b) → b ≡ false
+not_true {b = false} t = refl
 
-pub of-false : {b : Bool} → b ≡ false → T (not b)
-of-false {b = true} e = differ {b = true} tt e
-of-false {b = false} e = tt
+pub of_false : {b : Bool} → b ≡ false → T (not b)
+of_false {b = true} e = differ {b = true} tt e
+of_false {b = false} e = tt
 
 pub and_l : (a b : Bool) → T (a && b) → T a
 and_l true b t = tt
@@ -52,18 +52,18 @@ or_r false b t = t
 
 -- each gives the other
 pub each_way : {a b : Bool} → (T a → T b) → (T b → T a) → a ≡ b
-each_way {a = true} f g = sym (to-true (f tt))
-each_way {a = false} f g = sym (to-false g)
+each_way {a = true} f g = sym (to_true (f tt))
+each_way {a = false} f g = sym (to_false g)
 
 -- neither holds
-pub or-false-both : (a b : Bool) → (a || b) ≡ false → (a ≡ false) × (b ≡ false)
-or-false-both true b e = differ {b = true} tt e
-or-false-both false b e = (refl, e)
+pub or_false_both : (a b : Bool) → (a || b) ≡ false → (a ≡ false) × (b ≡ false)
+or_false_both true b e = differ {b = true} tt e
+or_false_both false b e = (refl, e)
 
 -- by a test and its outcome
-pub by-test : {P : Type 0} (b : Bool) → (b ≡ true → P) → (b ≡ false → P) → P
-by-test true t f = t refl
-by-test false t f = f refl
+pub by_test : {P : Type 0} (b : Bool) → (b ≡ true → P) → (b ≡ false → P) → P
+by_test true t f = t refl
+by_test false t f = f refl
 
 pub bit≤1 : (b : Bool) → bit b ≤ 1
 bit≤1 true = omega arith
@@ -78,6 +78,6 @@ pub second_holds : (a b : Bool) → b ≡ true → a ≡ (a && b)
 second_holds true b e = sym e
 second_holds false b e = refl
 
-pub second-fails : (a b : Bool) → b ≡ false → false ≡ (a && b)
-second-fails true b e = sym e
-second-fails false b e = refl
+pub second_fails : (a b : Bool) → b ≡ false → false ≡ (a && b)
+second_fails true b e = sym e
+second_fails false b e = refl

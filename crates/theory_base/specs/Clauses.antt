@@ -25,8 +25,8 @@ Parted [] = Unit {0}
 Parted (c ∷ cs) = ((d : Clause) → Memᴰ d cs → Disjoint c d) × Parted cs
 
 -- every clause of the formula is proper
-abbrev pub Proper-all : Formula → Type 0
-Proper-all f = (d : Clause) → Memᴰ d f → Proper d
+abbrev pub ProperAll : Formula → Type 0
+ProperAll f = (d : Clause) → Memᴰ d f → Proper d
 
 -- a literal of 1 to h; a formula of such literals
 abbrev pub Fit : ℕ → ℤ → Type 0
@@ -40,5 +40,5 @@ abbrev pub Absent : ℤ → Formula → Type 0
 Absent l F = (d : Clause) → Memᴰ d F → Memᴰ l d → ⊥
 
 -- every literal of a clause is one of 1 to h
-abbrev pub Fit-all : ℕ → Clause → Type 0
-Fit-all h c = (x : ℤ) → Memᴰ x c → Fit h x
+abbrev pub FitAll : ℕ → Clause → Type 0
+FitAll h c = (x : ℤ) → Memᴰ x c → Fit h x

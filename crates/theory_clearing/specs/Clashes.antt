@@ -5,5 +5,5 @@ use Rattle.definition.specs.Literals.{Clause, Formula}
 use Rattle.definition.specs.Clearing.{unique}
 
 -- no two unique literal clauses hold a literal and its negation
-abbrev pub Clash-free : Formula → Type 0
-Clash-free G = (c k : Clause) → Memᴰ c G → Memᴰ k G → T (unique G c) → T (unique G k) → (x : ℤ) → Memᴰ x c → Memᴰ (neg_ℤ x) k → ⊥
+abbrev pub ClashFree : Formula → Type 0
+ClashFree G = (c k : Clause) → Memᴰ c G → Memᴰ k G → T (unique G c) → T (unique G k) → (x : ℤ) → Memᴰ x c → Memᴰ (neg_ℤ x) k → ⊥

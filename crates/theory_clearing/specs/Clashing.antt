@@ -4,7 +4,7 @@ use Rattle.std.proofs.Math.Option.{Option, some, none}
 use Rattle.definition.specs.Lists.{any}
 use Rattle.definition.specs.Literals.{Clause, Formula, holds, opposed}
 use Rattle.definition.specs.Events.{Clash}
-use Rattle.definition.specs.Clearing.{unique, clash-at, resolvent}
+use Rattle.definition.specs.Clearing.{unique, clash_at, resolvent}
 
 abbrev pub found : {A : Type 0} → Option A → Bool
 found (some x) = true
@@ -12,11 +12,11 @@ found none = false
 
 -- the variable v clashes
 abbrev pub clashes : Formula → ℕ → Bool
-clashes F v = found (clash-at F v)
+clashes F v = found (clash_at F v)
 
 -- a literal stands in a clause of G that is a unique literal clause of F
-abbrev pub in-ulc : Formula → Formula → ℤ → Bool
-in-ulc F G l = any (λ c. holds l c && unique F c) G
+abbrev pub in_ulc : Formula → Formula → ℤ → Bool
+in_ulc F G l = any (λ c. holds l c && unique F c) G
 
 -- v is the variable of a literal of c
 abbrev pub mentions : Clause → ℕ → Bool

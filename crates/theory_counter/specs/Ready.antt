@@ -4,18 +4,18 @@ use mathlib.Core.List.{Memᴰ}
 use Rattle.definition.specs.Literals.{Formula, Clause}
 use Rattle.definition.specs.Events.{Choice}
 use Rattle.definition.specs.Clearing.{times}
-use Rattle.theory_base.specs.Clauses.{Same, Proper, Fit-all}
+use Rattle.theory_base.specs.Clauses.{Same, Proper, FitAll}
 
 -- a choice of two or more literals, all of its variables before the new ones
-pub record Well-formed (k : Choice) : Type 0 where
+pub record WellFormed (k : Choice) : Type 0 where
   pub proper : Proper k.literals
   pub long : 2 ≤ length k.literals
-  pub fit : Fit-all k.below k.literals
+  pub fit : FitAll k.below k.literals
 
 -- the clause c can be taken as the choice k where F stands: it stands, its literals in some order are those of k, and each stands in c only
 pub record Ready (F : Formula) (c : Clause) (k : Choice) : Type 0 where
   pub proper : Proper k.literals
-  pub proper-clause : Proper c
+  pub proper_clause : Proper c
   pub long : 2 ≤ length k.literals
   pub standing : Memᴰ c F
   pub same : Same k.literals c
@@ -25,4 +25,4 @@ pub record Ready (F : Formula) (c : Clause) (k : Choice) : Type 0 where
 pub record Other (k : Choice) (x : ℤ) : Type 0 where
   pub small : nat_abs x ≤ k.below
   pub not_in : Memᴰ x k.literals → ⊥
-  pub not-negated : Memᴰ (neg_ℤ x) k.literals → ⊥
+  pub not_negated : Memᴰ (neg_ℤ x) k.literals → ⊥

@@ -3,27 +3,27 @@ use mathlib.Core.Path.{refl}
 use Prim.Native.Nat.{◌≤◌}
 use native.Mathlib.Omega.{arith}
 use lib.ListN.{length}
-use Rattle.definition.specs.Reading.{Input, input-limits}
-use Rattle.definition.specs.Clearing.{clear-clashes, clear-pure}
-use Rattle.definition.specs.Reencoding.{counter-form, Settings, unclashed}
-use Rattle.definition.specs.Alignment.{as-listed}
+use Rattle.definition.specs.Reading.{Input, input_limits}
+use Rattle.definition.specs.Clearing.{clear_clashes, clear_pure}
+use Rattle.definition.specs.Reencoding.{counter_form, Settings, unclashed}
+use Rattle.definition.specs.Alignment.{as_listed}
 use Rattle.theory_text.specs.Accepted.{Accepted}
 use Rattle.theory_room.specs.Choices.{clearing}
-use Rattle.theory_room.proofs.Runs.{clearing-weight, weight-most, weight-least}
-use Rattle.theory_run.proofs.LogSound.{accepted-run}
+use Rattle.theory_room.proofs.Runs.{clearing_weight, weight_most, weight_least}
+use Rattle.theory_run.proofs.LogSound.{accepted_run}
 
-module _ (i : Input) (a : Accepted input-limits i) where
+module _ (i : Input) (a : Accepted input_limits i) where
   -- in any settings
-  any-settings : Settings
-  any-settings = record { form = counter-form; arrangement = as-listed; step = 1 }
+  any_settings : Settings
+  any_settings = record { form = counter_form; arrangement = as_listed; step = 1 }
 
-  pub unclashed-shorter : length (unclashed i.formula) ≤ length i.formula
+  pub unclashed_shorter : length (unclashed i.formula) ≤ length i.formula
   unfolding unclashed clearing
-  unclashed-shorter =
+  unclashed_shorter =
       let f = i.formula in
       omega (
         arith,
-        clearing-weight any-settings i (accepted-run any-settings i a) 1 (λ _. 0) (clear-clashes f) (clear-pure (unclashed f)) refl,
-        weight-most 1 0 (λ _. 0) (λ _. omega arith) f,
-        weight-least 1 0 (λ _. 0) (λ _. omega arith) (unclashed f),
+        clearing_weight any_settings i (accepted_run any_settings i a) 1 (λ _. 0) (clear_clashes f) (clear_pure (unclashed f)) refl,
+        weight_most 1 0 (λ _. 0) (λ _. omega arith) f,
+        weight_least 1 0 (λ _. 0) (λ _. omega arith) (unclashed f),
       )

@@ -9,205 +9,205 @@ use native.Mathlib.Omega.{arith}
 use native.Mathlib.Nat.{mul-le-mul_left}
 use lib.IntN.{ℤ, pos, negsuc, nat_abs}
 use lib.ListN.{length, length-append}
-use Rattle.definition.specs.Lists.{sum_of, for-each}
+use Rattle.definition.specs.Lists.{sum_of, for_each}
 use Rattle.definition.specs.Literals.{Clause, Formula}
-use Rattle.definition.specs.Text.{Bytes, bytes, digits, literal-text}
+use Rattle.definition.specs.Text.{Bytes, bytes, digits, literal_text}
 use Rattle.definition.specs.Standing.{Line, addition, deletion, literals, after}
-use Rattle.definition.specs.Reading.{Input, input-limits}
+use Rattle.definition.specs.Reading.{Input, input_limits}
 use Rattle.definition.specs.Events.{Clash, Event}
-use Rattle.definition.specs.Clearing.{clash-lines, lowest-clash, pure-literal, clear_next, clear-up-to, clear-clashes, pure-next, clear-pure-from, clear-pure}
-use Rattle.definition.specs.Log.{clause-text, log-line-text, log-text}
-use Rattle.definition.specs.Reencoding.{lines_of, lines, Settings, choice-events, unclashed, chosen, events, log}
+use Rattle.definition.specs.Clearing.{clash_lines, lowest_clash, pure_literal, clear_next, clear_up_to, clear_clashes, pure_next, clear_pure_from, clear_pure}
+use Rattle.definition.specs.Log.{clause_text, log_line_text, log_text}
+use Rattle.definition.specs.Reencoding.{lines_of, lines, Settings, choice_events, unclashed, chosen, events, log}
 use Rattle.theory_base.specs.Clauses.{Parted}
-use Rattle.theory_base.proofs.Digits.{digits-within}
-use Rattle.theory_base.proofs.Loops.{for-each-++, mem-for-each}
-use Rattle.theory_base.proofs.Sums.{sum-++, sum-≤, sum-most, sum-least, sum-for-each}
-use Rattle.theory_base.proofs.Fitting.{Up-to}
-use Rattle.theory_base.proofs.Replay.{All-lines, lines-++}
-use Rattle.theory_room.proofs.Weights.{weight, weight-of-set, gained, added, deleted, balance}
-use Rattle.theory_room.specs.Choices.{clearing, standing-after-first, next-choice}
-use Rattle.theory_room.proofs.Cleared.{clearing-event, clearing-lines-to}
-use Rattle.theory_room.proofs.Additions.{cells, clearing-adds}
-use Rattle.theory_room.proofs.Chosen.{chosen-few}
-use Rattle.theory_room.proofs.Compaction.{choice-step}
+use Rattle.theory_base.proofs.Digits.{digits_within}
+use Rattle.theory_base.proofs.Loops.{for_each-++, mem_for_each}
+use Rattle.theory_base.proofs.Sums.{sum-++, sum-≤, sum_most, sum_least, sum_for_each}
+use Rattle.theory_base.proofs.Fitting.{UpTo}
+use Rattle.theory_base.proofs.Replay.{AllLines, lines-++}
+use Rattle.theory_room.proofs.Weights.{weight, weight_of_set, gained, added, deleted, balance}
+use Rattle.theory_room.specs.Choices.{clearing, standing_after_first, next_choice}
+use Rattle.theory_room.proofs.Cleared.{clearing_event, clearing_lines_to}
+use Rattle.theory_room.proofs.Additions.{cells, clearing_adds}
+use Rattle.theory_room.proofs.Chosen.{chosen_few}
+use Rattle.theory_room.proofs.Compaction.{choice_step}
 use Rattle.theory_room.specs.Step.{step_of}
 use Rattle.theory_text.specs.Accepted.{Accepted}
-use Rattle.theory_room.proofs.Runs.{Run, top, choosing, events-are, weight-most, log-to, log-proper, top-most}
-use Rattle.theory_run.proofs.LogSound.{chosen-parted, accepted-run}
+use Rattle.theory_room.proofs.Runs.{Run, top, choosing, events_are, weight_most, log_to, log_proper, top_most}
+use Rattle.theory_run.proofs.LogSound.{chosen_parted, accepted_run}
 use Rattle.theory_run.specs.Sizes.{Short}
-use Rattle.theory_run.proofs.Choices.{events-of-others, others-are, no-others, others-first}
-use Rattle.theory_run.proofs.Cleared.{unclashed-shorter}
+use Rattle.theory_run.proofs.Choices.{events_of_others, others_are, no_others, others_first}
+use Rattle.theory_run.proofs.Cleared.{unclashed_shorter}
 
 -- ---- the text of lines whose variables have six digits at most
 
-digits-short : (n : ℕ) → n ≤ 176_000 → length (digits n) ≤ 6
-digits-short n h = digits-within 5 n (omega arith)
+digits_short : (n : ℕ) → n ≤ 176_000 → length (digits n) ≤ 6
+digits_short n h = digits_within 5 n (omega arith)
 
-literal-short : (x : ℤ) → nat_abs x ≤ 176_000 → length (literal-text x) ≤ 7
-unfolding literal-text
-literal-short (pos n) h = omega (arith, digits-short n h)
-literal-short (negsuc n) h = omega (arith, digits-short (suc n) h)
+literal_short : (x : ℤ) → nat_abs x ≤ 176_000 → length (literal_text x) ≤ 7
+unfolding literal_text
+literal_short (pos n) h = omega (arith, digits_short n h)
+literal_short (negsuc n) h = omega (arith, digits_short (suc n) h)
 
-literals-short : (c : Clause) → Up-to 176_000 c → length (for-each c (λ l. literal-text l ++ bytes " ")) ≤ 8 * length c
-unfolding for-each bytes
-literals-short [] h = omega arith
-literals-short (x ∷ c) h =
+literals_short : (c : Clause) → UpTo 176_000 c → length (for_each c (λ l. literal_text l ++ bytes " ")) ≤ 8 * length c
+unfolding for_each bytes
+literals_short [] h = omega arith
+literals_short (x ∷ c) h =
     omega (
       arith,
-      length-append (literal-text x ++ bytes " ") (for-each c (λ l. literal-text l ++ bytes " ")),
-      length-append (literal-text x) (bytes " "),
-      literal-short x (h x (here refl)),
-      literals-short c (λ y m. h y (there m)),
+      length-append (literal_text x ++ bytes " ") (for_each c (λ l. literal_text l ++ bytes " ")),
+      length-append (literal_text x) (bytes " "),
+      literal_short x (h x (here refl)),
+      literals_short c (λ y m. h y (there m)),
     )
 
-pub clause-short : (c : Clause) → Up-to 176_000 c → length (clause-text c) ≤ 8 * length c + 2
-unfolding clause-text bytes
-clause-short c h = omega (arith, length-append (for-each c (λ l. literal-text l ++ bytes " ")) (bytes "0\n"), literals-short c h)
+pub clause_short : (c : Clause) → UpTo 176_000 c → length (clause_text c) ≤ 8 * length c + 2
+unfolding clause_text bytes
+clause_short c h = omega (arith, length-append (for_each c (λ l. literal_text l ++ bytes " ")) (bytes "0\n"), literals_short c h)
 
 -- the cells of a line
-abbrev line-cells : Line → ℕ
-line-cells x = cells (literals x)
+abbrev line_cells : Line → ℕ
+line_cells x = cells (literals x)
 
-cells-least : (c : Clause) → length c + 1 ≤ cells c
+cells_least : (c : Clause) → length c + 1 ≤ cells c
 unfolding weight
-cells-least c = omega (arith, sum-least 3 (λ _. 3) (λ _. omega arith) c)
+cells_least c = omega (arith, sum_least 3 (λ _. 3) (λ _. omega arith) c)
 
-line-short : (x : Line) → Up-to 176_000 (literals x) → length (log-line-text x) ≤ 8 * line-cells x
-unfolding log-line-text literals bytes
-line-short (addition c) h = omega (arith, clause-short c h, cells-least c)
-line-short (deletion c) h = omega (arith, length-append (bytes "d ") (clause-text c), clause-short c h, cells-least c)
+line_short : (x : Line) → UpTo 176_000 (literals x) → length (log_line_text x) ≤ 8 * line_cells x
+unfolding log_line_text literals bytes
+line_short (addition c) h = omega (arith, clause_short c h, cells_least c)
+line_short (deletion c) h = omega (arith, length-append (bytes "d ") (clause_text c), clause_short c h, cells_least c)
 
-lines-short : (xs : List Line) → All-lines (Up-to 176_000) xs → length (log-text xs) ≤ 8 * sum_of line-cells xs
-unfolding log-text for-each sum_of
-lines-short [] h = omega arith
-lines-short (x ∷ xs) h = omega (arith, length-append (log-line-text x) (log-text xs), line-short x (h x (here refl)), lines-short xs (λ y m. h y (there m)))
+lines_short : (xs : List Line) → AllLines (UpTo 176_000) xs → length (log_text xs) ≤ 8 * sum_of line_cells xs
+unfolding log_text for_each sum_of
+lines_short [] h = omega arith
+lines_short (x ∷ xs) h = omega (arith, length-append (log_line_text x) (log_text xs), line_short x (h x (here refl)), lines_short xs (λ y m. h y (there m)))
 
-lines-counted : (xs : List Line) → length xs ≤ sum_of line-cells xs
+lines_counted : (xs : List Line) → length xs ≤ sum_of line_cells xs
 unfolding sum_of
-lines-counted [] = omega arith
-lines-counted (x ∷ xs) = omega (arith, cells-least (literals x), lines-counted xs)
+lines_counted [] = omega arith
+lines_counted (x ∷ xs) = omega (arith, cells_least (literals x), lines_counted xs)
 
 -- a line adds or deletes
-lines-change : (xs : List Line) → sum_of line-cells xs ≡ added cells xs + deleted cells xs
+lines_change : (xs : List Line) → sum_of line_cells xs ≡ added cells xs + deleted cells xs
 unfolding sum_of literals
-lines-change [] = refl
-lines-change (addition c ∷ xs) = omega (arith, lines-change xs)
-lines-change (deletion c ∷ xs) = omega (arith, lines-change xs)
+lines_change [] = refl
+lines_change (addition c ∷ xs) = omega (arith, lines_change xs)
+lines_change (deletion c ∷ xs) = omega (arith, lines_change xs)
 
 -- ---- what clearing adds
 
-clashes-few : (n : ℕ) (f : Formula) → length (clear-up-to n f) ≤ n
-unfolding clear-up-to clear_next
-clashes-few zero f = omega arith
-clashes-few (suc n) f = go (lowest-clash f) (clashes-few n)
+clashes_few : (n : ℕ) (f : Formula) → length (clear_up_to n f) ≤ n
+unfolding clear_up_to clear_next
+clashes_few zero f = omega arith
+clashes_few (suc n) f = go (lowest_clash f) (clashes_few n)
   where
-    go : (o : Option Clash) → ((g : Formula) → length (clear-up-to n g) ≤ n) → length (clear_next (clear-up-to n) f o) ≤ suc n
+    go : (o : Option Clash) → ((g : Formula) → length (clear_up_to n g) ≤ n) → length (clear_next (clear_up_to n) f o) ≤ suc n
     go none ih = omega arith
-    go (some c) ih = omega (arith, ih (after f (clash-lines c)))
+    go (some c) ih = omega (arith, ih (after f (clash_lines c)))
 
-pure-few : (left rest : Formula) → length (clear-pure-from left rest) ≤ length rest
-unfolding clear-pure-from pure-next
-pure-few left [] = omega arith
-pure-few left (c ∷ rest) = go (pure-literal (left ++ (c ∷ rest)) c) (pure-few (left ++ (c ∷ [])) rest) (pure-few left rest)
+pure_few : (left rest : Formula) → length (clear_pure_from left rest) ≤ length rest
+unfolding clear_pure_from pure_next
+pure_few left [] = omega arith
+pure_few left (c ∷ rest) = go (pure_literal (left ++ (c ∷ rest)) c) (pure_few (left ++ (c ∷ [])) rest) (pure_few left rest)
   where
-    go : (o : Option ℤ) → length (clear-pure-from (left ++ (c ∷ [])) rest) ≤ length rest → length (clear-pure-from left rest) ≤ length rest →
-        length (pure-next c (clear-pure-from (left ++ (c ∷ [])) rest) (clear-pure-from left rest) o) ≤ suc (length rest)
+    go : (o : Option ℤ) → length (clear_pure_from (left ++ (c ∷ [])) rest) ≤ length rest → length (clear_pure_from left rest) ≤ length rest →
+        length (pure_next c (clear_pure_from (left ++ (c ∷ [])) rest) (clear_pure_from left rest) o) ≤ suc (length rest)
     go none p q = omega arith
     go (some l) p q = omega arith
 
-clearing-few : (f : Formula) → length (clearing f) ≤ length f + length (unclashed f)
-unfolding clearing clear-clashes clear-pure
-clearing-few f = omega (arith, length-append (clear-clashes f) (clear-pure (unclashed f)), clashes-few (length f) f, pure-few [] (unclashed f))
+clearing_few : (f : Formula) → length (clearing f) ≤ length f + length (unclashed f)
+unfolding clearing clear_clashes clear_pure
+clearing_few f = omega (arith, length-append (clear_clashes f) (clear_pure (unclashed f)), clashes_few (length f) f, pure_few [] (unclashed f))
 
 -- events that each add at most b
-events-add-most : (b : ℕ) (es : List Event) → ((e : Event) → Memᴰ e es → added cells (lines_of e) ≤ b) → added cells (lines es) ≤ length es * b
+events_add_most : (b : ℕ) (es : List Event) → ((e : Event) → Memᴰ e es → added cells (lines_of e) ≤ b) → added cells (lines es) ≤ length es * b
 unfolding lines
-events-add-most b es h =
-    omega (arith, sum-for-each (gained cells) es lines_of, sum-≤ (λ e. added cells (lines_of e)) (λ _. b) es h, sum-most b (λ _. b) (λ _. omega arith) es)
+events_add_most b es h =
+    omega (arith, sum_for_each (gained cells) es lines_of, sum-≤ (λ e. added cells (lines_of e)) (λ _. b) es h, sum_most b (λ _. b) (λ _. omega arith) es)
 
 -- ---- a run
-module _ (i : Input) (a : Accepted input-limits i) (s : Settings) (allowed : s.step ≤ 100) where
+module _ (i : Input) (a : Accepted input_limits i) (s : Settings) (allowed : s.step ≤ 100) where
   run : Run s i
-  run = accepted-run s i a
+  run = accepted_run s i a
 
   parted : Parted (chosen s i)
-  parted = chosen-parted s i a.proper a.fits
+  parted = chosen_parted s i a.proper a.fits
 
-  clearing-added : added cells (lines (clearing i.formula)) ≤ 40_000 * 24_001
-  unfolding input-limits lines
-  clearing-added =
+  clearing_added : added cells (lines (clearing i.formula)) ≤ 40_000 * 24_001
+  unfolding input_limits lines
+  clearing_added =
       let f = i.formula in
-      let to = clearing-lines-to i.highest f a.proper a.fits in
+      let to = clearing_lines_to i.highest f a.proper a.fits in
       let each : (e : Event) → Memᴰ e (clearing f) → added cells (lines_of e) ≤ 24_001 =
-      λ e m. omega (arith, clearing-adds i.highest e (clearing-event f e m) (λ x j. to x (mem-for-each (clearing f) lines_of e x m j)), a.highest-few) in
-      omega (arith, events-add-most 24_001 (clearing f) each, clearing-few f, unclashed-shorter i a, a.clauses-few)
+      λ e m. omega (arith, clearing_adds i.highest e (clearing_event f e m) (λ x j. to x (mem_for_each (clearing f) lines_of e x m j)), a.highest_few) in
+      omega (arith, events_add_most 24_001 (clearing f) each, clearing_few f, unclashed_shorter i a, a.clauses_few)
 
-  step-most : step_of i ≤ 382_520
-  unfolding input-limits
-  step-most = omega (arith, a.formula-few, a.clauses-few, a.literals-few)
+  step_most : step_of i ≤ 382_520
+  unfolding input_limits
+  step_most = omega (arith, a.formula_few, a.clauses_few, a.literals_few)
 
-  choices-added : (cs ds : List Clause) → chosen s i ≡ cs ++ ds → added cells (lines (events-of-others i a s cs ds)) ≤ length ds * 382_520
-  choices-added cs [] e = omega (arith, ap (λ (es : List Event). added cells (lines es)) (no-others i a s cs), sum-++ (gained cells) (lines []) (lines []), ap (added cells) (lines-++ [] []))
-  choices-added cs (c ∷ ds) e =
-      let es = choice-events s.form (standing-after-first s i cs) c (next-choice s i cs c) in
-      let rest = events-of-others i a s (cs ++ (c ∷ [])) ds in
+  choices_added : (cs ds : List Clause) → chosen s i ≡ cs ++ ds → added cells (lines (events_of_others i a s cs ds)) ≤ length ds * 382_520
+  choices_added cs [] e = omega (arith, ap (λ (es : List Event). added cells (lines es)) (no_others i a s cs), sum-++ (gained cells) (lines []) (lines []), ap (added cells) (lines-++ [] []))
+  choices_added cs (c ∷ ds) e =
+      let es = choice_events s.form (standing_after_first s i cs) c (next_choice s i cs c) in
+      let rest = events_of_others i a s (cs ++ (c ∷ [])) ds in
       omega (
         arith,
-        ap (λ (zs : List Event). added cells (lines zs)) (others-are i a s cs ds c e),
+        ap (λ (zs : List Event). added cells (lines zs)) (others_are i a s cs ds c e),
         ap (added cells) (lines-++ es rest),
         sum-++ (gained cells) (lines es) (lines rest),
-        choice-step s i run parted cs ds c e s.form,
-        step-most,
-        choices-added (cs ++ (c ∷ [])) ds (e ∙ sym (append_assoc cs (c ∷ []) ds)),
+        choice_step s i run parted cs ds c e s.form,
+        step_most,
+        choices_added (cs ++ (c ∷ [])) ds (e ∙ sym (append_assoc cs (c ∷ []) ds)),
       )
 
-  choosing-added : added cells (lines (choosing s i)) ≤ length (chosen s i) * 382_520
-  choosing-added = omega (arith, choices-added [] (chosen s i) refl, ap (λ (es : List Event). added cells (lines es)) (others-first i a s))
+  choosing_added : added cells (lines (choosing s i)) ≤ length (chosen s i) * 382_520
+  choosing_added = omega (arith, choices_added [] (chosen s i) refl, ap (λ (es : List Event). added cells (lines es)) (others_first i a s))
 
-  log-cells : sum_of line-cells (log s i) ≤ 3_200_000_000
-  unfolding log input-limits
-  log-cells =
+  log_cells : sum_of line_cells (log s i) ≤ 3_200_000_000
+  unfolding log input_limits
+  log_cells =
       let f = i.formula in
-      let few = (chosen-few s i run parted).2 in
+      let few = (chosen_few s i run parted).2 in
       omega (
         arith,
-        lines-change (log s i),
-        balance cells (weight-of-set 1 (λ _. 3)) run.leads a.proper (log-proper s i run),
-        weight-most 1 3 (λ _. 3) (λ _. omega arith) f,
-        ap (added cells) (ap lines (events-are s i) ∙ lines-++ (clearing f) (choosing s i)),
+        lines_change (log s i),
+        balance cells (weight_of_set 1 (λ _. 3)) run.leads a.proper (log_proper s i run),
+        weight_most 1 3 (λ _. 3) (λ _. omega arith) f,
+        ap (added cells) (ap lines (events_are s i) ∙ lines-++ (clearing f) (choosing s i)),
         sum-++ (gained cells) (lines (clearing f)) (lines (choosing s i)),
-        clearing-added,
-        choosing-added,
-        a.highest-few,
-        a.clauses-few,
-        a.literals-few,
+        clearing_added,
+        choosing_added,
+        a.highest_few,
+        a.clauses_few,
+        a.literals_few,
       )
 
   -- a step of 100 at most
-  pub top-few : top s i ≤ 176_000
-  unfolding input-limits
-  top-few =
-      let few = chosen-few s i run parted in
+  pub top_few : top s i ≤ 176_000
+  unfolding input_limits
+  top_few =
+      let few = chosen_few s i run parted in
       let steps : length (chosen s i) * s.step ≤ length (chosen s i) * 100 = mul-le-mul_left (length (chosen s i)) allowed in
-      omega (arith, few.1, few.2, a.highest-few, top-most s i run)
+      omega (arith, few.1, few.2, a.highest_few, top_most s i run)
 
-  log-lines : All-lines (Up-to 176_000) (log s i)
-  unfolding input-limits
-  log-lines x m y j = omega (arith, (log-to s i run x m).1 y j, top-few)
+  log_lines : AllLines (UpTo 176_000) (log s i)
+  unfolding input_limits
+  log_lines x m y j = omega (arith, (log_to s i run x m).1 y j, top_few)
 
-  pub log-text-length : length (log-text (log s i)) ≤ 25_600_000_000
-  log-text-length = omega (arith, lines-short (log s i) log-lines, log-cells)
+  pub log_text_length : length (log_text (log s i)) ≤ 25_600_000_000
+  log_text_length = omega (arith, lines_short (log s i) log_lines, log_cells)
 
-  pub log-length : length (log s i) ≤ 3_200_000_000
-  log-length = omega (arith, lines-counted (log s i), log-cells)
+  pub log_length : length (log s i) ≤ 3_200_000_000
+  log_length = omega (arith, lines_counted (log s i), log_cells)
 
   -- any part of the log behind another
-  pub parts-short : (xs es ys : List Event) → events s i ≡ xs ++ (es ++ ys) → Short (lines xs) (lines es)
-  unfolding log log-text
-  parts-short xs es ys e =
+  pub parts_short : (xs es ys : List Event) → events s i ≡ xs ++ (es ++ ys) → Short (lines xs) (lines es)
+  unfolding log log_text
+  parts_short xs es ys e =
       let k : log s i ≡ lines xs ++ (lines es ++ lines ys) = ap lines e ∙ lines-++ xs (es ++ ys) ∙ ap (λ (zs : List Line). lines xs ++ zs) (lines-++ es ys) in
-      let t = ap log-text k ∙ for-each-++ (lines xs) (lines es ++ lines ys) log-line-text ∙ ap (λ (u : Bytes). log-text (lines xs) ++ u) (for-each-++ (lines es) (lines ys) log-line-text) in
+      let t = ap log_text k ∙ for_each-++ (lines xs) (lines es ++ lines ys) log_line_text ∙ ap (λ (u : Bytes). log_text (lines xs) ++ u) (for_each-++ (lines es) (lines ys) log_line_text) in
       record {
-        text = omega (arith, ap length t, log-text-length, length-append (log-text (lines xs)) (log-text (lines es) ++ log-text (lines ys)), length-append (log-text (lines es)) (log-text (lines ys)));
-        count = omega (arith, ap length k, log-length, length-append (lines xs) (lines es ++ lines ys), length-append (lines es) (lines ys));
+        text = omega (arith, ap length t, log_text_length, length-append (log_text (lines xs)) (log_text (lines es) ++ log_text (lines ys)), length-append (log_text (lines es)) (log_text (lines ys)));
+        count = omega (arith, ap length k, log_length, length-append (lines xs) (lines es ++ lines ys), length-append (lines es) (lines ys));
       }

@@ -18,9 +18,9 @@ module _ {A : Type 0} where
   each P (y ∷ xs) h x (here e) = rw e h.0
   each P (y ∷ xs) h x (there i) = each P xs h.1 x i
 
-  pub of-each : (P : A → Type 0) (xs : List A) → ((x : A) → Memᴰ x xs → P x) → Each P xs
-  of-each P [] h = tt
-  of-each P (x ∷ xs) h = (h x (here refl), of-each P xs (λ y i. h y (there i)))
+  pub of_each : (P : A → Type 0) (xs : List A) → ((x : A) → Memᴰ x xs → P x) → Each P xs
+  of_each P [] h = tt
+  of_each P (x ∷ xs) h = (h x (here refl), of_each P xs (λ y i. h y (there i)))
 
   pub each-++ : (P : A → Type 0) (xs ys : List A) → Each P xs → Each P ys → Each P (xs ++ ys)
   each-++ P [] ys f g = g
@@ -34,11 +34,11 @@ pub every : (P : ℤ → Type 0) (F : Formula) → Every P F → (d : Clause) �
 every P F h d i = each P d (each (Each P) F h d i)
 
 -- a literal stands in none of the clauses
-abbrev pub In-none : ℤ → Formula → Type 0
-In-none l F = Every (λ x. l ≢ x) F
+abbrev pub InNone : ℤ → Formula → Type 0
+InNone l F = Every (λ x. l ≢ x) F
 
 pub not_in : (l : ℤ) (c : Clause) → Each (λ x. l ≢ x) c → Memᴰ l c → ⊥
 not_in l c h i = each (λ x. l ≢ x) c h l i refl
 
-pub in-none : (l : ℤ) (F : Formula) → In-none l F → Absent l F
-in-none l F h d i m = every (λ x. l ≢ x) F h d i l m refl
+pub in_none : (l : ℤ) (F : Formula) → InNone l F → Absent l F
+in_none l F h d i m = every (λ x. l ≢ x) F h d i l m refl

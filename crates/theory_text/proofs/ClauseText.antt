@@ -10,115 +10,115 @@ use native.Mathlib.Omega.{arith}
 use lib.IntN.{ℤ, pos, neg_ℤ}
 use lib.Seq.{append_snoc}
 use borrow.Author.Tests.{ne_eqb}
-use Rattle.definition.specs.Lists.{for-each}
+use Rattle.definition.specs.Lists.{for_each}
 use Rattle.definition.specs.Checked.{Checked, value, ◌>>=◌, through}
 use Rattle.definition.specs.Literals.{Clause}
-use Rattle.definition.specs.Text.{Bytes, bytes, is, blank, words-by, words, fields, digits, literal-text}
-use Rattle.definition.specs.Log.{clause-text}
-use Rattle.definition.specs.Answer.{space-or-tab}
-use Rattle.theory_base.specs.Clauses.{Proper, Fit, Fit-all}
-use Rattle.theory_base.proofs.Clauses.{proper-apart}
-use Rattle.theory_text.proofs.Digits.{literal-between, literal-some}
-use Rattle.theory_text.proofs.Words.{free-++, between-free, first_word, only-word, first_field, only-field}
+use Rattle.definition.specs.Text.{Bytes, bytes, is, blank, words_by, words, fields, digits, literal_text}
+use Rattle.definition.specs.Log.{clause_text}
+use Rattle.definition.specs.Answer.{space_or_tab}
+use Rattle.theory_base.specs.Clauses.{Proper, Fit, FitAll}
+use Rattle.theory_base.proofs.Clauses.{proper_apart}
+use Rattle.theory_text.proofs.Digits.{literal_between, literal_some}
+use Rattle.theory_text.proofs.Words.{free-++, between_free, first_word, only_word, first_field, only_field}
 use Rattle.theory_text.specs.Words.{Free}
-use Rattle.theory_text.specs.ClauseText.{literals-text, clause-line}
+use Rattle.theory_text.specs.ClauseText.{literals_text, clause_line}
 
 -- their words
-unfoldable pub literal-words : Clause → List Bytes
-literal-words c = for-each c (λ l. literal-text l ∷ [])
+unfoldable pub literal_words : Clause → List Bytes
+literal_words c = for_each c (λ l. literal_text l ∷ [])
 
-unfoldable pub clause-words : Clause → List Bytes
-clause-words c = literal-words c ++ (bytes "0" ∷ [])
+unfoldable pub clause_words : Clause → List Bytes
+clause_words c = literal_words c ++ (bytes "0" ∷ [])
 
-pub clause-text-line : (c : Clause) → clause-text c ≡ clause-line c ++ bytes "\n"
-unfolding clause-text clause-line literals-text bytes
-clause-text-line c = sym (append_assoc (literals-text c) (bytes "0") (bytes "\n"))
+pub clause_text_line : (c : Clause) → clause_text c ≡ clause_line c ++ bytes "\n"
+unfolding clause_text clause_line literals_text bytes
+clause_text_line c = sym (append_assoc (literals_text c) (bytes "0") (bytes "\n"))
 
 -- ---- tests that no byte of a number passes
 abbrev pub Outside : (ℕ → Bool) → Type 0
 Outside p = (b : ℕ) → 45 ≤ b → b ≤ 57 → p b ≡ false
 
-pub blank-outside : Outside (is " ")
+pub blank_outside : Outside (is " ")
 unfolding is
-blank-outside b f g = ne_eqb b 32 (λ e. omega arith)
+blank_outside b f g = ne_eqb b 32 (λ e. omega arith)
 
-pub newline-outside : Outside (is "\n")
+pub newline_outside : Outside (is "\n")
 unfolding is
-newline-outside b f g = ne_eqb b 10 (λ e. omega arith)
+newline_outside b f g = ne_eqb b 10 (λ e. omega arith)
 
-pub return-outside : Outside (is "\r")
+pub return_outside : Outside (is "\r")
 unfolding is
-return-outside b f g = ne_eqb b 13 (λ e. omega arith)
+return_outside b f g = ne_eqb b 13 (λ e. omega arith)
 
-pub space-or-tab-outside : Outside space-or-tab
-unfolding space-or-tab is
-space-or-tab-outside b f g = rw (ne_eqb b 32 (λ e. omega arith), ne_eqb b 9 (λ e. omega arith))
+pub space_or_tab_outside : Outside space_or_tab
+unfolding space_or_tab is
+space_or_tab_outside b f g = rw (ne_eqb b 32 (λ e. omega arith), ne_eqb b 9 (λ e. omega arith))
 
-blanks-outside : Outside blank
+blanks_outside : Outside blank
 unfolding blank is
-blanks-outside b f g = rw (ne_eqb b 32 (λ e. omega arith), ne_eqb b 9 (λ e. omega arith), ne_eqb b 13 (λ e. omega arith), ne_eqb b 10 (λ e. omega arith))
+blanks_outside b f g = rw (ne_eqb b 32 (λ e. omega arith), ne_eqb b 9 (λ e. omega arith), ne_eqb b 13 (λ e. omega arith), ne_eqb b 10 (λ e. omega arith))
 
-literal-free : (p : ℕ → Bool) → Outside p → (l : ℤ) → Free p (literal-text l)
-literal-free p h l = between-free p 45 57 h (literal-text l) (literal-between l)
+literal_free : (p : ℕ → Bool) → Outside p → (l : ℤ) → Free p (literal_text l)
+literal_free p h l = between_free p 45 57 h (literal_text l) (literal_between l)
 
-pub digits-free : (p : ℕ → Bool) → Outside p → (n : ℕ) → Free p (digits n)
-unfolding literal-text
-digits-free p h n = literal-free p h (pos n)
+pub digits_free : (p : ℕ → Bool) → Outside p → (n : ℕ) → Free p (digits n)
+unfolding literal_text
+digits_free p h n = literal_free p h (pos n)
 
-zero-free : (p : ℕ → Bool) → Outside p → Free p (bytes "0")
+zero_free : (p : ℕ → Bool) → Outside p → Free p (bytes "0")
 unfolding bytes
-zero-free p h = (h 48 (omega arith) (omega arith), tt)
+zero_free p h = (h 48 (omega arith) (omega arith), tt)
 
 -- the literals of a clause, parted from the text after them
-split-literals : (split : Bytes → List Bytes) → ((l : ℤ) (t : Bytes) → split (literal-text l ++ code " " ∷ t) ≡ literal-text l ∷ split t) → (c : Clause) (t : Bytes) → split (literals-text c ++ t) ≡ literal-words c ++ split t
-unfolding literals-text literal-words for-each bytes
-split-literals split h [] t = refl
-split-literals split h (l ∷ c) t =
-    rw (append_assoc (literal-text l ++ (32 ∷ [])) (literals-text c) t, append_assoc (literal-text l) (32 ∷ []) (literals-text c ++ t), h l (literals-text c ++ t))
-    (rw (split-literals split h c t))
+split_literals : (split : Bytes → List Bytes) → ((l : ℤ) (t : Bytes) → split (literal_text l ++ code " " ∷ t) ≡ literal_text l ∷ split t) → (c : Clause) (t : Bytes) → split (literals_text c ++ t) ≡ literal_words c ++ split t
+unfolding literals_text literal_words for_each bytes
+split_literals split h [] t = refl
+split_literals split h (l ∷ c) t =
+    rw (append_assoc (literal_text l ++ (32 ∷ [])) (literals_text c) t, append_assoc (literal_text l) (32 ∷ []) (literals_text c ++ t), h l (literals_text c ++ t))
+    (rw (split_literals split h c t))
 
-module _ (separates : ℕ → Bool) (at-blank : separates (code " ") ≡ true) (outside : Outside separates) where
-  words-literals : (c : Clause) (t : Bytes) → words-by separates (literals-text c ++ t) ≡ literal-words c ++ words-by separates t
-  words-literals =
-      split-literals (words-by separates) (λ l t. first_word separates (literal-text l) (code " ") t (literal-free separates outside l) (literal-some l) at-blank)
+module _ (separates : ℕ → Bool) (at_blank : separates (code " ") ≡ true) (outside : Outside separates) where
+  words_literals : (c : Clause) (t : Bytes) → words_by separates (literals_text c ++ t) ≡ literal_words c ++ words_by separates t
+  words_literals =
+      split_literals (words_by separates) (λ l t. first_word separates (literal_text l) (code " ") t (literal_free separates outside l) (literal_some l) at_blank)
 
-  pub words-clause-line : (c : Clause) → words-by separates (clause-line c) ≡ clause-words c
-  unfolding clause-line clause-words bytes
-  words-clause-line c = rw (words-literals c (48 ∷ []), only-word separates (48 ∷ []) (zero-free separates outside) (omega arith))
+  pub words_clause_line : (c : Clause) → words_by separates (clause_line c) ≡ clause_words c
+  unfolding clause_line clause_words bytes
+  words_clause_line c = rw (words_literals c (48 ∷ []), only_word separates (48 ∷ []) (zero_free separates outside) (omega arith))
 
-pub words-clause-text : (c : Clause) (t : Bytes) → words (clause-text c ++ t) ≡ clause-words c ++ words t
-unfolding words clause-text literals-text clause-words bytes blank is
-words-clause-text c t =
-    rw (append_assoc (literals-text c) (48 ∷ 10 ∷ []) t, words-literals blank refl blanks-outside c (48 ∷ 10 ∷ t), first_word blank (48 ∷ []) 10 t (zero-free blank blanks-outside) (omega arith) refl)
-    (sym (append_snoc (literal-words c) (48 ∷ []) (words-by blank t)))
+pub words_clause_text : (c : Clause) (t : Bytes) → words (clause_text c ++ t) ≡ clause_words c ++ words t
+unfolding words clause_text literals_text clause_words bytes blank is
+words_clause_text c t =
+    rw (append_assoc (literals_text c) (48 ∷ 10 ∷ []) t, words_literals blank refl blanks_outside c (48 ∷ 10 ∷ t), first_word blank (48 ∷ []) 10 t (zero_free blank blanks_outside) (omega arith) refl)
+    (sym (append_snoc (literal_words c) (48 ∷ []) (words_by blank t)))
 
-pub fields-clause-line : (c : Clause) → fields (clause-line c) ≡ clause-words c
-unfolding clause-line clause-words
-fields-clause-line c =
-    rw (split-literals fields (λ l t. first_field (literal-text l) t (literal-free (is " ") blank-outside l)) c (bytes "0"), only-field (bytes "0") (zero-free (is " ") blank-outside))
+pub fields_clause_line : (c : Clause) → fields (clause_line c) ≡ clause_words c
+unfolding clause_line clause_words
+fields_clause_line c =
+    rw (split_literals fields (λ l t. first_field (literal_text l) t (literal_free (is " ") blank_outside l)) c (bytes "0"), only_field (bytes "0") (zero_free (is " ") blank_outside))
 
 -- what is no blank and no byte of a number is not in a clause's line
-module _ (p : ℕ → Bool) (outside : Outside p) (at-blank : p (code " ") ≡ false) where
-  literals-text-free : (c : Clause) → Free p (literals-text c)
-  unfolding literals-text for-each bytes
-  literals-text-free [] = tt
-  literals-text-free (l ∷ c) =
-      free-++ p (literal-text l ++ (32 ∷ [])) (literals-text c)
-      (free-++ p (literal-text l) (32 ∷ []) (literal-free p outside l) (at-blank, tt))
-      (literals-text-free c)
+module _ (p : ℕ → Bool) (outside : Outside p) (at_blank : p (code " ") ≡ false) where
+  literals_text_free : (c : Clause) → Free p (literals_text c)
+  unfolding literals_text for_each bytes
+  literals_text_free [] = tt
+  literals_text_free (l ∷ c) =
+      free-++ p (literal_text l ++ (32 ∷ [])) (literals_text c)
+      (free-++ p (literal_text l) (32 ∷ []) (literal_free p outside l) (at_blank, tt))
+      (literals_text_free c)
 
-  pub clause-line-free : (c : Clause) → Free p (clause-line c)
-  unfolding clause-line
-  clause-line-free c = free-++ p (literals-text c) (bytes "0") (literals-text-free c) (zero-free p outside)
+  pub clause_line_free : (c : Clause) → Free p (clause_line c)
+  unfolding clause_line
+  clause_line_free c = free-++ p (literals_text c) (bytes "0") (literals_text_free c) (zero_free p outside)
 
 -- ---- steps through the words of a clause's literals: none is 0, repeated or opposed, or has a variable above v
-pub literals-through : {S : Type 0} (step : S → Bytes → Checked S) (state : Clause → S) (v : ℕ) →
-    ((a : Clause) (l : ℤ) → Fit v l → (Memᴰ l a → ⊥) → (Memᴰ (neg_ℤ l) a → ⊥) → step (state a) (literal-text l) ≡ value (state (a ++ (l ∷ [])))) →
-    (a c : Clause) → Proper (a ++ c) → Fit-all v c → through step (state a) (literal-words c) ≡ value (state (a ++ c))
-unfolding through literal-words for-each ◌>>=◌
-literals-through step state v one a [] p f = rw (append-nil a)
-literals-through step state v one a (l ∷ c) p f =
-    let r = proper-apart a l c p in
+pub literals_through : {S : Type 0} (step : S → Bytes → Checked S) (state : Clause → S) (v : ℕ) →
+    ((a : Clause) (l : ℤ) → Fit v l → (Memᴰ l a → ⊥) → (Memᴰ (neg_ℤ l) a → ⊥) → step (state a) (literal_text l) ≡ value (state (a ++ (l ∷ [])))) →
+    (a c : Clause) → Proper (a ++ c) → FitAll v c → through step (state a) (literal_words c) ≡ value (state (a ++ c))
+unfolding through literal_words for_each ◌>>=◌
+literals_through step state v one a [] p f = rw (append-nil a)
+literals_through step state v one a (l ∷ c) p f =
+    let r = proper_apart a l c p in
     let e = append_snoc a l c in
     rw (one a l (f l (here refl)) r.0 r.1)
-    (rw e at (literals-through step state v one (a ++ (l ∷ [])) c (rw e p) (λ x i. f x (there i))))
+    (rw e at (literals_through step state v one (a ++ (l ∷ [])) c (rw e p) (λ x i. f x (there i))))

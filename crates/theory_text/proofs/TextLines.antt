@@ -10,60 +10,60 @@ use lib.Dec.{eqb}
 use lib.ListN.{length-take, length, get_or, take, drop, length-drop, drop_of_length-le}
 use lib.Seq.{take-length, drop-cons}
 use borrow.Author.Tests.{eq-eqb, ne_eqb}
-use Rattle.definition.specs.Text.{Bytes, is, text-lines, without-last-cr, line-text, same_bytes}
-use Rattle.definition.specs.Answer.{begins-with}
+use Rattle.definition.specs.Text.{Bytes, is, text_lines, without_last_cr, line_text, same_bytes}
+use Rattle.definition.specs.Answer.{begins_with}
 use Rattle.theory_base.specs.Slices.{between}
-use Rattle.theory_base.proofs.Parts.{between_none, between-snoc, between-then}
-use Rattle.theory_base.proofs.Tests.{to-true, to-false, second_holds}
-use Rattle.theory_text.proofs.Words.{free-++, first-line, past-line, last-cr, last_line, same_length, same-turned}
+use Rattle.theory_base.proofs.Parts.{between_none, between_snoc, between_then}
+use Rattle.theory_base.proofs.Tests.{to_true, to_false, second_holds}
+use Rattle.theory_text.proofs.Words.{free-++, first_line, past_line, last_cr, last_line, same_length, same_turned}
 use Rattle.theory_text.specs.Words.{Free}
-use Rattle.theory_text.specs.TextLines.{Line-end, Trimmed, First-line}
+use Rattle.theory_text.specs.TextLines.{LineEnd, Trimmed, FirstLine}
 
 -- ---- the end of a line
 
 module _ (t : Bytes) (at : ℕ) where
-  pub line-end-start : Free (is "\n") (between at at t)
-  line-end-start = rw (between_none at t) tt
+  pub line_end_start : Free (is "\n") (between at at t)
+  line_end_start = rw (between_none at t) tt
 
-  pub line-end-step : (i : ℕ) → at ≤ i → i < length t → (get_or t i 0 ≡ 10 → ⊥) → Free (is "\n") (between at i t) → Free (is "\n") (between at (i + 1) t)
+  pub line_end_step : (i : ℕ) → at ≤ i → i < length t → (get_or t i 0 ≡ 10 → ⊥) → Free (is "\n") (between at i t) → Free (is "\n") (between at (i + 1) t)
   unfolding is
-  line-end-step i h k n f = rw (between-snoc at i t 0 h k) (free-++ (is "\n") (between at i t) (get_or t i 0 ∷ []) f (ne_eqb (get_or t i 0) 10 n, tt))
+  line_end_step i h k n f = rw (between_snoc at i t 0 h k) (free-++ (is "\n") (between at i t) (get_or t i 0 ∷ []) f (ne_eqb (get_or t i 0) 10 n, tt))
 
 -- ---- a CR at the end
 
 module _ (t : Bytes) (start end : ℕ) where
   last_byte : start < end → end ≤ length t → between start end t ≡ between start (end - 1) t ++ (get_or t (end - 1) 0 ∷ [])
-  last_byte h k = let e : end - 1 + 1 ≡ end = omega arith in ap (λ (i : ℕ). between start i t) (sym e) ∙ between-snoc start (end - 1) t 0 (omega arith) (omega arith)
+  last_byte h k = let e : end - 1 + 1 ≡ end = omega arith in ap (λ (i : ℕ). between start i t) (sym e) ∙ between_snoc start (end - 1) t 0 (omega arith) (omega arith)
 
-  pub trimmed-cr : start < end → end ≤ length t → get_or t (end - 1) 0 ≡ 13 → Trimmed t start end (end - 1)
+  pub trimmed_cr : start < end → end ≤ length t → get_or t (end - 1) 0 ≡ 13 → Trimmed t start end (end - 1)
   unfolding is
-  trimmed-cr h k e = record {
+  trimmed_cr h k e = record {
     after = omega arith;
     before = omega arith;
-    text = sym (ap without-last-cr (last_byte h k) ∙ last-cr (between start (end - 1) t) (get_or t (end - 1) 0) ∙ (rw e refl));
+    text = sym (ap without_last_cr (last_byte h k) ∙ last_cr (between start (end - 1) t) (get_or t (end - 1) 0) ∙ (rw e refl));
   }
 
-  pub trimmed-none : start < end → end ≤ length t → (get_or t (end - 1) 0 ≡ 13 → ⊥) → Trimmed t start end end
+  pub trimmed_none : start < end → end ≤ length t → (get_or t (end - 1) 0 ≡ 13 → ⊥) → Trimmed t start end end
   unfolding is
-  trimmed-none h k n = record {
+  trimmed_none h k n = record {
     after = omega arith;
     before = omega arith;
-    text = sym (ap without-last-cr (last_byte h k) ∙ last-cr (between start (end - 1) t) (get_or t (end - 1) 0) ∙ (rw (ne_eqb (get_or t (end - 1) 0) 13 n) refl) ∙ sym (last_byte h k));
+    text = sym (ap without_last_cr (last_byte h k) ∙ last_cr (between start (end - 1) t) (get_or t (end - 1) 0) ∙ (rw (ne_eqb (get_or t (end - 1) 0) 13 n) refl) ∙ sym (last_byte h k));
   }
 
-  pub trimmed-empty : start ≡ end → Trimmed t start end end
-  unfolding without-last-cr
-  trimmed-empty e = record { after = omega arith; before = omega arith; text = rw (← e, between_none start t) refl }
+  pub trimmed_empty : start ≡ end → Trimmed t start end end
+  unfolding without_last_cr
+  trimmed_empty e = record { after = omega arith; before = omega arith; text = rw (← e, between_none start t) refl }
 
 -- ---- the line
 
-module _ (t : Bytes) (at end : ℕ) (h : at < length t) (e : Line-end t at end) where
+module _ (t : Bytes) (at end : ℕ) (h : at < length t) (e : LineEnd t at end) where
   -- the text ends it
-  pub line-last : end ≡ length t → First-line t at at end end
-  unfolding line-text text-lines
-  line-last q = record {
+  pub line_last : end ≡ length t → FirstLine t at at end end
+  unfolding line_text text_lines
+  line_last q = record {
     line = record { text = between at end t; ended = false };
-    lines = ap text-lines whole ∙ last_line (between at end t) some e.no-newline ∙ ap (λ (r : Bytes). record { text = between at end t; ended = false } ∷ text-lines r) (sym none);
+    lines = ap text_lines whole ∙ last_line (between at end t) some e.no_newline ∙ ap (λ (r : Bytes). record { text = between at end t; ended = false } ∷ text_lines r) (sym none);
     text = refl;
     rest = drop_of_length-le (drop at t) {i = suc (length (between at end t))} (omega (arith, ap length whole)) ∙ sym none;
     ordered = e.after;
@@ -76,19 +76,19 @@ module _ (t : Bytes) (at end : ℕ) (h : at < length t) (e : Line-end t at end) 
       none = drop_of_length-le t {i = end} (omega arith)
 
       whole : drop at t ≡ between at end t
-      whole = between-then at end t e.after ∙ ap (λ (r : Bytes). between at end t ++ r) none ∙ append-nil (between at end t)
+      whole = between_then at end t e.after ∙ ap (λ (r : Bytes). between at end t ++ r) none ∙ append-nil (between at end t)
 
       some : 1 ≤ length (between at end t)
       some = omega (arith, ap length whole, length-drop at t)
 
   -- LF ends it
-  pub line-ended : (trimmed : ℕ) → end < length t → Trimmed t at end trimmed → First-line t at at trimmed (end + 1)
-  unfolding line-text
-  line-ended trimmed q r = record {
+  pub line_ended : (trimmed : ℕ) → end < length t → Trimmed t at end trimmed → FirstLine t at at trimmed (end + 1)
+  unfolding line_text
+  line_ended trimmed q r = record {
     line = record { text = between at end t; ended = true };
-    lines = ap text-lines whole ∙ first-line (between at end t) (drop (end + 1) t) e.no-newline;
+    lines = ap text_lines whole ∙ first_line (between at end t) (drop (end + 1) t) e.no_newline;
     text = sym r.text;
-    rest = ap (drop (suc (length (between at end t)))) whole ∙ past-line (between at end t) (code "\n") (drop (end + 1) t);
+    rest = ap (drop (suc (length (between at end t)))) whole ∙ past_line (between at end t) (code "\n") (drop (end + 1) t);
     ordered = r.after;
     before = omega (arith, r.before);
     forward = omega (arith, e.after);
@@ -96,10 +96,10 @@ module _ (t : Bytes) (at end : ℕ) (h : at < length t) (e : Line-end t at end) 
   }
     where
       whole : drop at t ≡ between at end t ++ code "\n" ∷ drop (end + 1) t
-      whole = between-then at end t e.after ∙ ap (λ (r : Bytes). between at end t ++ r) (drop-cons t end 0 q ∙ ap (λ (b : ℕ). b ∷ drop (suc end) t) (e.stops q) ∙ ap (λ (i : ℕ). code "\n" ∷ drop i t) (sym (add-one end)))
+      whole = between_then at end t e.after ∙ ap (λ (r : Bytes). between at end t ++ r) (drop-cons t end 0 q ∙ ap (λ (b : ℕ). b ∷ drop (suc end) t) (e.stops q) ∙ ap (λ (i : ℕ). code "\n" ∷ drop i t) (sym (add-one end)))
 
-pub lines_none : (t : Bytes) (at : ℕ) → length t ≤ at → text-lines (drop at t) ≡ []
-unfolding text-lines
+pub lines_none : (t : Bytes) (at : ℕ) → length t ≤ at → text_lines (drop at t) ≡ []
+unfolding text_lines
 lines_none t at h = rw (drop_of_length-le t {i = at} h) refl
 
 -- ---- what a line begins with, and whether it is a certain one
@@ -112,35 +112,35 @@ module _ (p t : Bytes) where
       let e : length p - i ≡ suc (length p - (i + 1)) = omega arith in
       rw (drop-cons p i 0 h, drop-cons t i 0 k, e, add-one i) refl
 
-  pub begins-start : begins-with p t ≡ same_bytes (drop 0 p) (take (length p - 0) (drop 0 t))
-  unfolding begins-with
-  begins-start = let e : length p - 0 ≡ length p = omega arith in rw e refl
+  pub begins_start : begins_with p t ≡ same_bytes (drop 0 p) (take (length p - 0) (drop 0 t))
+  unfolding begins_with
+  begins_start = let e : length p - 0 ≡ length p = omega arith in rw e refl
 
-  pub begins-step : (i : ℕ) → i < length p → i < length t → get_or t i 0 ≡ get_or p i 0 →
-      begins-with p t ≡ same_bytes (drop i p) (take (length p - i) (drop i t)) →
-      begins-with p t ≡ same_bytes (drop (i + 1) p) (take (length p - (i + 1)) (drop (i + 1) t))
-  begins-step i h k e b = b ∙ same_step i h k ∙ (rw (eq-eqb (get_or p i 0) (get_or t i 0) (sym e)) refl)
+  pub begins_step : (i : ℕ) → i < length p → i < length t → get_or t i 0 ≡ get_or p i 0 →
+      begins_with p t ≡ same_bytes (drop i p) (take (length p - i) (drop i t)) →
+      begins_with p t ≡ same_bytes (drop (i + 1) p) (take (length p - (i + 1)) (drop (i + 1) t))
+  begins_step i h k e b = b ∙ same_step i h k ∙ (rw (eq-eqb (get_or p i 0) (get_or t i 0) (sym e)) refl)
 
-  pub begins-differ : (i : ℕ) → i < length p → i < length t → (get_or t i 0 ≡ get_or p i 0 → ⊥) → begins-with p t ≡ same_bytes (drop i p) (take (length p - i) (drop i t)) → false ≡ begins-with p t
-  begins-differ i h k n b = sym (b ∙ same_step i h k ∙ (rw (ne_eqb (get_or p i 0) (get_or t i 0) (λ e. n (sym e))) refl))
+  pub begins_differ : (i : ℕ) → i < length p → i < length t → (get_or t i 0 ≡ get_or p i 0 → ⊥) → begins_with p t ≡ same_bytes (drop i p) (take (length p - i) (drop i t)) → false ≡ begins_with p t
+  begins_differ i h k n b = sym (b ∙ same_step i h k ∙ (rw (ne_eqb (get_or p i 0) (get_or t i 0) (λ e. n (sym e))) refl))
 
-  pub begins-end : (i : ℕ) → length p ≤ i → begins-with p t ≡ same_bytes (drop i p) (take (length p - i) (drop i t)) → true ≡ begins-with p t
+  pub begins_end : (i : ℕ) → length p ≤ i → begins_with p t ≡ same_bytes (drop i p) (take (length p - i) (drop i t)) → true ≡ begins_with p t
   unfolding same_bytes
-  begins-end i h b = let e : length p - i ≡ 0 = omega arith in sym (b ∙ (rw (drop_of_length-le p {i = i} h, e) refl))
+  begins_end i h b = let e : length p - i ≡ 0 = omega arith in sym (b ∙ (rw (drop_of_length-le p {i = i} h, e) refl))
 
-pub begins-short : (p t : Bytes) → length t < length p → false ≡ begins-with p t
-unfolding begins-with
-begins-short p t h = sym (to-false (λ x. omega (arith, same_length p (take (length p) t) (to-true x), length-take (length p) t)))
+pub begins_short : (p t : Bytes) → length t < length p → false ≡ begins_with p t
+unfolding begins_with
+begins_short p t h = sym (to_false (λ x. omega (arith, same_length p (take (length p) t) (to_true x), length-take (length p) t)))
 
-pub same-begins : (p t : Bytes) → length t ≡ length p → begins-with p t ≡ same_bytes t p
-unfolding begins-with
-same-begins p t e = ap (λ (n : ℕ). same_bytes p (take n t)) (sym e) ∙ ap (same_bytes p) (take-length t) ∙ same-turned p t
+pub same_begins : (p t : Bytes) → length t ≡ length p → begins_with p t ≡ same_bytes t p
+unfolding begins_with
+same_begins p t e = ap (λ (n : ℕ). same_bytes p (take n t)) (sym e) ∙ ap (same_bytes p) (take-length t) ∙ same_turned p t
 
-pub same-other : (p t : Bytes) → (length t ≡ length p → ⊥) → false ≡ same_bytes t p
-same-other p t n = sym (to-false (λ x. n (same_length t p (to-true x))))
+pub same_other : (p t : Bytes) → (length t ≡ length p → ⊥) → false ≡ same_bytes t p
+same_other p t n = sym (to_false (λ x. n (same_length t p (to_true x))))
 
-pub same-one : (b : ℕ) (t : Bytes) → length t ≡ 1 → eqb (get_or t 0 0) b ≡ same_bytes t (b ∷ [])
+pub same_one : (b : ℕ) (t : Bytes) → length t ≡ 1 → eqb (get_or t 0 0) b ≡ same_bytes t (b ∷ [])
 unfolding same_bytes
-same-one b [] h = absurd (omega arith)
-same-one b (c ∷ []) h = second_holds (eqb c b) true refl
-same-one b (c ∷ d ∷ t) h = absurd (omega arith)
+same_one b [] h = absurd (omega arith)
+same_one b (c ∷ []) h = second_holds (eqb c b) true refl
+same_one b (c ∷ d ∷ t) h = absurd (omega arith)

@@ -1,6 +1,6 @@
 use Rattle.literals.specs.Literal.{negative}
 use Rattle.literals.proofs.Laws.{answered}
-use Rattle.answer.proofs.Table.{entry-negative, entry-positive}
+use Rattle.answer.proofs.Table.{entry_negative, entry_positive}
 use borrow.Author.Rules.{rules}
 use Rattle.answer.proofs.entry_of.Statement.{statement}
 use Rattle.answer.proofs.entry_of.Tie as tie
@@ -11,13 +11,13 @@ is-negative-requires c κs = search rules
 returns : tie.Need-returns
 returns c =
     let start = c.before.before in
-    entry-negative start.args.l
+    entry_negative start.args.l
     (answered negative start.args.l start.ranges.l c.before.is_negative.ensures c.if1.true)
 
 returns-2 : tie.Need-returns-2
 returns-2 c =
     let start = c.before.before in
-    entry-positive start.args.l
+    entry_positive start.args.l
     (answered negative start.args.l start.ranges.l c.before.is_negative.ensures c.if1.false)
 
 pub entry-of-spec : {M : Type 1} → statement M

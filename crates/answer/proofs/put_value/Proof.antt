@@ -4,7 +4,7 @@ use mir.ValLaws.{to_z-of_z}
 use borrow.Author.Rules.{sfits_of, rules}
 use Rattle.definition.specs.Text.{bytes}
 use Rattle.text.proofs.Output.{put_then, put_same}
-use Rattle.answer.proofs.Output.{value-is}
+use Rattle.answer.proofs.Output.{value_is}
 use Rattle.answer.proofs.put_value.Statement.{statement}
 use Rattle.answer.proofs.put_value.Tie as tie
 
@@ -31,7 +31,7 @@ returns c =
     let back = back.before in let entry_at = back.entry_at in
     let start = back.before.before.before in
     put_same (put_then put_byte.ensures c.before.before.put-literal.ensures.0)
-    (value-is start.args.marks.now start.args.i (search rules) entry_at.ensures
+    (value_is start.args.marks.now start.args.i (search rules) entry_at.ensures
     (to_z-of_z w32 signed.result (sfits_of signed.type-inv) ∙ signed.ensures))
 
 pub put-value-spec : {M : Type 1} → statement M

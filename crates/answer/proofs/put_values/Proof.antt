@@ -5,19 +5,19 @@ use native.Mathlib.Omega.{arith}
 use lib.ListN.{length}
 use Rattle.text.specs.Output.{Put}
 use Rattle.answer.specs.Table.{marked}
-use Rattle.answer.specs.Output.{values-text}
-use Rattle.answer.proofs.Output.{values-start, values-step, values_length}
+use Rattle.answer.specs.Output.{values_text}
+use Rattle.answer.proofs.Output.{values_start, values_step, values_length}
 use Rattle.answer.proofs.put_values.Statement.{statement}
 use Rattle.answer.proofs.put_values.Tie as tie
 
 abbrev invariant-loop : tie.invariant-loop
-invariant-loop buf₀ at v marks a₀ i₀ buf a i = (i ≤ v) × (length buf ≡ length buf₀) × Put buf₀ at (values-text (marked marks) i) a buf
+invariant-loop buf₀ at v marks a₀ i₀ buf a i = (i ≤ v) × (length buf ≡ length buf₀) × Put buf₀ at (values_text (marked marks) i) a buf
 
 abbrev decreases-loop : tie.decreases-loop
 decreases-loop buf₀ at v marks a₀ i₀ buf a i = v - i
 
 loop-holds : tie.Need-loop-init invariant-loop decreases-loop
-loop-holds c = (search rules, refl, values-start (marked c.before.before.args.marks.now))
+loop-holds c = (search rules, refl, values_start (marked c.before.before.args.marks.now))
 
 add-put-value : tie.Need-overflow-add-put-value invariant-loop decreases-loop
 add-put-value c = search rules
@@ -41,7 +41,7 @@ loop-again c =
     let start = back.before.before.before in (
       search rules,
       search rules,
-      values-step (marked start.args.marks.now) loop.i loop.invariant.2 c.before.before.put-value.ensures,
+      values_step (marked start.args.marks.now) loop.i loop.invariant.2 c.before.before.put-value.ensures,
     )
 
 same_length : tie.Need-same-length invariant-loop decreases-loop

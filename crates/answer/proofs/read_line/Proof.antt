@@ -1,7 +1,7 @@
 use borrow.Author.Rules.{rules}
 use mathlib.Core.Path.{sym, ◌∙◌}
-use Rattle.definition.specs.Answer.{read-answer-line}
-use Rattle.answer.proofs.Reading.{line-comment, line-status, line-waiting, line-values, line-open, line-closed, fault-stays}
+use Rattle.definition.specs.Answer.{read_answer_line}
+use Rattle.answer.proofs.Reading.{line_comment, line_status, line_waiting, line_values, line_open, line_closed, fault_stays}
 use Rattle.answer.proofs.read_line.Statement.{statement}
 use Rattle.answer.proofs.read_line.Tie as tie
 
@@ -11,7 +11,7 @@ is-comment-requires c κs = search rules
 returns : tie.Need-returns
 returns c =
     let start = c.before.before.before.before in
-    line-comment start.args.x start.args.line.now start.args.marks.now
+    line_comment start.args.x start.args.line.now start.args.marks.now
     (sym c.before.is-comment.ensures ∙ c.if1.true) start.args.state
 
 enum_told : tie.Need-enum-told
@@ -26,7 +26,7 @@ returns-2 c =
     let back = back.before in let is-comment = back.is-comment in
     let start = back.before.before.before in
     rw c.before.before.enum_told.given.1
-    (line-status start.args.x start.args.line.now start.args.marks.now
+    (line_status start.args.x start.args.line.now start.args.marks.now
     (sym is-comment.ensures ∙ if1.false) (sym c.before.is-status.ensures ∙ c.if2.true))
 
 enum-told-2 : tie.Need-enum-told-2
@@ -51,7 +51,7 @@ returns-3 c =
     let back = back.before in let is-comment = back.is-comment in
     let start = back.before.before.before in
     rw enum-told2.given.1
-    (line-values start.args.x start.args.line.now start.args.marks.now
+    (line_values start.args.x start.args.line.now start.args.marks.now
     (sym is-comment.ensures ∙ if1.false) read-values.result read-values.new.1.1.0
     (sym is-values.ensures ∙ if3.true) read-values.ensures)
 
@@ -67,7 +67,7 @@ returns-4 c =
     let back = back.before in let is-comment = back.is-comment in
     let start = back.before.before.before in
     rw c.before.before.enum_told.given.1
-    (line-waiting start.args.x start.args.line.now start.args.marks.now
+    (line_waiting start.args.x start.args.line.now start.args.marks.now
     (sym is-comment.ensures ∙ if1.false) (sym c.before.is-status.ensures ∙ c.if2.false))
 
 returns-5 : tie.Need-returns-5
@@ -76,7 +76,7 @@ returns-5 c =
     let back = back.before in let is-comment = back.is-comment in
     let start = back.before.before.before in
     rw c.before.before.enum-told2.given.1
-    (line-open start.args.x start.args.line.now start.args.marks.now
+    (line_open start.args.x start.args.line.now start.args.marks.now
     (sym is-comment.ensures ∙ if1.false) (sym c.before.is-values.ensures ∙ c.if3.false))
 
 returns-6 : tie.Need-returns-6
@@ -84,13 +84,13 @@ returns-6 c =
     let back = c.before.before.before in let is-comment = back.is-comment in
     let start = back.before.before.before in
     rw c.enum-told3.given.1
-    (line-closed start.args.x start.args.line.now start.args.marks.now
+    (line_closed start.args.x start.args.line.now start.args.marks.now
     (sym is-comment.ensures ∙ c.before.before.if1.false))
 
 returns-7 : tie.Need-returns-7
 returns-7 c =
     let start = c.before.before.before.before.before.before.before in
-    rw c.before.state.given.1 (fault-stays (λ a. read-answer-line start.args.x a start.args.line.now) _)
+    rw c.before.state.given.1 (fault_stays (λ a. read_answer_line start.args.x a start.args.line.now) _)
 
 pub read-line-spec : {M : Type 1} → statement M
 read-line-spec =

@@ -5,7 +5,7 @@ use lib.IntN.{ℤ, nat_abs}
 use lib.ListN.{get_or}
 use Rattle.literals.proofs.Laws.{answer}
 use Rattle.answer.specs.Table.{naming}
-use Rattle.answer.proofs.Reading.{literal-zero, literal-above, literal-twice, literal-named}
+use Rattle.answer.proofs.Reading.{literal_zero, literal_above, literal_twice, literal_named}
 use borrow.Author.Rules.{rules}
 use Rattle.answer.proofs.read_literal.Statement.{statement}
 use Rattle.answer.proofs.read_literal.Tie as tie
@@ -25,7 +25,7 @@ returns c =
     let start = back.before.before in
     let l = start.args.l in
     let e = answer nat_abs l start.ranges.l variable.ensures in
-    literal-zero start.args.x l start.args.marks.now (omega (arith, e))
+    literal_zero start.args.x l start.args.marks.now (omega (arith, e))
 
 same-length-2 : tie.Need-same-length-2
 same-length-2 c = search rules
@@ -36,7 +36,7 @@ returns-2 c =
     let start = back.before.before in
     let l = start.args.l in
     let e = answer nat_abs l start.ranges.l variable.ensures in
-    literal-above start.args.x l start.args.marks.now (λ q. c.before.if1.false (e ∙ q)) (omega (arith, e))
+    literal_above start.args.x l start.args.marks.now (λ q. c.before.if1.false (e ∙ q)) (omega (arith, e))
 
 same-length-3 : tie.Need-same-length-3
 same-length-3 c = search rules
@@ -50,7 +50,7 @@ returns-3 c =
     let m = start.args.marks.now in
     let e = answer nat_abs l start.ranges.l variable.ensures in
     let n = entry_at.ensures ∙ ap (λ (v : ℕ). get_or m v 0) e in
-    literal-twice start.args.x l m (λ q. c.before.before.if1.false (e ∙ q)) (omega (arith, e)) (omega (arith, n))
+    literal_twice start.args.x l m (λ q. c.before.before.if1.false (e ∙ q)) (omega (arith, e)) (omega (arith, n))
 
 make-true-requires : tie.Need-make-true-requires
 make-true-requires c κs = search rules
@@ -68,8 +68,8 @@ returns-4 c =
     let m = start.args.marks.now in
     let e = answer nat_abs l start.ranges.l variable.ensures in
     let n = entry_at.ensures ∙ ap (λ (v : ℕ). get_or m v 0) e in
-    rw (answer (λ (z : ℤ). naming z m) l start.ranges.l c.before.before.make-true.ensures)
-    (literal-named start.args.x l m (λ q. if1.false (e ∙ q)) (omega (arith, e)) (search rules) (omega (arith, n)))
+    rw (answer (λ (z : ℤ). naming z m) l start.ranges.l c.before.before.make_true.ensures)
+    (literal_named start.args.x l m (λ q. if1.false (e ∙ q)) (omega (arith, e)) (search rules) (omega (arith, n)))
 
 pub read-literal-spec : {M : Type 1} → statement M
 read-literal-spec =

@@ -2,9 +2,9 @@ use mathlib.Core.Path.{subst, ◌∙◌, sym}
 use mir.Syntax.{w32}
 use mir.Val.{SFits}
 use mir.ValLaws.{to_z-of_z}
-use Rattle.answer.specs.Reading.{read-literal, Steps-open}
+use Rattle.answer.specs.Reading.{read_literal, StepsOpen}
 use lib.IntN.{ℤ}
-use Rattle.answer.proofs.Reading.{word_number, word-large, word_none}
+use Rattle.answer.proofs.Reading.{word_number, word_large, word_none}
 use borrow.Author.Rules.{rules}
 use Rattle.answer.proofs.read_open_word.Statement.{statement}
 use Rattle.answer.proofs.read_open_word.Tie as tie
@@ -29,7 +29,7 @@ same_length c = search rules
 
 returns : tie.Need-returns
 returns c =
-    let back = c.before.before in let the-read-literal = back.read-literal in
+    let back = c.before.before in let the-read-literal = back.read_literal in
     let back = back.before.before.before in let the-l = back.l in
     let back = back.before.before in let read_number = back.read_number in
     let start = back.before.before.before in
@@ -39,13 +39,13 @@ returns c =
     word_number start.args.x start.args.word.now l m the-read-literal.result
     the-read-literal.new.1.1.0 (sym the-l.given.1 ∙ read_number.ensures)
     (subst
-    (λ (z : ℤ). Steps-open (λ d. read-literal start.args.x d z) m the-read-literal.result
+    (λ (z : ℤ). StepsOpen (λ d. read_literal start.args.x d z) m the-read-literal.result
     the-read-literal.new.1.1.0) (to_z-of_z w32 l f) the-read-literal.ensures)
 
 returns-2 : tie.Need-returns-2
 returns-2 c =
     let start = c.before.before.before.before.before in
-    λ d t. word-large start.args.x start.args.word.now (search rules)
+    λ d t. word_large start.args.x start.args.word.now (search rules)
     (sym c.enum_told.given.1 ∙ c.before.before.read_number.ensures) d
 
 returns-3 : tie.Need-returns-3

@@ -4,10 +4,10 @@ use Prim.Native.Nat.{◌-◌}
 use native.Mathlib.Omega.{arith}
 use lib.ListN.{length, drop}
 use Rattle.definition.specs.Checked.{through}
-use Rattle.definition.specs.Text.{words-by}
+use Rattle.definition.specs.Text.{words_by}
 use Rattle.definition.specs.Literals.{Clause}
-use Rattle.definition.specs.Answer.{space-or-tab, read-answer-word}
-use Rattle.text.proofs.Words.{word-answer}
+use Rattle.definition.specs.Answer.{space_or_tab, read_answer_word}
+use Rattle.text.proofs.Words.{word_answer}
 use Rattle.answer.specs.declared.Progress.TheVariants as Progress
 use Rattle.answer.specs.Table.{Table}
 use Rattle.answer.specs.Reading.{open_at}
@@ -18,7 +18,7 @@ use Rattle.answer.proofs.read_values.Tie as tie
 abbrev invariant-loop : tie.invariant-loop
 invariant-loop line x marks₀ state₀ at₀ marks state at =
     (length marks ≡ length marks₀)
-    × ((c : Clause) → Table c marks₀ → Walked state marks (λ a. through (read-answer-word x) a (words-by space-or-tab (drop at line))) (through (read-answer-word x) (open_at c) (words-by space-or-tab (drop 2 line))))
+    × ((c : Clause) → Table c marks₀ → Walked state marks (λ a. through (read_answer_word x) a (words_by space_or_tab (drop at line))) (through (read_answer_word x) (open_at c) (words_by space_or_tab (drop 2 line))))
 
 abbrev decreases-loop : tie.decreases-loop
 decreases-loop line x marks₀ state₀ at₀ marks state at = length line - at
@@ -27,8 +27,8 @@ loop-holds : tie.Need-loop-init invariant-loop decreases-loop
 loop-holds c =
     let entry = c.before.before in (
       refl,
-      λ d t. walked_start (read-answer-word entry.args.x) Progress.Open entry.args.marks.now (open_at d)
-          (words-by space-or-tab (drop 2 entry.args.line.now)) (d, refl, t),
+      λ d t. walked_start (read_answer_word entry.args.x) Progress.Open entry.args.marks.now (open_at d)
+          (words_by space_or_tab (drop 2 entry.args.line.now)) (d, refl, t),
     )
 
 next-word-of-line-requires : tie.Need-next-word-of-line-requires invariant-loop decreases-loop
@@ -42,7 +42,7 @@ sub-read-word c =
     let back = c.before.before.before in let next-word-of-line = back.next-word-of-line in
     let back = back.before in let loop = back.loop in
     let entry = back.before.before.before in
-    let w = word-answer space-or-tab entry.args.line.now loop.at
+    let w = word_answer space_or_tab entry.args.line.now loop.at
     (sym c.before.start.given.1 ∙ next-word-of-line.ensures) in
     omega (arith, w.some)
 
@@ -51,7 +51,7 @@ part-read-word-start c =
     let back = c.before.before.before in let next-word-of-line = back.next-word-of-line in
     let back = back.before in let loop = back.loop in
     let entry = back.before.before.before in
-    let w = word-answer space-or-tab entry.args.line.now loop.at
+    let w = word_answer space_or_tab entry.args.line.now loop.at
     (sym c.before.start.given.1 ∙ next-word-of-line.ensures) in
     omega (arith, w.some)
 
@@ -60,7 +60,7 @@ part-read-word-end c =
     let back = c.before.before.before in let next-word-of-line = back.next-word-of-line in
     let back = back.before in let loop = back.loop in
     let entry = back.before.before.before in
-    let w = word-answer space-or-tab entry.args.line.now loop.at
+    let w = word_answer space_or_tab entry.args.line.now loop.at
     (sym c.before.start.given.1 ∙ next-word-of-line.ensures) in
     omega (arith, w.within)
 
@@ -73,7 +73,7 @@ loop-less c =
     let back = back.before.before in let next-word-of-line = back.next-word-of-line in
     let back = back.before in let loop = back.loop in
     let entry = back.before.before.before in
-    let w = word-answer space-or-tab entry.args.line.now loop.at
+    let w = word_answer space_or_tab entry.args.line.now loop.at
     (sym start.given.1 ∙ next-word-of-line.ensures) in
     omega (arith, w.after, w.some, w.within)
 
@@ -84,13 +84,13 @@ loop-again c =
     let back = back.before.before in let next-word-of-line = back.next-word-of-line in
     let back = back.before in let loop = back.loop in
     let entry = back.before.before.before in
-    let w = word-answer space-or-tab entry.args.line.now loop.at
+    let w = word_answer space_or_tab entry.args.line.now loop.at
     (sym start.given.1 ∙ next-word-of-line.ensures) in (
       search rules,
-      λ d t. walked_step (read-answer-word entry.args.x) loop.state loop.marks read_word.result
+      λ d t. walked_step (read_answer_word entry.args.x) loop.state loop.marks read_word.result
           read_word.new.1.1.1.0 _
-          (words-by space-or-tab (drop start.given.0.1.0 entry.args.line.now))
-          (words-by space-or-tab (drop loop.at entry.args.line.now)) _ w.words (loop.invariant.1 d t)
+          (words_by space_or_tab (drop start.given.0.1.0 entry.args.line.now))
+          (words_by space_or_tab (drop loop.at entry.args.line.now)) _ w.words (loop.invariant.1 d t)
           read_word.ensures,
     )
 
@@ -104,9 +104,9 @@ returns : tie.Need-returns invariant-loop decreases-loop
 returns c =
     let back = c.before.before.before in let loop = back.loop in
     let entry = back.before.before.before in
-    λ d t. walked_end (read-answer-word entry.args.x) loop.state loop.marks
-    (words-by space-or-tab (drop loop.at entry.args.line.now)) _
-    (word-answer space-or-tab entry.args.line.now loop.at
+    λ d t. walked_end (read_answer_word entry.args.x) loop.state loop.marks
+    (words_by space_or_tab (drop loop.at entry.args.line.now)) _
+    (word_answer space_or_tab entry.args.line.now loop.at
     (sym c.enum_told.given.1 ∙ c.before.before.next-word-of-line.ensures)) (loop.invariant.1 d t)
 
 pub read-values-spec : {M : Type 1} → statement M

@@ -1,5 +1,5 @@
-use Rattle.definition.specs.Answer.{read-answer-word}
-use Rattle.answer.proofs.Reading.{word-waiting, word-open, word-closed, fault-stays}
+use Rattle.definition.specs.Answer.{read_answer_word}
+use Rattle.answer.proofs.Reading.{word_waiting, word_open, word_closed, fault_stays}
 use borrow.Author.Rules.{rules}
 use Rattle.answer.proofs.read_word.Statement.{statement}
 use Rattle.answer.proofs.read_word.Tie as tie
@@ -31,7 +31,7 @@ returns c =
     let back = back.before.before in let the-enum-told = back.enum_told in
     let start = back.before.before.before.before in
     rw the-enum-told.given.1
-    (word-waiting start.args.x start.args.word.now start.args.marks.now read-open-word.result
+    (word_waiting start.args.x start.args.word.now start.args.marks.now read-open-word.result
     read-open-word.new.1.1.0 read-open-word.ensures)
 
 same-length-2 : tie.Need-same-length-2
@@ -43,18 +43,18 @@ returns-2 c =
     let back = back.before.before in let enum-told2 = back.enum-told2 in
     let start = back.before.before.before.before in
     rw enum-told2.given.1
-    (word-open start.args.x start.args.word.now start.args.marks.now read-open-word2.result
+    (word_open start.args.x start.args.word.now start.args.marks.now read-open-word2.result
     read-open-word2.new.1.1.0 read-open-word2.ensures)
 
 returns-3 : tie.Need-returns-3
 returns-3 c =
     let start = c.before.before.before.before in
-    rw c.enum-told3.given.1 (word-closed start.args.x start.args.word.now start.args.marks.now)
+    rw c.enum-told3.given.1 (word_closed start.args.x start.args.word.now start.args.marks.now)
 
 returns-4 : tie.Need-returns-4
 returns-4 c =
     let start = c.before.before.before.before.before in
-    rw c.before.state.given.1 (fault-stays (λ a. read-answer-word start.args.x a start.args.word.now) _)
+    rw c.before.state.given.1 (fault_stays (λ a. read_answer_word start.args.x a start.args.word.now) _)
 
 pub read-word-spec : {M : Type 1} → statement M
 read-word-spec =

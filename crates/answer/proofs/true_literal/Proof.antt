@@ -6,7 +6,7 @@ use lib.IntN.{nat_abs}
 use lib.ListN.{get_or}
 use Rattle.literals.specs.Literal.{negative}
 use Rattle.literals.proofs.Laws.{answer, answered}
-use Rattle.answer.proofs.Table.{true-negative, true-positive}
+use Rattle.answer.proofs.Table.{true_negative, true_positive}
 use borrow.Author.Rules.{rules}
 use Rattle.answer.proofs.true_literal.Statement.{statement}
 use Rattle.answer.proofs.true_literal.Tie as tie
@@ -29,7 +29,7 @@ returns c =
     ap (λ (e : ℕ). not (eqb e 1))
     (c.before.before.entry_at.ensures
     ∙ ap (λ (v : ℕ). get_or start.args.marks.now v 0) (answer nat_abs l f variable.ensures))
-    ∙ true-negative start.args.marks.now l
+    ∙ true_negative start.args.marks.now l
     (answered negative l f c.before.is_negative.ensures c.if1.true)
 
 returns-2 : tie.Need-returns-2
@@ -41,7 +41,7 @@ returns-2 c =
     ap (λ (e : ℕ). eqb e 1)
     (c.before.before.entry_at.ensures
     ∙ ap (λ (v : ℕ). get_or start.args.marks.now v 0) (answer nat_abs l f variable.ensures))
-    ∙ true-positive start.args.marks.now l (answered negative l f c.before.is_negative.ensures c.if1.false)
+    ∙ true_positive start.args.marks.now l (answered negative l f c.before.is_negative.ensures c.if1.false)
 
 pub true-literal-spec : {M : Type 1} → statement M
 true-literal-spec =

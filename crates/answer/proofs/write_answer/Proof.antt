@@ -1,6 +1,6 @@
 use native.Mathlib.Omega.{arith}
 use Rattle.answer.specs.Table.{marked}
-use Rattle.answer.proofs.Output.{values_length, line-written}
+use Rattle.answer.proofs.Output.{values_length, line_written}
 use borrow.Author.Rules.{rules}
 use Rattle.answer.proofs.write_answer.Statement.{statement}
 use Rattle.answer.proofs.write_answer.Tie as tie
@@ -49,7 +49,7 @@ returns c =
     let back = back.before.before.before.before in let put-values = back.put-values in
     let back = back.before.before.before.before in let put_byte = back.put_byte in
     let start = back.before.before.before.before in
-    line-written (marked start.args.marks.now) start.args.v put_byte.ensures put-values.ensures
+    line_written (marked start.args.marks.now) start.args.v put_byte.ensures put-values.ensures
     put-byte2.ensures put-byte3.ensures c.before.before.put-byte4.ensures
 
 pub write-answer-spec : {M : Type 1} → statement M

@@ -1,6 +1,6 @@
 use mathlib.Core.Path.{sym, ◌∙◌}
 use native.Mathlib.Omega.{arith}
-use Rattle.call_carry_forward.proofs.Outcome.{plan-holds, plan-fails}
+use Rattle.call_carry_forward.proofs.Outcome.{plan_holds, plan_fails}
 use borrow.Author.Rules.{rules}
 use Rattle.call_carry_forward.proofs.carry_tested.Statement.{statement}
 use Rattle.call_carry_forward.proofs.carry_tested.Tie as tie
@@ -25,7 +25,7 @@ returns c =
     let back = c.before.before.before.before.before in let replay-and-carry = back.replay-and-carry in
     let back = back.before.before.before.before in let if1 = back.if1 in
     let satisfied-before = back.before.satisfied-before in
-    rw (plan-holds _ _ _ _ _ (sym satisfied-before.ensures ∙ if1.true)) replay-and-carry.ensures
+    rw (plan_holds _ _ _ _ _ (sym satisfied-before.ensures ∙ if1.true)) replay-and-carry.ensures
 
 same-length-4 : tie.Need-same-length-4
 same-length-4 c = search rules
@@ -34,7 +34,7 @@ same-length-5 : tie.Need-same-length-5
 same-length-5 c = search rules
 
 returns-2 : tie.Need-returns-2
-returns-2 c = plan-fails _ _ _ _ _ (sym c.before.satisfied-before.ensures ∙ c.if1.false)
+returns-2 c = plan_fails _ _ _ _ _ (sym c.before.satisfied-before.ensures ∙ c.if1.false)
 
 pub carry-tested-spec : {M : Type 1} → statement M
 carry-tested-spec =

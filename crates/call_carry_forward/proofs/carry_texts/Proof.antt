@@ -1,7 +1,7 @@
 use mathlib.Core.Bool.{true}
 use lib.ListN.{length}
-use Rattle.log_texts.proofs.Called.{texts-refused, texts-read, texts-handed}
-use Rattle.call_carry_forward.proofs.Outcome.{carry-forward-is}
+use Rattle.log_texts.proofs.Called.{texts_refused, texts_read, texts_handed}
+use Rattle.call_carry_forward.proofs.Outcome.{carry_forward_is}
 use borrow.Author.Rules.{rules}
 use Rattle.call_carry_forward.proofs.carry_texts.Statement.{statement}
 use Rattle.call_carry_forward.proofs.carry_texts.Tie as tie
@@ -24,10 +24,10 @@ slice-aggregate-carry-tested c = search rules
 carry-tested-requires : tie.Need-carry-tested-requires
 carry-tested-requires c κs =
     let back = c.before.before.before.before in let x = back.x in
-    let back = back.before.before.before.before in let read-texts = back.read-texts in
+    let back = back.before.before.before.before in let read_texts = back.read_texts in
     let start = back.before.before.before.before.before.before.before in
-    let t = texts-read true (length start.args.work.now) start.args.kept start.args.formula.now
-    start.args.log.now start.args.plan.now read-texts.result _ _ read-texts.ensures _ _ _
+    let t = texts_read true (length start.args.work.now) start.args.kept start.args.formula.now
+    start.args.log.now start.args.plan.now read_texts.result _ _ read_texts.ensures _ _ _
     x.given.1 in
     record { replayable = t.replayable; few = t.few; named = t.named }
 
@@ -36,11 +36,11 @@ same_length c = search rules
 
 returns : tie.Need-returns
 returns c =
-    let back = c.before.before.before.before.before in let read-texts = back.read-texts in
+    let back = c.before.before.before.before.before in let read_texts = back.read_texts in
     let start = back.before.before.before.before.before.before.before in
-    texts-refused true (length start.args.work.now) start.args.kept start.args.formula.now
-    start.args.log.now start.args.plan.now read-texts.result _ _ read-texts.ensures _
-    (carry-forward-is _ _ _ _ _ _) _ c.before.k.given.1
+    texts_refused true (length start.args.work.now) start.args.kept start.args.formula.now
+    start.args.log.now start.args.plan.now read_texts.result _ _ read_texts.ensures _
+    (carry_forward_is _ _ _ _ _ _) _ c.before.k.given.1
 
 same-length-2 : tie.Need-same-length-2
 same-length-2 c = search rules
@@ -52,12 +52,12 @@ returns-2 : tie.Need-returns-2
 returns-2 c =
     let back = c.before.before.before.before in let carry-tested = back.carry-tested in
     let back = back.before.before.before.before.before in let x = back.x in
-    let back = back.before.before.before.before in let read-texts = back.read-texts in
+    let back = back.before.before.before.before in let read_texts = back.read_texts in
     let start = back.before.before.before.before.before.before.before in
     rw
-    (texts-handed true (length start.args.work.now) start.args.kept start.args.formula.now
-    start.args.log.now start.args.plan.now read-texts.result _ _ read-texts.ensures _ _ _
-    x.given.1 _ (carry-forward-is _ (length start.args.out.now) _ _ _ _)) carry-tested.ensures
+    (texts_handed true (length start.args.work.now) start.args.kept start.args.formula.now
+    start.args.log.now start.args.plan.now read_texts.result _ _ read_texts.ensures _ _ _
+    x.given.1 _ (carry_forward_is _ (length start.args.out.now) _ _ _ _)) carry-tested.ensures
 
 pub carry-texts-spec : {M : Type 1} → statement M
 carry-texts-spec =

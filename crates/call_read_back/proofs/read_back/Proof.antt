@@ -1,5 +1,5 @@
 use Rattle.call_read_back.specs.Outcome.{outcome}
-use Rattle.call_read_back.proofs.Outcome.{zero-after, filled-after}
+use Rattle.call_read_back.proofs.Outcome.{zero_after, filled_after}
 use borrow.Author.Rules.{rules}
 use Rattle.call_read_back.proofs.read_back.Statement.{statement}
 use Rattle.call_read_back.proofs.read_back.Tie as tie
@@ -23,7 +23,7 @@ returns : tie.Need-returns
 returns c =
     let back = c.before.before.before.before in let read-into = back.read-into in
     let start = back.before.before.before in
-    filled-after (outcome start.args.store.now start.args.text.now) start.args.store.now _ _
+    filled_after (outcome start.args.store.now start.args.text.now) start.args.store.now _ _
     read-into.ensures c.before.v.given.1
 
 same-length-2 : tie.Need-same-length-2
@@ -34,7 +34,7 @@ returns-2 c =
     let back = c.before.before.before.before in let n = back.n in
     let back = back.before.before.before in let read-into = back.read-into in
     let start = back.before.before.before in
-    zero-after (outcome start.args.store.now start.args.text.now) start.args.store.now _ _
+    zero_after (outcome start.args.store.now start.args.text.now) start.args.store.now _ _
     read-into.ensures n.given.1 read-into.auto.1.0 c.before.zero-elements.ensures
 
 pub read-back-spec : {M : Type 1} → statement M

@@ -1,5 +1,5 @@
 use native.Mathlib.Omega.{arith}
-use Rattle.call_read_back.proofs.Outcome.{refused, short, clauses-left, back}
+use Rattle.call_read_back.proofs.Outcome.{refused, short, clauses_left, back}
 use borrow.Author.Rules.{rules}
 use Rattle.call_read_back.proofs.read_into.Statement.{statement}
 use Rattle.call_read_back.proofs.read_into.Tie as tie
@@ -26,10 +26,10 @@ returns : tie.Need-returns
 returns c =
     let the-back = c.before.before.before in let v = the-back.v in
     let the-back = the-back.before.before.before in let read = the-back.read in
-    let the-back = the-back.before.before in let read-back-limits = the-back.read-back-limits in
+    let the-back = the-back.before.before in let read_back_limits = the-back.read_back_limits in
     let start = the-back.before.before in
-    short start.args.text.now read-back-limits.result read-back-limits.ensures.0 _ read.ensures.0 _ _ _
-    _ v.given.1 _ c.before.workspace-need.ensures start.args.store.now
+    short start.args.text.now read_back_limits.result read_back_limits.ensures.0 _ read.ensures.0 _ _ _
+    _ v.given.1 _ c.before.workspace_need.ensures start.args.store.now
     (omega (arith, c.if1.true, read.auto.1.1.0))
 
 cast-clauses : tie.Need-overflow-cast-clauses
@@ -39,21 +39,21 @@ sub-clauses : tie.Need-overflow-sub-clauses
 sub-clauses c =
     let the-back = c.before.before.before in let v = the-back.v in
     let the-back = the-back.before.before.before in let read = the-back.read in
-    let the-back = the-back.before.before in let read-back-limits = the-back.read-back-limits in
+    let the-back = the-back.before.before in let read_back_limits = the-back.read_back_limits in
     let start = the-back.before.before in
-    (clauses-left start.args.text.now read-back-limits.result read-back-limits.ensures.0 _
+    (clauses_left start.args.text.now read_back_limits.result read_back_limits.ensures.0 _
     read.ensures.0 _ _ _ _ v.given.1).0
 
 cast-t17 : tie.Need-overflow-cast-t17
 cast-t17 c =
     let the-back = c.before.before.before in let v = the-back.v in
     let the-back = the-back.before.before.before in let read = the-back.read in
-    let the-back = the-back.before.before in let read-back-limits = the-back.read-back-limits in
+    let the-back = the-back.before.before in let read_back_limits = the-back.read_back_limits in
     let start = the-back.before.before in
     record {
       fits = omega (
         arith,
-        (clauses-left start.args.text.now read-back-limits.result read-back-limits.ensures.0 _
+        (clauses_left start.args.text.now read_back_limits.result read_back_limits.ensures.0 _
             read.ensures.0 _ _ _ _ v.given.1).1,
       );
     }
@@ -64,9 +64,9 @@ same-length-2 c = search rules
 returns-2 : tie.Need-returns-2
 returns-2 c =
     let the-back = c.before.before.before.before in let read = the-back.read in
-    let the-back = the-back.before.before in let read-back-limits = the-back.read-back-limits in
+    let the-back = the-back.before.before in let read_back_limits = the-back.read_back_limits in
     let start = the-back.before.before in
-    refused start.args.text.now read-back-limits.result read-back-limits.ensures.0 _ read.ensures.0
+    refused start.args.text.now read_back_limits.result read_back_limits.ensures.0 _ read.ensures.0
     start.args.store.now _ c.before.n.given.1
 
 same-length-3 : tie.Need-same-length-3
@@ -76,10 +76,10 @@ returns-3 : tie.Need-returns-3
 returns-3 c =
     let the-back = c.before.before.before in let v = the-back.v in
     let the-back = the-back.before.before.before in let read = the-back.read in
-    let the-back = the-back.before.before in let read-back-limits = the-back.read-back-limits in
+    let the-back = the-back.before.before in let read_back_limits = the-back.read_back_limits in
     let start = the-back.before.before in
-    back start.args.text.now read-back-limits.result read-back-limits.ensures.0 _ read.ensures.0 _ _ _
-    _ v.given.1 _ c.before.workspace-need.ensures start.args.store.now
+    back start.args.text.now read_back_limits.result read_back_limits.ensures.0 _ read.ensures.0 _ _ _
+    _ v.given.1 _ c.before.workspace_need.ensures start.args.store.now
     (omega (arith, c.if1.false, read.auto.1.1.0)) _ read.ensures.1
 
 pub read-into-spec : {M : Type 1} → statement M

@@ -6,7 +6,7 @@ use Prim.Native.Nat.{ℕ, ◌-◌, ◌≤◌}
 use lib.IntN.{ℤ, pos}
 use lib.ListN.{length, drop, set, replicate, length-set}
 use lib.Seq.{drop-length}
-use Rattle.call_read_back.proofs.Outcome.{zeros-more}
+use Rattle.call_read_back.proofs.Outcome.{zeros_more}
 use Rattle.call_read_back.proofs.zero_elements.Statement.{statement}
 use Rattle.call_read_back.proofs.zero_elements.Tie as tie
 
@@ -38,7 +38,7 @@ loop-again c =
       search rules,
       simp length-set loop.invariant.1,
       ap (λ (l : List ℤ). set l loop.i (pos 0)) loop.invariant.2
-          ∙ zeros-more loop.i start.args.store.now (search rules),
+          ∙ zeros_more loop.i start.args.store.now (search rules),
     )
 
 same_length : tie.Need-same-length invariant-loop decreases-loop

@@ -44,26 +44,26 @@ use denote.Exit.{yes}
 use Rattle.definition.specs.Checked.{Checked}
 use Rattle.definition.specs.Calls.{Reencoded}
 use Rattle.records.specs.declared.ChoiceRecord.{ChoiceRecord}
-use Rattle.records.specs.Rows.{records-in}
+use Rattle.records.specs.Rows.{records_in}
 use Rattle.records.specs.contracts.ChoiceRecord as T
-use Rattle.records.proofs.Called.{Fill, to_fill, For-fill, Of-fill, asks-fill, gives-fill}
-use Rattle.records.proofs.Filling.{length-filled}
-use Rattle.records.proofs.LocalArray.{of-local, Array-at, written, array-room, LentMut, lends-mut, mut_back, LentShr, lends_shr, shr-back}
-use Rattle.records.proofs.Walking.{Tokens, tokens-apart, tokens-whole, hands, spread, frees_all, big-lit, says_all, fact_of, also}
+use Rattle.records.proofs.Called.{Fill, to_fill, ForFill, OfFill, asks_fill, gives_fill}
+use Rattle.records.proofs.Filling.{length_filled}
+use Rattle.records.proofs.LocalArray.{of_local, ArrayAt, written, array_room, LentMut, lends_mut, mut_back, LentShr, lends_shr, shr_back}
+use Rattle.records.proofs.Walking.{Tokens, tokens_apart, tokens_whole, hands, spread, frees_all, big_lit, says_all, fact_of, also}
 use Rattle.records.proofs.fill.Symbol as fill-def
 use Rattle.records.proofs.fill.Symbol.{name as #records·fill}
 use Rattle.records.proofs.fill.Met as fill-thm
 use Rattle.run.specs.declared.Settings.{Settings}
-use Rattle.run.specs.Run.{row-numbers}
+use Rattle.run.specs.Run.{row_numbers}
 use Rattle.run.specs.contracts.Settings as S
 use Rattle.run.proofs.Settings.TheLaws as S'
 use Rattle.call_reencode.specs.declared.Made.{Made}
-use Rattle.formula_run.specs.Outcome.{outcome-of}
+use Rattle.formula_run.specs.Outcome.{outcome_of}
 use Rattle.formula_run.specs.contracts.Tallied as E
 use Rattle.formula_run.proofs.Tallied.TheLaws as E'
 use Rattle.call_reencode.specs.contracts.Made as R
 use Rattle.call_reencode.proofs.Made.TheLaws as R'
-use Rattle.call_reencode.proofs.Called.{made_val, settings-val, answer-val as reencoding-val, Rows, to-rows, For-rows, Told-rows, Of-rows, asks-rows, gives-rows, out, log-after, formula-after, table-after}
+use Rattle.call_reencode.proofs.Called.{made_val, settings_val, answer_val as reencoding_val, Rows, to_rows, ForRows, ToldRows, OfRows, asks_rows, gives_rows, out, log_after, formula_after, table_after}
 use Rattle.call_reencode.proofs.reencode_rows.Symbol as rows-def
 use Rattle.call_reencode.proofs.reencode_rows.Symbol.{name as #call-reencode·reencode-rows}
 use Rattle.call_reencode.proofs.reencode_rows.Met as rows-thm
@@ -86,11 +86,11 @@ zeros-val = array_val (replicate 4800 (vint w32 0))
 rows-room : Room u32 4800
 rows-room = (lit< tt, lit< tt)
 
-enough : length zeros ≡ row-numbers
+enough : length zeros ≡ row_numbers
 enough = length-replicate {A = ℕ} 4800 0
 
 module _ {M : Type 1} {𝓤 : Ura M} (𝓛 : Logic 𝓤) (mem : Memory → SProp 𝓤) (run : Routine → Fun 𝓤) (κs : Lfts 5) (qs : Shares 5)
-    (text : Bor (List ℕ)) (settings : Settings) (work : Bor (List ℤ)) (log formula : Bor (List ℕ)) (table : Bor (List ChoiceRecord)) (room : Room u8 (length text.now)) (settings-is : Is S.the_row settings (settings-val settings ∷ []))
+    (text : Bor (List ℕ)) (settings : Settings) (work : Bor (List ℤ)) (log formula : Bor (List ℕ)) (table : Bor (List ChoiceRecord)) (room : Room u8 (length text.now)) (settings_is : Is S.the_row settings (settings_val settings ∷ []))
     (room₁ : Room i32 (length work.now)) (room₂ : Room u8 (length log.now)) (room₃ : Room u8 (length formula.now)) (room₄ : Room T.the_row (length table.now)) where
   open 𝓛 use {H}
 
@@ -101,17 +101,17 @@ module _ {M : Type 1} {𝓤 : Ura M} (𝓛 : Logic 𝓤) (mem : Memory → SProp
   a = (text, (settings, (work, (log, (formula, (table, tt))))))
 
   abbrev vals : List Val × (List Val × (List Val × (List Val × (List Val × (List Val × Unit {0})))))
-  vals = (shr_slice_vals text, (settings-val settings ∷ [], (shr_slice_vals work, (shr_slice_vals log, (shr_slice_vals formula, (shr_slice_vals table, tt))))))
+  vals = (shr_slice_vals text, (settings_val settings ∷ [], (shr_slice_vals work, (shr_slice_vals log, (shr_slice_vals formula, (shr_slice_vals table, tt))))))
 
   abbrev machs : List Val
-  machs = slice_val text.ref_ptr (length text.now) ∷ settings-val settings ∷ slice_val work.ref_ptr (length work.now) ∷ slice_val log.ref_ptr (length log.now) ∷ slice_val formula.ref_ptr (length formula.now) ∷ slice_val table.ref_ptr (length table.now) ∷ []
+  machs = slice_val text.ref_ptr (length text.now) ∷ settings_val settings ∷ slice_val work.ref_ptr (length work.now) ∷ slice_val log.ref_ptr (length log.now) ∷ slice_val formula.ref_ptr (length formula.now) ∷ slice_val table.ref_ptr (length table.now) ∷ []
 
   abbrev Text : Fml
   Text = (ShrSlice (named 0) κs.0 u8).own_val text (shr_slice_vals text)
 
   -- the table's last list, where n records are filled from rows
   abbrev filled : List ℕ → ℕ → List ChoiceRecord
-  filled zs n = records-in zs 0 n ++ drop n table.now
+  filled zs n = records_in zs 0 n ++ drop n table.now
 
   -- the call of `reencode_rows`, with the rows of the block l lent for ν under the name δ
   abbrev lfts : ℕ → Lfts 5
@@ -121,46 +121,46 @@ module _ {M : Type 1} {𝓤 : Ura M} (𝓛 : Logic 𝓤) (mem : Memory → SProp
   shares = (qs.0, (qs.1.0, (qs.1.1.0, (qs.1.1.1.0, (full_share, tt)))))
 
   abbrev lent-as : ℕ → GName → MutBor (List ℕ)
-  lent-as l δ = of-local u32 4800 l δ zeros
+  lent-as l δ = of_local u32 4800 l δ zeros
 
   abbrev called : ℕ → GName → ℕ → (Rows 𝓛 mem run).Ghost
-  called ν δ l = to-rows 𝓛 mem run (lfts ν) shares text settings work log formula (lent-as l δ) 4800 (length table.now)
+  called ν δ l = to_rows 𝓛 mem run (lfts ν) shares text settings work log formula (lent-as l δ) 4800 (length table.now)
 
   abbrev Handed : ℕ → GName → ℕ → List (Item 𝓤)
-  Handed ν δ l = For-rows 𝓛 mem run (lfts ν) shares text settings work log formula (lent-as l δ) 4800 (length table.now)
+  Handed ν δ l = ForRows 𝓛 mem run (lfts ν) shares text settings work log formula (lent-as l δ) 4800 (length table.now)
 
   abbrev Told : Val → Made → List ℤ → List ℕ → Type 0
-  Told = Told-rows text settings work log formula (length table.now)
+  Told = ToldRows text settings work log formula (length table.now)
 
   abbrev Given-back : ℕ → GName → ℕ → List ℤ → List ℕ → List (Item 𝓤)
-  Given-back ν δ l = Of-rows 𝓛 mem run (lfts ν) shares text settings work log formula (lent-as l δ) 4800 (length table.now)
+  Given-back ν δ l = OfRows 𝓛 mem run (lfts ν) shares text settings work log formula (lent-as l δ) 4800 (length table.now)
 
   -- the call of `fill`, for n records
   abbrev filling : ℕ → GName → ℕ → List ℕ → ℕ → (Fill 𝓛 mem run).Ghost
-  filling ν δ l zs n = to_fill 𝓛 mem run κs.1.1.1.1.0 (ν ∷ []) qs.1.1.1.1.0 full_share table (length table.now) (of-local u32 4800 l δ zs) 4800 n
+  filling ν δ l zs n = to_fill 𝓛 mem run κs.1.1.1.1.0 (ν ∷ []) qs.1.1.1.1.0 full_share table (length table.now) (of_local u32 4800 l δ zs) 4800 n
 
   abbrev For-fill' : ℕ → GName → ℕ → List ℕ → ℕ → List (Item 𝓤)
-  For-fill' ν δ l zs n = For-fill 𝓛 mem run κs.1.1.1.1.0 (ν ∷ []) qs.1.1.1.1.0 full_share table (length table.now) (of-local u32 4800 l δ zs) 4800 n
+  For-fill' ν δ l zs n = ForFill 𝓛 mem run κs.1.1.1.1.0 (ν ∷ []) qs.1.1.1.1.0 full_share table (length table.now) (of_local u32 4800 l δ zs) 4800 n
 
   abbrev Of-fill' : ℕ → GName → ℕ → List ℕ → ℕ → List (Item 𝓤)
-  Of-fill' ν δ l zs n = Of-fill 𝓛 mem run κs.1.1.1.1.0 (ν ∷ []) qs.1.1.1.1.0 full_share table (length table.now) (of-local u32 4800 l δ zs) 4800 n
+  Of-fill' ν δ l zs n = OfFill 𝓛 mem run κs.1.1.1.1.0 (ν ∷ []) qs.1.1.1.1.0 full_share table (length table.now) (of_local u32 4800 l δ zs) 4800 n
 
   -- the machine value of an answer
-  abbrev answer-val : Made → Val
-  answer-val r = reencoding-val r.answer
+  abbrev answer_val : Made → Val
+  answer_val r = reencoding_val r.answer
 
-  answer-is : (r : Made) → Is R.the_row r (made_val r ∷ []) → Is E.the_row r.answer (answer-val r ∷ [])
-  answer-is r is = (LL.owed R.the_type R'.the_laws r _ is).0
+  answer_is : (r : Made) → Is R.the_row r (made_val r ∷ []) → Is E.the_row r.answer (answer_val r ∷ [])
+  answer_is r is = (LL.owed R.the_type R'.the_laws r _ is).0
 
   -- the outcome, and both buffers after it
   abbrev o : Checked Reencoded
   o = out text settings work log formula (length table.now)
 
   abbrev log-left : List ℕ
-  log-left = log-after o log.now
+  log-left = log_after o log.now
 
   abbrev formula-left : List ℕ
-  formula-left = formula-after o formula.now
+  formula-left = formula_after o formula.now
 
   abbrev Post : Val → SProp 𝓤
   Post = (walk_of 𝓛 reencode.ended stayed (reencode.clauses 𝓛 mem run)).post ((κs, qs, tt, a, vals), tt)
@@ -169,17 +169,17 @@ module _ {M : Type 1} {𝓤 : Ura M} (𝓛 : Logic 𝓤) (mem : Memory → SProp
   Had us zs n = Tokens 𝓤 5 κs qs
       ++ (‵ Text ∷ ‵ (finally i32 work.name us) ∷ ‵ (finally u8 log.name log-left) ∷ ‵ (finally u8 formula.name formula-left) ∷ ‵ (finally T.the_row table.name (filled zs n)) ∷ [])
 
-  exits : (w : Val) (r : Made) (us : List ℤ) (zs : List ℕ) → Told w r us zs → ent 𝓤 (⋆ 𝓛 (Had us zs r.records)) (Post (answer-val r))
+  exits : (w : Val) (r : Made) (us : List ℤ) (zs : List ℕ) → Told w r us zs → ent 𝓤 (⋆ 𝓛 (Had us zs r.records)) (Post (answer_val r))
   exits w r us zs known =
       qed 𝓛 (Had us zs r.records) ∵
-      suffices ! _ (ends_at 𝓛 reencode.ended stayed (reencode.clauses 𝓛 mem run) ((κs, qs, tt, a, vals), tt) (answer-val r) r.answer
-      (tt, (tt, (us, (log-left, (formula-left, (filled zs r.records, tt)))))) (tt, (tt, (known.5.0, (known.5.1, (known.5.2, (length-filled zs 0 r.records table.now known.3, tt))))))) $
-      says_all ! (also 𝓤 (fact_of 𝓤 (r.answer ≡ outcome-of o) known.2) (also 𝓤 (fact_of 𝓤 (log-left ≡ log-left) refl) (also 𝓤 (fact_of 𝓤 (formula-left ≡ formula-left) refl) (fact_of 𝓤 (filled zs r.records ≡ table-after o table.now) (known.4 table.now refl))))) $
-      tokens-whole ! 5 κs qs $ frame ! $
+      suffices ! _ (ends_at 𝓛 reencode.ended stayed (reencode.clauses 𝓛 mem run) ((κs, qs, tt, a, vals), tt) (answer_val r) r.answer
+      (tt, (tt, (us, (log-left, (formula-left, (filled zs r.records, tt)))))) (tt, (tt, (known.5.0, (known.5.1, (known.5.2, (length_filled zs 0 r.records table.now known.3, tt))))))) $
+      says_all ! (also 𝓤 (fact_of 𝓤 (r.answer ≡ outcome_of o) known.2) (also 𝓤 (fact_of 𝓤 (log-left ≡ log-left) refl) (also 𝓤 (fact_of 𝓤 (formula-left ≡ formula-left) refl) (fact_of 𝓤 (filled zs r.records ≡ table_after o table.now) (known.4 table.now refl))))) $
+      tokens_whole ! 5 κs qs $ frame ! $
       -- [the text; the last lists of work, log, formula and table]
       nothing ! $ move ! (5 ∷ 0 ∷ []) $ fjoin ! $ move ! (4 ∷ 0 ∷ []) $ fjoin ! $ move ! (3 ∷ 0 ∷ []) $ fjoin ! $ move ! (2 ∷ 0 ∷ []) $ fjoin ! $
-      owned ! S.the_row (Is S.the_row) (LL.makes S.the_type S'.the_plain 𝓛) settings _ settings-is $ fjoin ! $ move ! (1 ∷ 0 ∷ []) $ fjoin ! $ frame ! $
-      owned ! E.the_row (Is E.the_row) (EL.makes E.the_type E'.the_plain 𝓛) r.answer _ (answer-is r known.1) $ done !
+      owned ! S.the_row (Is S.the_row) (LL.makes S.the_type S'.the_plain 𝓛) settings _ settings_is $ fjoin ! $ move ! (1 ∷ 0 ∷ []) $ fjoin ! $ frame ! $
+      owned ! E.the_row (Is E.the_row) (EL.makes E.the_type E'.the_plain 𝓛) r.answer _ (answer_is r known.1) $ done !
 
   module _ (C : Calls 𝓤 H) (Λ : Loops 𝓤 H) (fm : FmC 𝓤 H 𝓛.laws C) (known-rows : Triple 𝓤 (C #call-reencode·reencode-rows) (Rows 𝓛 mem run)) (known-fill : Triple 𝓤 (C #records·fill) (Fill 𝓛 mem run)) where
     walk : ent 𝓤 (on_entry 𝓛 reencode.signature κs qs a vals) (WpFn 𝓤 H C Λ code.function machs Post)
@@ -192,7 +192,7 @@ module _ {M : Type 1} {𝓤 : Ura M} (𝓛 : Logic 𝓤) (mem : Memory → SProp
         alloc1 ! (λ l₁₂. alloc1 ! (λ l₁₃. alloc1 ! (λ l₁₄. alloc1 ! (λ l₁₅. alloc1 ! (λ l₁₆. alloc1 ! (λ l₁₇.
         alloc1 ! (λ l₁₈. alloc1 ! (λ l₁₉. alloc1 ! (λ l₂₀. alloc1 ! (λ l₂₁. alloc1 ! (λ l₂₂. alloc0 ! $ params1 ! $
         pass1 ! (init ! 42 refl (tt, (tt, (record { fits = room.0 }, tt)))) $
-        pass1 ! (init ! 40 refl ((LL.lawful S.the_type S'.the_laws 𝓛).typed settings _ settings-is).0) $
+        pass1 ! (init ! 40 refl ((LL.lawful S.the_type S'.the_laws 𝓛).typed settings _ settings_is).0) $
         pass1 ! (init ! 38 refl (tt, (tt, (record { fits = room₁.0 }, tt)))) $
         pass1 ! (init ! 36 refl (tt, (tt, (record { fits = room₂.0 }, tt)))) $
         pass1 ! (init ! 34 refl (tt, (tt, (record { fits = room₃.0 }, tt)))) $
@@ -203,7 +203,7 @@ module _ {M : Type 1} {𝓤 : Ura M} (𝓛 : Logic 𝓤) (mem : Memory → SProp
         owned ! u32 (Is u32) (uint_Makes 𝓛 w32) 0 (vint w32 0 ∷ []) (refl, lit< tt) $ use1 𝓛 (‵ ((Array u32 4800).own_val zeros (zeros-val ∷ []))) (Array-repeat 𝓛 u32 (uint_copy 𝓛 w32) 4800 0 (vint w32 0)) $
         peeks ! (Array u32 4800) (Is (Array u32 4800)) (shows 𝓛 (Array u32 4800)) zeros (zeros-val ∷ []) (λ rows_are.
         assigns ! (rep ! 4800 (lit ! tt)) (from ! (stop !)) (init ! 29 refl ((Array-Lawful 𝓛 u32 (uint_Lawful 𝓛 w32) 4800).typed zeros (zeros-val ∷ []) rows_are).0) $
-        move ! (29 ∷ 0 ∷ []) $ use2 𝓛 (‵ (Array-at u32 4800 l₈ zeros)) (written u32 4800 l₈ 𝓛 tt 0 (vint w32 0)) $
+        move ! (29 ∷ 0 ∷ []) $ use2 𝓛 (‵ (ArrayAt u32 4800 l₈ zeros)) (written u32 4800 l₈ 𝓛 tt 0 (vint w32 0)) $
         -- [the rows; _22; …; _9; …; that _8 dies; _7; …; _0; …; the tokens; what the parameters own]
         assigns ! (addr ! (from ! (fld ! refl (hop ! (look_in ! 38 (sub ! 0 refl (whole !))) (stop !))))) (from ! (stop !)) (init ! 25 refl (tt, tt)) $
         assigns ! (agg ! (and_then ! (load ! (from ! (stop !)) (look ! 25 refl)) (and_then ! (load ! (from ! (fld ! refl (stop !))) (look_in ! 38 (sub ! 1 refl (whole !)))) (no_more !)))) (from ! (stop !)) (init ! 23 refl (tt, (tt, (record { fits = room₁.0 }, tt)))) $
@@ -212,40 +212,40 @@ module _ {M : Type 1} {𝓤 : Ura M} (𝓛 : Logic 𝓤) (mem : Memory → SProp
         assigns ! (addr ! (from ! (fld ! refl (hop ! (look_in ! 34 (sub ! 0 refl (whole !))) (stop !))))) (from ! (stop !)) (init ! 17 refl (tt, tt)) $
         assigns ! (agg ! (and_then ! (load ! (from ! (stop !)) (look ! 17 refl)) (and_then ! (load ! (from ! (fld ! refl (stop !))) (look_in ! 34 (sub ! 1 refl (whole !)))) (no_more !)))) (from ! (stop !)) (init ! 15 refl (tt, (tt, (record { fits = room₃.0 }, tt)))) $
         assigns ! (addr ! (from ! (stop !))) (from ! (stop !)) (init ! 13 refl (tt, tt)) $
-        assigns ! (agg ! (and_then ! (load ! (from ! (stop !)) (look ! 13 refl)) (and_then ! (big-lit ! (record { fits = rows-room.0 })) (no_more !)))) (from ! (stop !)) (init ! 11 refl (tt, (tt, (record { fits = rows-room.0 }, tt)))) $
+        assigns ! (agg ! (and_then ! (load ! (from ! (stop !)) (look ! 13 refl)) (and_then ! (big_lit ! (record { fits = rows-room.0 })) (no_more !)))) (from ! (stop !)) (init ! 11 refl (tt, (tt, (record { fits = rows-room.0 }, tt)))) $
         -- they are lent for a lifetime ν
-        lft_new ! tt (λ ν. move ! (1 ∷ []) $ use1 𝓛 (later (some (λ (δ : GName). ‵ (LentMut u32 4800 l₈ 𝓛 (named 4) (ν ∷ []) rows-room zeros δ)))) (lends-mut u32 4800 l₈ 𝓛 (named 4) (ν ∷ []) rows-room zeros) $ await ! tt $ pick ! (λ δ. fsplit ! $
+        lft_new ! tt (λ ν. move ! (1 ∷ []) $ use1 𝓛 (later (some (λ (δ : GName). ‵ (LentMut u32 4800 l₈ 𝓛 (named 4) (ν ∷ []) rows-room zeros δ)))) (lends_mut u32 4800 l₈ 𝓛 (named 4) (ν ∷ []) rows-room zeros) $ await ! tt $ pick ! (λ δ. fsplit ! $
         move ! (49 ∷ []) $ fsplit ! $ use1 𝓛 (‵ Text ⊛ ‵ Text) ((shr_slice_copy 𝓛 (named 0) κs.0 u8).twice text (shr_slice_vals text)) $ split ! $ move ! (2 ∷ []) $ fsplit ! $ move ! (1 ∷ []) $ fsplit ! $ move ! (1 ∷ []) $ fsplit ! $ move ! (1 ∷ []) $ fsplit ! $ move ! (1 ∷ []) $ fsplit ! $
-        move ! (56 ∷ []) $ tokens-apart ! 5 κs qs $
+        move ! (56 ∷ []) $ tokens_apart ! 5 κs qs $
         -- [[text]; [work]; [log]; [formula]; [table]; table; true; formula; log; work; settings; text; text; rows; the lender's part; [ν]; _22; …; _0; …]
-        move ! (0 ∷ 1 ∷ 2 ∷ 3 ∷ 15 ∷ 11 ∷ 9 ∷ 8 ∷ 7 ∷ 13 ∷ []) $ hands ! (Handed ν δ l₈) ((Rows 𝓛 mem run).pre (called ν δ l₈)) (asks-rows 𝓛 mem run (lfts ν) (shares) text settings work log formula (lent-as l₈ δ) 4800 (length table.now) enough settings-is room₄.0) $
+        move ! (0 ∷ 1 ∷ 2 ∷ 3 ∷ 15 ∷ 11 ∷ 9 ∷ 8 ∷ 7 ∷ 13 ∷ []) $ hands ! (Handed ν δ l₈) ((Rows 𝓛 mem run).pre (called ν δ l₈)) (asks_rows 𝓛 mem run (lfts ν) (shares) text settings work log formula (lent-as l₈ δ) 4800 (length table.now) enough settings_is room₄.0) $
         calls_at ! fm (Rows 𝓛 mem run) known-rows (called ν δ l₈)
         (and_then ! (load ! (from ! (stop !)) (look ! 48 refl)) (and_then ! (load ! (from ! (stop !)) (look ! 46 refl))
         (and_then ! (load ! (from ! (stop !)) (look ! 29 refl)) (and_then ! (load ! (from ! (stop !)) (look ! 25 refl))
         (and_then ! (load ! (from ! (stop !)) (look ! 21 refl)) (and_then ! (load ! (from ! (stop !)) (look ! 17 refl))
         (and_then ! (load ! (from ! (stop !)) (look ! 36 refl)) (no_more !)))))))) (λ w.
-        use1 𝓛 (later (some (λ (r : Made). some (λ (us : List ℤ). some (λ (zs : List ℕ). given (Told w r us zs) (raw (⋆ 𝓛 (Given-back ν δ l₈ us zs)))))))) (gives-rows 𝓛 mem run (lfts ν) shares text settings work log formula (lent-as l₈ δ) 4800 (length table.now) w) $
+        use1 𝓛 (later (some (λ (r : Made). some (λ (us : List ℤ). some (λ (zs : List ℕ). given (Told w r us zs) (raw (⋆ 𝓛 (Given-back ν δ l₈ us zs)))))))) (gives_rows 𝓛 mem run (lfts ν) shares text settings work log formula (lent-as l₈ δ) 4800 (length table.now) w) $
         await ! tt $ pick ! (λ r. pick ! (λ us. pick ! (λ zs. learn ! (λ e. spread ! (Given-back ν δ l₈ us zs) $
         -- [[text]; [work]; [log]; [formula]; [ν]; the last lists of work, log, formula and rows; [table]; table; true; settings; text; the lender's part; _22; …; _0; …]
         land ! (from ! (stop !)) (init ! 41 refl (subst (λ (v : Val). Holds (has_ty R'.mir v) × WT v) (sym e.0) ((LL.lawful R.the_type R'.the_laws 𝓛).typed r _ e.1).0)) $ rewrite ! 41 (λ (v : Val). ‵ (fat full_share R'.mir l₉ 0 v)) e.0 refl $
         -- the lifetime is ended, and the rows come back
-        move ! (4 ∷ []) $ lft_end ! tt $ move ! (0 ∷ 14 ∷ 8 ∷ []) $ use3 𝓛 (later (‵ (Array-at u32 4800 l₈ zs))) (mut_back u32 4800 l₈ 𝓛 (ν ∷ []) δ zs) $ await ! tt $
+        move ! (4 ∷ []) $ lft_end ! tt $ move ! (0 ∷ 14 ∷ 8 ∷ []) $ use3 𝓛 (later (‵ (ArrayAt u32 4800 l₈ zs))) (mut_back u32 4800 l₈ 𝓛 (ν ∷ []) δ zs) $ await ! tt $
         -- [the rows; [text]; [work]; [log]; [formula]; the last lists of work, log and formula; [table]; table; true; settings; text; _22; …; _0; …]
         assigns ! (addr ! (from ! (fld ! refl (hop ! (look_in ! 44 (sub ! 0 refl (whole !))) (stop !))))) (from ! (stop !)) (init ! 19 refl (tt, tt)) $
         assigns ! (agg ! (and_then ! (load ! (from ! (stop !)) (look ! 19 refl)) (and_then ! (load ! (from ! (fld ! refl (stop !))) (look_in ! 44 (sub ! 1 refl (whole !)))) (no_more !)))) (from ! (stop !)) (init ! 17 refl (tt, (tt, (record { fits = room₄.0 }, tt)))) $
         assigns ! (addr ! (from ! (stop !))) (from ! (stop !)) (init ! 15 refl (tt, tt)) $
-        assigns ! (agg ! (and_then ! (load ! (from ! (stop !)) (look ! 15 refl)) (and_then ! (big-lit ! (record { fits = rows-room.0 })) (no_more !)))) (from ! (stop !)) (init ! 13 refl (tt, (tt, (record { fits = rows-room.0 }, tt)))) $
+        assigns ! (agg ! (and_then ! (load ! (from ! (stop !)) (look ! 15 refl)) (and_then ! (big_lit ! (record { fits = rows-room.0 })) (no_more !)))) (from ! (stop !)) (init ! 13 refl (tt, (tt, (record { fits = rows-room.0 }, tt)))) $
         -- they are lent again, to be read
         lft_new ! tt (λ ν'. move ! (1 ∷ []) $ use1 𝓛 (later (some (λ (δ' : GName). ‵ (LentShr u32 4800 l₈ 𝓛 (named 1) (ν' ∷ []) rows-room zs δ')))) (lends_shr u32 4800 l₈ 𝓛 (named 1) (ν' ∷ []) rows-room zs) $ await ! tt $ pick ! (λ δ'. fsplit ! $
         move ! (10 ∷ 2 ∷ 11 ∷ 0 ∷ []) $
-        hands ! (For-fill' ν' δ' l₈ zs r.records) ((Fill 𝓛 mem run).pre (filling ν' δ' l₈ zs r.records)) (asks-fill 𝓛 mem run κs.1.1.1.1.0 (ν' ∷ []) qs.1.1.1.1.0 full_share table (length table.now) (of-local u32 4800 l₈ δ' zs) 4800 r.records e.3 (LL.owed R.the_type R'.the_laws r _ e.1).1.0.1) $
+        hands ! (For-fill' ν' δ' l₈ zs r.records) ((Fill 𝓛 mem run).pre (filling ν' δ' l₈ zs r.records)) (asks_fill 𝓛 mem run κs.1.1.1.1.0 (ν' ∷ []) qs.1.1.1.1.0 full_share table (length table.now) (of_local u32 4800 l₈ δ' zs) 4800 r.records e.3 (LL.owed R.the_type R'.the_laws r _ e.1).1.0.1) $
         calls_at ! fm (Fill 𝓛 mem run) known-fill (filling ν' δ' l₈ zs r.records) (and_then ! (load ! (from ! (stop !)) (look ! 16 refl)) (and_then ! (load ! (from ! (stop !)) (look ! 12 refl)) (and_then ! (load ! (from ! (fld ! refl (stop !))) (look_in ! 38 (sub ! 1 refl (whole !)))) (no_more !)))) (λ u.
-        use1 𝓛 (later (given (u ≡ vunit) (raw (⋆ 𝓛 (Of-fill' ν' δ' l₈ zs r.records))))) (gives-fill 𝓛 mem run κs.1.1.1.1.0 (ν' ∷ []) qs.1.1.1.1.0 full_share table (length table.now) (of-local u32 4800 l₈ δ' zs) 4800 r.records u) $ await ! tt $ learn ! (λ e'. spread ! (Of-fill' ν' δ' l₈ zs r.records) $
+        use1 𝓛 (later (given (u ≡ vunit) (raw (⋆ 𝓛 (Of-fill' ν' δ' l₈ zs r.records))))) (gives_fill 𝓛 mem run κs.1.1.1.1.0 (ν' ∷ []) qs.1.1.1.1.0 full_share table (length table.now) (of_local u32 4800 l₈ δ' zs) 4800 r.records u) $ await ! tt $ learn ! (λ e'. spread ! (Of-fill' ν' δ' l₈ zs r.records) $
         -- [[table]; [ν']; the table's last list; the lender's part; [text]; [work]; [log]; [formula]; the last lists of work, log and formula; true; settings; text; _22; …; _0; …]
         land ! (from ! (stop !)) (init ! 22 refl (subst (λ (v : Val). Holds (has_ty ty_unit v) × WT v) (sym e') (tt, tt))) $
-        move ! (1 ∷ []) $ lft_end ! tt $ move ! (0 ∷ 3 ∷ []) $ use2 𝓛 (later (‵ (Array-at u32 4800 l₈ zs))) (shr-back u32 4800 l₈ 𝓛 (ν' ∷ []) zs) $ await ! tt $ use1 𝓛 (‵ (froom (ty_array (ty_int w32) 4800) l₈ 0)) (array-room u32 4800 l₈ 𝓛 zs) $
+        move ! (1 ∷ []) $ lft_end ! tt $ move ! (0 ∷ 3 ∷ []) $ use2 𝓛 (later (‵ (ArrayAt u32 4800 l₈ zs))) (shr_back u32 4800 l₈ 𝓛 (ν' ∷ []) zs) $ await ! tt $ use1 𝓛 (‵ (froom (ty_array (ty_int w32) 4800) l₈ 0)) (array_room u32 4800 l₈ 𝓛 zs) $
         -- [room for _8; [table]; the table's last list; [text]; [work]; [log]; [formula]; the last lists of work, log and formula; true; settings; text; _22; …; _0; …]
-        assigns ! (of_opd ! (load ! (from ! (fld ! refl (stop !))) (look_in ! 39 (sub ! 0 refl (whole !))))) (from ! (stop !)) (init ! 56 refl ((EL.lawful E.the_type E'.the_laws 𝓛 tt).typed r.answer _ (answer-is r e.1)).0) $
+        assigns ! (of_opd ! (load ! (from ! (fld ! refl (stop !))) (look_in ! 39 (sub ! 0 refl (whole !))))) (from ! (stop !)) (init ! 56 refl ((EL.lawful E.the_type E'.the_laws 𝓛 tt).typed r.answer _ (answer_is r e.1)).0) $
         returns ! (look ! 56 refl) $ forget ! 13 refl $ forget ! 15 refl $ forget ! 17 refl $ forget ! 19 refl $ forget ! 21 refl $
         forget ! 23 refl $ forget ! 25 refl $ forget ! 27 refl $ forget ! 29 refl $ forget ! 31 refl $ forget ! 33 refl $
         forget ! 35 refl $ forget ! 37 refl $ forget ! 39 refl $ forget ! 42 refl $ forget ! 44 refl $ forget ! 46 refl $

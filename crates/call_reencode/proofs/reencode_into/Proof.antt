@@ -1,4 +1,4 @@
-use Rattle.call_reencode.proofs.Call.{call_fits, call-refused}
+use Rattle.call_reencode.proofs.Call.{call_fits, call_refused}
 use borrow.Author.Rules.{rules}
 use Rattle.call_reencode.proofs.reencode_into.Statement.{statement}
 use Rattle.call_reencode.proofs.reencode_into.Tie as tie
@@ -51,7 +51,7 @@ returns-2 : tie.Need-returns-2
 returns-2 c =
     let back = c.before.before.before.before.before.before.before.before.before.before in let run-formula = back.run-formula in
     let start = back.before.before.before.before.before.before.before.before.before in
-    call-refused start.args.room start.args.settings start.args.text.now start.args.work.now
+    call_refused start.args.room start.args.settings start.args.text.now start.args.work.now
     run-formula.ensures c.before.n.given.1
 
 pub reencode-into-spec : {M : Type 1} → statement M

@@ -1,5 +1,5 @@
 use Rattle.call_reencode.specs.Outcome.{outcome}
-use Rattle.call_reencode.proofs.Call.{promised-done, promised-refused}
+use Rattle.call_reencode.proofs.Call.{promised_done, promised_refused}
 use borrow.Author.Rules.{rules}
 use Rattle.call_reencode.proofs.reencode_rows.Statement.{statement}
 use Rattle.call_reencode.proofs.reencode_rows.Tie as tie
@@ -38,7 +38,7 @@ returns : tie.Need-returns
 returns c =
     let back = c.before.before.before.before.before.before.before.before.before.before in let reencode-into = back.reencode-into in
     let start = back.before.before.before.before.before.before.before.before.before in
-    promised-done
+    promised_done
     (outcome start.args.settings start.args.text.now start.args.work.now start.args.log.now
     start.args.formula.now start.args.room) start.args.room start.args.log.now
     start.args.formula.now start.args.rows.now reencode-into.ensures c.before.t.given.1
@@ -62,7 +62,7 @@ returns-2 c =
     let back = back.before.before.before in let n = back.n in
     let back = back.before.before.before.before.before.before.before.before.before in let reencode-into = back.reencode-into in
     let start = back.before.before.before.before.before.before.before.before.before in
-    promised-refused
+    promised_refused
     (outcome start.args.settings start.args.text.now start.args.work.now start.args.log.now
     start.args.formula.now start.args.room) start.args.room start.args.log.now
     start.args.formula.now start.args.rows.now reencode-into.ensures n.given.1

@@ -1,4 +1,4 @@
-use Rattle.call_sizes.proofs.Call.{sizes-told}
+use Rattle.call_sizes.proofs.Call.{sizes_told}
 use borrow.Author.Rules.{rules}
 use Rattle.call_sizes.proofs.sizes.Statement.{statement}
 use Rattle.call_sizes.proofs.sizes.Tie as tie
@@ -22,7 +22,7 @@ returns : tie.Need-returns
 returns c =
     let back = c.before.before.before.before in let run-formula = back.run-formula in
     let start = back.before.before.before.before.before.before in
-    sizes-told start.args.settings start.args.text.now start.args.work.now
+    sizes_told start.args.settings start.args.text.now start.args.work.now
     run-formula.ensures.answer
 
 pub sizes-spec : {M : Type 1} → statement M

@@ -1,7 +1,7 @@
 use mathlib.Core.Bool.{false}
 use lib.ListN.{length}
-use Rattle.log_texts.proofs.Called.{texts-refused, texts-read, texts-handed}
-use Rattle.call_walk_back.proofs.Outcome.{walk-back-is}
+use Rattle.log_texts.proofs.Called.{texts_refused, texts_read, texts_handed}
+use Rattle.call_walk_back.proofs.Outcome.{walk_back_is}
 use borrow.Author.Rules.{rules}
 use Rattle.call_walk_back.proofs.walk.Statement.{statement}
 use Rattle.call_walk_back.proofs.walk.Tie as tie
@@ -24,10 +24,10 @@ slice-aggregate-replay-and-carry c = search rules
 replay-and-carry-requires : tie.Need-replay-and-carry-requires
 replay-and-carry-requires c κs =
     let back = c.before.before.before.before in let v = back.v in
-    let back = back.before.before.before.before in let read-texts = back.read-texts in
+    let back = back.before.before.before.before in let read_texts = back.read_texts in
     let start = back.before.before.before.before.before.before.before in
-    let t = texts-read false (length start.args.work.now) start.args.kept start.args.formula.now
-    start.args.log.now start.args.answer.now read-texts.result _ _ read-texts.ensures _ _ _
+    let t = texts_read false (length start.args.work.now) start.args.kept start.args.formula.now
+    start.args.log.now start.args.answer.now read_texts.result _ _ read_texts.ensures _ _ _
     v.given.1 in
     record { replayable = t.replayable; few = t.few; named = t.named }
 
@@ -36,11 +36,11 @@ same_length c = search rules
 
 returns : tie.Need-returns
 returns c =
-    let back = c.before.before.before.before.before in let read-texts = back.read-texts in
+    let back = c.before.before.before.before.before in let read_texts = back.read_texts in
     let start = back.before.before.before.before.before.before.before in
-    texts-refused false (length start.args.work.now) start.args.kept start.args.formula.now
-    start.args.log.now start.args.answer.now read-texts.result _ _ read-texts.ensures _
-    (walk-back-is _ _ _ _ _ _) _ c.before.k.given.1
+    texts_refused false (length start.args.work.now) start.args.kept start.args.formula.now
+    start.args.log.now start.args.answer.now read_texts.result _ _ read_texts.ensures _
+    (walk_back_is _ _ _ _ _ _) _ c.before.k.given.1
 
 same-length-2 : tie.Need-same-length-2
 same-length-2 c = search rules
@@ -52,12 +52,12 @@ returns-2 : tie.Need-returns-2
 returns-2 c =
     let back = c.before.before.before.before in let replay-and-carry = back.replay-and-carry in
     let back = back.before.before.before.before.before in let v = back.v in
-    let back = back.before.before.before.before in let read-texts = back.read-texts in
+    let back = back.before.before.before.before in let read_texts = back.read_texts in
     let start = back.before.before.before.before.before.before.before in
     rw
-    (texts-handed false (length start.args.work.now) start.args.kept start.args.formula.now
-    start.args.log.now start.args.answer.now read-texts.result _ _ read-texts.ensures _ _ _
-    v.given.1 _ (walk-back-is _ (length start.args.out.now) _ _ _ _)) replay-and-carry.ensures
+    (texts_handed false (length start.args.work.now) start.args.kept start.args.formula.now
+    start.args.log.now start.args.answer.now read_texts.result _ _ read_texts.ensures _ _ _
+    v.given.1 _ (walk_back_is _ (length start.args.out.now) _ _ _ _)) replay-and-carry.ensures
 
 pub walk-spec : {M : Type 1} → statement M
 walk-spec =

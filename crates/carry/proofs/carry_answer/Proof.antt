@@ -2,8 +2,8 @@ use mathlib.Core.Path.{sym, ◌∙◌}
 use lib.ListN.{length}
 use Rattle.store.specs.Store.{stored}
 use Rattle.answer.specs.Table.{marked}
-use Rattle.drat.specs.Loaded.{lines-in}
-use Rattle.carry.proofs.Writing.{answer-fails, answer-carried}
+use Rattle.drat.specs.Loaded.{lines_in}
+use Rattle.carry.proofs.Writing.{answer_fails, answer_carried}
 use borrow.Author.Rules.{rules}
 use Rattle.carry.proofs.carry_answer.Statement.{statement}
 use Rattle.carry.proofs.carry_answer.Tie as tie
@@ -30,8 +30,8 @@ returns c =
     let back = back.before.before in let if1 = back.if1 in
     let back = back.before in let satisfied = back.satisfied in
     let start = back.before.before.before.before in
-    answer-carried (length start.args.out.now) start.args.v (stored start.args.formula.now)
-    (lines-in start.args.lines.now) (stored start.args.standing.now) (marked start.args.marks.now) _
+    answer_carried (length start.args.out.now) start.args.v (stored start.args.formula.now)
+    (lines_in start.args.lines.now) (stored start.args.standing.now) (marked start.args.marks.now) _
     start.args.out.now _ write-tested.result (sym satisfied.ensures ∙ if1.true)
     (carry_back.ensures start.requires.4) write-tested.ensures
 
@@ -41,8 +41,8 @@ same-length-3 c = search rules
 returns-2 : tie.Need-returns-2
 returns-2 c =
     let start = c.before.before.before.before.before in
-    answer-fails (length start.args.out.now) start.args.v (stored start.args.formula.now)
-    (lines-in start.args.lines.now) (stored start.args.standing.now) (marked start.args.marks.now)
+    answer_fails (length start.args.out.now) start.args.v (stored start.args.formula.now)
+    (lines_in start.args.lines.now) (stored start.args.standing.now) (marked start.args.marks.now)
     (sym c.before.satisfied.ensures ∙ c.if1.false)
 
 pub carry-answer-spec : {M : Type 1} → statement M

@@ -3,7 +3,7 @@ use mathlib.Core.Bool.{false}
 use Prim.Native.Nat.{◌≤◌}
 use native.Mathlib.Omega.{arith}
 use lib.ListN.{length, take}
-use Rattle.carry.proofs.Carrying.{Carrying, carrying-end, back_start, back_step, back_end}
+use Rattle.carry.proofs.Carrying.{Carrying, carrying_end, back_start, back_step, back_end}
 use Rattle.carry.proofs.carry_back.Statement.{statement}
 use Rattle.carry.proofs.carry_back.Tie as tie
 
@@ -51,7 +51,7 @@ returns : tie.Need-returns invariant-loop decreases-loop
 returns c =
     let back = c.before in let loop = back.loop in
     let start = back.before.before in
-    carrying-end false start.args.lines.now start.args.marks.now _ _ loop.invariant.1
+    carrying_end false start.args.lines.now start.args.marks.now _ _ loop.invariant.1
     (back_end start.args.lines.now loop.end c.loop-test.false)
 
 pub carry-back-spec : {M : Type 1} → statement M

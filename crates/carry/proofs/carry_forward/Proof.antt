@@ -4,9 +4,9 @@ use mathlib.Core.Bool.{true}
 use Prim.Native.Nat.{◌+◌, ◌-◌}
 use native.Mathlib.Omega.{arith}
 use lib.ListN.{length, drop}
-use Rattle.drat.specs.Loaded.{past-line}
-use Rattle.drat.proofs.Loaded.{loaded-next, lines_end}
-use Rattle.carry.proofs.Carrying.{Carrying, carrying-start, carrying-end, forward-step}
+use Rattle.drat.specs.Loaded.{past_line}
+use Rattle.drat.proofs.Loaded.{loaded_next, lines_end}
+use Rattle.carry.proofs.Carrying.{Carrying, carrying_start, carrying_end, forward_step}
 use Rattle.carry.proofs.carry_forward.Statement.{statement}
 use Rattle.carry.proofs.carry_forward.Tie as tie
 
@@ -19,13 +19,13 @@ decreases-loop marks₀ lines at₀ marks at = length lines - at
 loop-holds : tie.Need-loop-init invariant-loop decreases-loop
 loop-holds c =
     let start = c.before in
-    carrying-start true start.args.lines.now start.args.marks.now start.requires
+    carrying_start true start.args.lines.now start.args.marks.now start.requires
 
 carry-line-requires : tie.Need-carry-line-requires invariant-loop decreases-loop
 carry-line-requires c κs =
     let back = c.before.before in let loop = back.loop in
     let start = back.before.before in
-    (loaded-next start.args.lines.now loop.at c.before.loop-test.true loop.invariant.loaded).0
+    (loaded_next start.args.lines.now loop.at c.before.loop-test.true loop.invariant.loaded).0
 
 next-at-requires : tie.Need-next-at-requires invariant-loop decreases-loop
 next-at-requires c κs =
@@ -39,7 +39,7 @@ add_at c =
     let start = back.before.before in
     omega (
       arith,
-      (loaded-next start.args.lines.now loop.at loop-test.true loop.invariant.loaded).0,
+      (loaded_next start.args.lines.now loop.at loop-test.true loop.invariant.loaded).0,
       c.next-at.ensures,
     )
 
@@ -54,9 +54,9 @@ loop-again c =
     let back = back.before.before in let loop-test = back.loop-test in
     let back = back.before in let loop = back.loop in
     let start = back.before.before in
-    let e : c.next-at.result + 1 ≡ past-line start.args.lines.now loop.at = omega
+    let e : c.next-at.result + 1 ≡ past_line start.args.lines.now loop.at = omega
     (arith, c.next-at.ensures) in
-    forward-step start.args.lines.now start.args.marks.now loop.marks _ loop.at _ loop.invariant
+    forward_step start.args.lines.now start.args.marks.now loop.marks _ loop.at _ loop.invariant
     loop-test.true e carry-line.auto.0 carry-line.ensures
 
 same_length : tie.Need-same-length invariant-loop decreases-loop
@@ -66,7 +66,7 @@ returns : tie.Need-returns invariant-loop decreases-loop
 returns c =
     let back = c.before in let loop = back.loop in
     let start = back.before.before in
-    carrying-end true start.args.lines.now start.args.marks.now _ _ loop.invariant
+    carrying_end true start.args.lines.now start.args.marks.now _ _ loop.invariant
     (lines_end start.args.lines.now loop.at c.loop-test.false)
 
 pub carry-forward-spec : {M : Type 1} → statement M

@@ -7,8 +7,8 @@ use borrow.Author.Rules.{sfits_of, rules}
 use lib.IntN.{ℤ}
 use Rattle.literals.specs.Literal.{negative}
 use Rattle.literals.proofs.Laws.{answered}
-use Rattle.store.specs.Store.{header_at, size-at}
-use Rattle.carry.proofs.Carrying.{over-repaired, over-kept}
+use Rattle.store.specs.Store.{header_at, size_at}
+use Rattle.carry.proofs.Carrying.{over_repaired, over_kept}
 use Rattle.carry.proofs.carry_line.Statement.{statement}
 use Rattle.carry.proofs.carry_line.Tie as tie
 
@@ -24,8 +24,8 @@ is-repaired-requires c κs = search rules
 next-at-requires : tie.Need-next-at-requires
 next-at-requires c κs = search rules
 
-add-first : tie.Need-overflow-add-first
-add-first c = search rules
+add_first : tie.Need-overflow-add-first
+add_first c = search rules
 
 mul-repair : tie.Need-overflow-mul-repair
 mul-repair c = search rules
@@ -55,8 +55,8 @@ returns c =
     let s = start.args.lines.now in
     let at = start.args.at in
     let forward = start.args.forward in
-    let n : next-at.result - (at + 1) ≡ size-at s at = omega (arith, next-at.ensures) in
-    over-repaired s at start.args.marks.now forward _
+    let n : next-at.result - (at + 1) ≡ size_at s at = omega (arith, next-at.ensures) in
+    over_repaired s at start.args.marks.now forward _
     (answered (λ (h : ℤ). cond forward (not (negative h)) (negative h)) (header_at s at)
     (sfits_of is-repaired-arg.given) is-repaired.ensures if1.true)
     (rw n at c.before.before.repair.ensures)
@@ -67,7 +67,7 @@ returns-2 c =
     let s = start.args.lines.now in
     let at = start.args.at in
     let forward = start.args.forward in
-    λ w. over-kept s at start.args.marks.now forward
+    λ w. over_kept s at start.args.marks.now forward
     (answered (λ (h : ℤ). cond forward (not (negative h)) (negative h)) (header_at s at)
     (sfits_of c.before.before.is-repaired-arg.given) c.before.is-repaired.ensures c.if1.false)
 
@@ -79,7 +79,7 @@ carry-line-spec =
     shared-slice-copy-out-is-repaired
     is-repaired-requires
     next-at-requires
-    add-first
+    add_first
     mul-repair
     sub-repair
     part-repair-start

@@ -47,9 +47,9 @@ same-length-2 c = search rules
 
 returns : tie.Need-returns
 returns c =
-    let back = c.before.before.before.before in let carry-plan = back.carry-plan in
+    let back = c.before.before.before.before in let carry_plan = back.carry_plan in
     let if1 = back.before.before.before.if1 in
-    rw if1.true carry-plan.ensures
+    rw if1.true carry_plan.ensures
 
 carry-answer-requires : tie.Need-carry-answer-requires
 carry-answer-requires c κs = search rules
@@ -62,9 +62,9 @@ same-length-4 c = search rules
 
 returns-2 : tie.Need-returns-2
 returns-2 c =
-    let back = c.before.before.before.before in let carry-answer = back.carry-answer in
+    let back = c.before.before.before.before in let carry_answer = back.carry_answer in
     let if1 = back.before.before.before.if1 in
-    rw if1.false carry-answer.ensures
+    rw if1.false carry_answer.ensures
 
 pub carry-parts-spec : {M : Type 1} → statement M
 carry-parts-spec =

@@ -1,8 +1,8 @@
 use lib.ListN.{length}
 use Rattle.store.specs.Store.{stored}
 use Rattle.answer.specs.Table.{marked}
-use Rattle.drat.specs.Loaded.{lines-in}
-use Rattle.carry.proofs.Writing.{plan-carried}
+use Rattle.drat.specs.Loaded.{lines_in}
+use Rattle.carry.proofs.Writing.{plan_carried}
 use borrow.Author.Rules.{rules}
 use Rattle.carry.proofs.carry_plan.Statement.{statement}
 use Rattle.carry.proofs.carry_plan.Tie as tie
@@ -22,11 +22,11 @@ same-length-2 c = search rules
 returns : tie.Need-returns
 returns c =
     let back = c.before.before in let write-tested = back.write-tested in
-    let back = back.before.before.before.before.before in let carry-forward = back.carry-forward in
+    let back = back.before.before.before.before.before in let carry_forward = back.carry_forward in
     let start = back.before.before.before.before in
-    plan-carried (length start.args.out.now) start.args.x (lines-in start.args.lines.now)
+    plan_carried (length start.args.out.now) start.args.x (lines_in start.args.lines.now)
     (stored start.args.standing.now) (marked start.args.marks.now) _ start.args.out.now _
-    write-tested.result (carry-forward.ensures start.requires.3) write-tested.ensures
+    write-tested.result (carry_forward.ensures start.requires.3) write-tested.ensures
 
 pub carry-plan-spec : {M : Type 1} → statement M
 carry-plan-spec =

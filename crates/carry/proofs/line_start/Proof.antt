@@ -2,9 +2,9 @@ use mathlib.Core.Path.{◌≡◌}
 use Prim.Native.Nat.{◌-◌}
 use native.Mathlib.Omega.{arith}
 use borrow.Author.Rules.{sfits_of, rules}
-use Rattle.literals.specs.Literal.{header-literals}
-use Rattle.literals.proofs.Laws.{answer, literals-within}
-use Rattle.store.specs.Store.{header_at, size-at}
+use Rattle.literals.specs.Literal.{header_literals}
+use Rattle.literals.proofs.Laws.{answer, literals_within}
+use Rattle.store.specs.Store.{header_at, size_at}
 use Rattle.carry.proofs.LastLine.{last_fits, last_line}
 use Rattle.carry.proofs.line_start.Statement.{statement}
 use Rattle.carry.proofs.line_start.Tie as tie
@@ -28,8 +28,8 @@ add-result c =
     let h = header_at start.args.lines.now (start.args.end - 1) in
     omega (
       arith,
-      answer header-literals h (sfits_of header-length-arg.given) c.header-length.ensures,
-      literals-within h (sfits_of header-length-arg.given),
+      answer header_literals h (sfits_of header-length-arg.given) c.header-length.ensures,
+      literals_within h (sfits_of header-length-arg.given),
     )
 
 sub-result : tie.Need-overflow-sub-result
@@ -38,7 +38,7 @@ sub-result c =
     let h = header_at start.args.lines.now (start.args.end - 1) in
     omega (
       arith,
-      answer header-literals h (sfits_of c.before.header-length-arg.given) c.header-length.ensures,
+      answer header_literals h (sfits_of c.before.header-length-arg.given) c.header-length.ensures,
       last_fits start.args.lines.now start.args.end start.requires.0 start.requires.1 start.requires.2,
     )
 
@@ -48,7 +48,7 @@ returns c =
     let s = start.args.lines.now in
     let end = start.args.end in
     let h = header_at s (end - 1) in
-    let n : c.header-length.result ≡ size-at s (end - 1) = answer header-literals h
+    let n : c.header-length.result ≡ size_at s (end - 1) = answer header_literals h
     (sfits_of c.before.header-length-arg.given) c.header-length.ensures in
     last_line s end start.requires.0 start.requires.1 start.requires.2 _ (omega arith)
 

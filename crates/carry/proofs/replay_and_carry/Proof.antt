@@ -1,6 +1,6 @@
 use lib.ListN.{length}
 use Rattle.answer.specs.Table.{marked}
-use Rattle.carry.proofs.Replaying.{no-clause, parts-there, parts-carried}
+use Rattle.carry.proofs.Replaying.{no_clause, parts_there, parts_carried}
 use borrow.Author.Rules.{rules}
 use Rattle.carry.proofs.replay_and_carry.Statement.{statement}
 use Rattle.carry.proofs.replay_and_carry.Tie as tie
@@ -19,7 +19,7 @@ carry-parts-requires c κs =
     let back = c.before.before.before.before in let end = back.end in
     let back = back.before.before.before in let replay = back.replay in
     let start = back.before.before.before.before in
-    parts-there start.args.work.now replay.new.0 start.args.n start.args.m start.args.v
+    parts_there start.args.work.now replay.new.0 start.args.n start.args.m start.args.v
     start.args.marks.now start.requires replay.result replay.ensures.0 replay.ensures.1 _ end.given.1
     replay.auto.0
 
@@ -30,7 +30,7 @@ returns : tie.Need-returns
 returns c =
     let back = c.before.before.before in let replay = back.replay in
     let start = back.before.before.before.before in
-    no-clause start.args.work.now replay.new.0 start.args.n start.args.m start.args.v
+    no_clause start.args.work.now replay.new.0 start.args.n start.args.m start.args.v
     start.args.marks.now start.requires replay.result replay.ensures.0 replay.ensures.1
     start.args.forward (length start.args.out.now) (marked start.args.marks.now)
     c.enum_told.given.1
@@ -50,7 +50,7 @@ returns-2 c =
     let back = back.before.before.before.before.before in let end = back.end in
     let back = back.before.before.before in let replay = back.replay in
     let start = back.before.before.before.before in
-    parts-carried start.args.work.now replay.new.0 start.args.n start.args.m start.args.v
+    parts_carried start.args.work.now replay.new.0 start.args.n start.args.m start.args.v
     start.args.marks.now start.requires replay.result replay.ensures.0 replay.ensures.1 _ end.given.1
     start.args.forward start.args.out.now _ carry-parts.result carry-parts.ensures
 

@@ -6,9 +6,9 @@ use lib.ListN.{length, drop}
 use borrow.Author.Rules.{rules}
 use Rattle.definition.specs.Assignments.{satisfies}
 use Rattle.store.specs.Store.{Formed, stored}
-use Rattle.store.proofs.Laws.{formed-next}
+use Rattle.store.proofs.Laws.{formed_next}
 use Rattle.answer.specs.Table.{marked}
-use Rattle.carry.proofs.Carrying.{satisfied-more, satisfied-not, satisfied-end}
+use Rattle.carry.proofs.Carrying.{satisfied_more, satisfied_not, satisfied_end}
 use Rattle.carry.proofs.satisfied.Statement.{statement}
 use Rattle.carry.proofs.satisfied.Tie as tie
 
@@ -35,7 +35,7 @@ next-in-requires c κs =
 loop-less : tie.Need-loop-smaller invariant-loop decreases-loop
 loop-less c =
     let loop-test = c.before.before.before.loop-test in
-    omega (arith, c.next-in.ensures, loop-test.true)
+    omega (arith, c.next_in.ensures, loop-test.true)
 
 loop-again : tie.Need-loop-preserved invariant-loop decreases-loop
 loop-again c =
@@ -48,11 +48,11 @@ loop-again c =
     let s = cond a.is-added a.added.now a.read.now in
     let at = loop.at in
     let inside : at < length s = omega (arith, loop-test.true, length-of.ensures) in
-    let f = formed-next s at inside loop.invariant.1 in
-    rw c.next-in.ensures (
+    let f = formed_next s at inside loop.invariant.1 in
+    rw c.next_in.ensures (
       f.0,
       f.1,
-      satisfied-more (marked a.marks.now) s at inside holds_at.result holds_at.ensures
+      satisfied_more (marked a.marks.now) s at inside holds_at.result holds_at.ensures
           c.before.if1.true
           ∙ loop.invariant.2,
     )
@@ -67,7 +67,7 @@ returns c =
     let s = cond a.is-added a.added.now a.read.now in
     let at = loop.at in
     let inside : at < length s = omega (arith, c.before.before.loop-test.true, length-of.ensures) in
-    satisfied-not (marked a.marks.now) s at inside holds_at.result holds_at.ensures c.if1.false
+    satisfied_not (marked a.marks.now) s at inside holds_at.result holds_at.ensures c.if1.false
     ∙ loop.invariant.2
 
 returns-2 : tie.Need-returns-2 invariant-loop decreases-loop
@@ -78,7 +78,7 @@ returns-2 c =
     let s = cond a.is-added a.added.now a.read.now in
     let at = loop.at in
     let past : length s ≤ at = omega (arith, c.loop-test.false, c.before.before.length-of.ensures) in
-    satisfied-end (marked a.marks.now) s at past ∙ loop.invariant.2
+    satisfied_end (marked a.marks.now) s at past ∙ loop.invariant.2
 
 pub satisfied-spec : {M : Type 1} → statement M
 satisfied-spec =

@@ -2,7 +2,7 @@ use mathlib.Core.Bool.{cond}
 use native.Mathlib.Omega.{arith}
 use Rattle.store.specs.Store.{stored}
 use Rattle.answer.specs.Table.{marked}
-use Rattle.carry.proofs.Writing.{tested-not, tested-long, tested-written}
+use Rattle.carry.proofs.Writing.{tested_not, tested_long, tested_written}
 use borrow.Author.Rules.{rules}
 use Rattle.carry.proofs.write_tested.Statement.{statement}
 use Rattle.carry.proofs.write_tested.Tie as tie
@@ -22,7 +22,7 @@ returns c =
     let back = back.before.before in let if1 = back.if1 in
     let back = back.before in let satisfied = back.satisfied in
     let start = back.before.before.before in
-    tested-long start.args.number start.args.out.now _ start.args.v write-answer.result
+    tested_long start.args.number start.args.out.now _ start.args.v write-answer.result
     (stored (cond start.args.is-standing start.args.standing.now start.args.formula.now))
     (marked start.args.marks.now) satisfied.result satisfied.ensures if1.true write-answer.ensures
     (omega (arith, write-answer.auto.0, c.if2.true))
@@ -36,7 +36,7 @@ returns-2 c =
     let back = back.before.before in let if1 = back.if1 in
     let back = back.before in let satisfied = back.satisfied in
     let start = back.before.before.before in
-    tested-written start.args.number start.args.out.now _ start.args.v write-answer.result
+    tested_written start.args.number start.args.out.now _ start.args.v write-answer.result
     (stored (cond start.args.is-standing start.args.standing.now start.args.formula.now))
     (marked start.args.marks.now) satisfied.result satisfied.ensures if1.true write-answer.ensures
     (omega (arith, write-answer.auto.0, c.if2.false))
@@ -45,7 +45,7 @@ returns-3 : tie.Need-returns-3
 returns-3 c =
     let start = c.before.before.before.before in
     let satisfied = c.before.satisfied in
-    tested-not start.args.number start.args.out.now start.args.out.now start.args.v 0
+    tested_not start.args.number start.args.out.now start.args.out.now start.args.v 0
     (stored (cond start.args.is-standing start.args.standing.now start.args.formula.now))
     (marked start.args.marks.now) satisfied.result satisfied.ensures c.if1.false
 

@@ -1,4 +1,4 @@
-use Rattle.counts.proofs.Laws.{six-counts}
+use Rattle.counts.proofs.Laws.{six_counts}
 use borrow.Author.Rules.{rules}
 use Rattle.counts.proofs.put_six.Statement.{statement}
 use Rattle.counts.proofs.put_six.Tie as tie
@@ -39,7 +39,7 @@ returns c =
       put-count3.ensures,
       put-count2.ensures,
       put_count.ensures,
-    ) (six-counts start.args.tally.now _ _ _ _ _ _)
+    ) (six_counts start.args.tally.now _ _ _ _ _ _)
 
 pub put-six-spec : {M : Type 1} → statement M
 put-six-spec =

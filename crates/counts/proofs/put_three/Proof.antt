@@ -1,4 +1,4 @@
-use Rattle.counts.proofs.Laws.{three-counts}
+use Rattle.counts.proofs.Laws.{three_counts}
 use borrow.Author.Rules.{rules}
 use Rattle.counts.proofs.put_three.Statement.{statement}
 use Rattle.counts.proofs.put_three.Tie as tie
@@ -21,7 +21,7 @@ returns c =
     let back = back.before.before.before.before in let put_count = back.put_count in
     let start = back.before.before.before in
     rw (c.before.before.put-count3.ensures, put-count2.ensures, put_count.ensures)
-    (three-counts start.args.tally.now _ _ _)
+    (three_counts start.args.tally.now _ _ _)
 
 pub put-three-spec : {M : Type 1} → statement M
 put-three-spec =

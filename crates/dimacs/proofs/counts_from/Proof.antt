@@ -1,4 +1,4 @@
-use Rattle.dimacs.proofs.HeaderLine.{many-variables, many-clauses, counts-few}
+use Rattle.dimacs.proofs.HeaderLine.{many_variables, many_clauses, counts_few}
 use borrow.Author.Rules.{rules}
 use Rattle.dimacs.proofs.counts_from.Statement.{statement}
 use Rattle.dimacs.proofs.counts_from.Tie as tie
@@ -35,7 +35,7 @@ returns c =
     let back = c.before.before.before in let the-c = back.c in
     let back = back.before.before.before in let v = back.v in
     let start = back.before.before in
-    many-variables start.args.most start.args.v start.args.c _ _ v.given.1 the-c.given.1
+    many_variables start.args.most start.args.v start.args.c _ _ v.given.1 the-c.given.1
     c.if1.true
 
 returns-2 : tie.Need-returns-2
@@ -43,7 +43,7 @@ returns-2 c =
     let back = c.before.before.before.before.before in let the-c = back.c in
     let back = back.before.before.before in let v = back.v in
     let start = back.before.before in
-    many-clauses start.args.most start.args.v start.args.c _ _ v.given.1 the-c.given.1
+    many_clauses start.args.most start.args.v start.args.c _ _ v.given.1 the-c.given.1
     c.before.before.if1.false c.if2.true
 
 returns-3 : tie.Need-returns-3
@@ -69,7 +69,7 @@ returns-9 c =
     let back = c.before.before.before.before.before in let the-c = back.c in
     let back = back.before.before.before in let v = back.v in
     let start = back.before.before in
-    counts-few start.args.most start.args.v start.args.c _ _ v.given.1 the-c.given.1
+    counts_few start.args.most start.args.v start.args.c _ _ v.given.1 the-c.given.1
     c.before.before.if1.false c.if2.false
 
 pub counts-from-spec : {M : Type 1} → statement M

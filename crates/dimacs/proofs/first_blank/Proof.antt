@@ -6,8 +6,8 @@ use lib.ListN.{length, drop}
 use mathlib.Core.Bool.{false, not}
 use borrow.Author.Tests.{eq-eqb, ne_eqb}
 use Rattle.definition.specs.Text.{is}
-use Rattle.theory_text.specs.Runs.{in-run, letters}
-use Rattle.theory_text.proofs.Runs.{run_step, run-stop, run-stop-end}
+use Rattle.theory_text.specs.Runs.{in_run, letters}
+use Rattle.theory_text.proofs.Runs.{run_step, run_stop, run_stop_end}
 use Rattle.dimacs.proofs.first_blank.Statement.{statement}
 use Rattle.dimacs.proofs.first_blank.Tie as tie
 
@@ -28,7 +28,7 @@ unfolding is
 returns c =
     let back = c.before.before.before in let loop = back.loop in
     let start = back.before in
-    run-stop (in-run (is " ") false) start.args.text.now loop.i c.before.before.loop-test.true (ap not (eq-eqb _ _ c.if1.true))
+    run_stop (in_run (is " ") false) start.args.text.now loop.i c.before.before.loop-test.true (ap not (eq-eqb _ _ c.if1.true))
     ∙ loop.invariant.1
 
 add-i : tie.Need-overflow-add-i invariant-loop decreases-loop
@@ -43,7 +43,7 @@ loop-again c =
     let back = c.before.before.before in let loop = back.loop in
     let start = back.before in (
       omega arith,
-      run_step (in-run (is " ") false) start.args.text.now loop.i c.before.before.loop-test.true
+      run_step (in_run (is " ") false) start.args.text.now loop.i c.before.before.loop-test.true
           (ap not (ne_eqb _ _ c.if1.false))
           ∙ loop.invariant.1,
     )
@@ -52,7 +52,7 @@ returns-2 : tie.Need-returns-2 invariant-loop decreases-loop
 returns-2 c =
     let back = c.before in let loop = back.loop in
     let start = back.before in
-    run-stop-end (in-run (is " ") false) start.args.text.now loop.i c.loop-test.false ∙ loop.invariant.1
+    run_stop_end (in_run (is " ") false) start.args.text.now loop.i c.loop-test.false ∙ loop.invariant.1
 
 pub first-blank-spec : {M : Type 1} → statement M
 first-blank-spec =

@@ -6,11 +6,11 @@ use lib.IntN.{ℤ}
 use lib.ListN.{length, set}
 use borrow.Author.Rules.{rules, sfits_of}
 use Rattle.literals.proofs.Laws.{at_arg}
-use Rattle.theory_base.proofs.Fitting.{fit-up}
-use Rattle.tables.specs.Sizes.{log-reach}
-use Rattle.dimacs.specs.Clause.{Gather-post}
+use Rattle.theory_base.proofs.Fitting.{fit_up}
+use Rattle.tables.specs.Sizes.{log_reach}
+use Rattle.dimacs.specs.Clause.{GatherPost}
 use Rattle.dimacs.specs.declared.Item.TheVariants as Item
-use Rattle.dimacs.proofs.Gathering.{Going, going_start, going_end, going-word, going-fault, going-kept, going-fits, going_on, going-left-out}
+use Rattle.dimacs.proofs.Gathering.{Going, going_start, going_end, going_word, going_fault, going_kept, going_fits, going_on, going_left_out}
 use Rattle.dimacs.proofs.gather_clause.Statement.{statement}
 use Rattle.dimacs.proofs.gather_clause.Tie as tie
 
@@ -60,20 +60,20 @@ sub-number-item : tie.Need-overflow-sub-number-item invariant-loop decreases-loo
 sub-number-item c =
     let back = c.before.before.before in let next_word = back.next_word in
     let loop = back.before.loop in
-    let w = sym c.before.start.given.1 ∙ next_word.ensures in omega (arith, (going-word loop.invariant.0 w).some)
+    let w = sym c.before.start.given.1 ∙ next_word.ensures in omega (arith, (going_word loop.invariant.0 w).some)
 
 part-number-item-start : tie.Need-slice-bounds-number-item-start invariant-loop decreases-loop
 part-number-item-start c =
     let back = c.before.before.before in let next_word = back.next_word in
     let loop = back.before.loop in
-    let w = sym c.before.start.given.1 ∙ next_word.ensures in omega (arith, (going-word loop.invariant.0 w).some)
+    let w = sym c.before.start.given.1 ∙ next_word.ensures in omega (arith, (going_word loop.invariant.0 w).some)
 
 part-number-item-end : tie.Need-slice-bounds-number-item-end invariant-loop decreases-loop
 part-number-item-end c =
     let back = c.before.before.before in let next_word = back.next_word in
     let loop = back.before.loop in
     let w = sym c.before.start.given.1 ∙ next_word.ensures in
-    let f = going-word loop.invariant.0 w in omega (arith, f.some, f.within)
+    let f = going_word loop.invariant.0 w in omega (arith, f.some, f.within)
 
 number-item-requires : tie.Need-number-item-requires invariant-loop decreases-loop
 number-item-requires c κs =
@@ -95,11 +95,11 @@ same-length-4 c =
 
 returns-2 : tie.Need-returns-2 invariant-loop decreases-loop
 returns-2 c =
-    let back = c.before.before.before in let number-item = back.number-item in
+    let back = c.before.before.before in let number_item = back.number_item in
     let back = back.before.before.before in let start = back.start in
     let back = back.before.before in let next_word = back.next_word in
     let loop = back.before.loop in
-    going-fault loop.invariant.0 (sym start.given.1 ∙ next_word.ensures) number-item.ensures
+    going_fault loop.invariant.0 (sym start.given.1 ∙ next_word.ensures) number_item.ensures
     c.before.f.given.1
 
 enum-told-2 : tie.Need-enum-told-2 invariant-loop decreases-loop
@@ -125,12 +125,12 @@ returns-3 : tie.Need-returns-3 invariant-loop decreases-loop
 returns-3 c =
     let back = c.before.before in let header = back.header in
     let back = back.before.before in let enum-told2 = back.enum-told2 in
-    let back = back.before.before in let number-item = back.number-item in
+    let back = back.before.before in let number_item = back.number_item in
     let back = back.before.before.before in let start = back.start in
     let back = back.before.before in let next_word = back.next_word in
     let back = back.before in let loop = back.loop in
     let entry = back.before.before.before in
-    going-kept loop.invariant.0 (sym start.given.1 ∙ next_word.ensures) number-item.ensures entry.requires.0
+    going_kept loop.invariant.0 (sym start.given.1 ∙ next_word.ensures) number_item.ensures entry.requires.0
     entry.requires.1.1.1 enum-told2.given.1
     (c.before.put.ensures
     ∙ ap (set loop.held 0) (at_arg (λ (z : ℤ). z) header.result (sfits_of header.type-inv) ∙ header.ensures))
@@ -141,7 +141,7 @@ enum-known-l c = search rules
 hold-literal-requires : tie.Need-hold-literal-requires invariant-loop decreases-loop
 hold-literal-requires c κs =
     let back = c.before.before.before in let l = back.l in
-    let back = back.before.before in let number-item = back.number-item in
+    let back = back.before.before in let number_item = back.number_item in
     let back = back.before.before.before in let start = back.start in
     let back = back.before.before in let next_word = back.next_word in
     let back = back.before in let loop = back.loop in
@@ -149,11 +149,11 @@ hold-literal-requires c κs =
     let x = l.given.0.0 in
     let q = l.given.1 ∙ sym (at_arg (λ (z : ℤ). Item.Literal z) x (search rules)) in
     let w = sym start.given.1 ∙ next_word.ensures in (
-      fit-up log-reach entry.args.variables _ entry.requires.0
-          (going-fits loop.invariant.0 w number-item.ensures _ q),
+      fit_up log_reach entry.args.variables _ entry.requires.0
+          (going_fits loop.invariant.0 w number_item.ensures _ q),
       (
         omega (arith, loop.invariant.1, entry.requires.1.0),
-        (let f = going-word loop.invariant.0 w in omega (arith, loop.invariant.0.fewer, f.after, f.some, f.within)),
+        (let f = going_word loop.invariant.0 w in omega (arith, loop.invariant.0.fewer, f.after, f.some, f.within)),
       ),
     )
 
@@ -166,7 +166,7 @@ skip-clause-requires c κs =
     let back = back.before.before in let next_word = back.next_word in
     let back = back.before in let loop = back.loop in
     let entry = back.before.before.before in
-    (entry.requires.0, (going-word loop.invariant.0 (sym start.given.1 ∙ next_word.ensures)).within)
+    (entry.requires.0, (going_word loop.invariant.0 (sym start.given.1 ∙ next_word.ensures)).within)
 
 left-out-requires : tie.Need-left-out-requires invariant-loop decreases-loop
 left-out-requires c κs = search rules
@@ -189,7 +189,7 @@ returns-4 c =
     let back = back.before.before.before.before.before.before in let hold-literal = back.hold-literal in
     let back = back.before.before.before in let known-told3 = back.known-told3 in
     let back = back.before in let l = back.l in
-    let back = back.before.before in let number-item = back.number-item in
+    let back = back.before.before in let number_item = back.number_item in
     let back = back.before.before.before in let start = back.start in
     let back = back.before.before in let next_word = back.next_word in
     let back = back.before in let loop = back.loop in
@@ -198,9 +198,9 @@ returns-4 c =
     let q = l.given.1 ∙ sym (at_arg (λ (z : ℤ). Item.Literal z) x (search (rules, known-told3))) in
     let w = sym start.given.1 ∙ next_word.ensures in
     subst
-    (Gather-post entry.args.text.now _ hold-literal.new.1.1.0 hold-literal.new.0 entry.args.stamp
+    (GatherPost entry.args.text.now _ hold-literal.new.1.1.0 hold-literal.new.0 entry.args.stamp
     entry.args.variables) (sym c.left_out.ensures)
-    (going-left-out loop.invariant.0 w number-item.ensures _ q _ _ _ hold-literal.ensures
+    (going_left_out loop.invariant.0 w number_item.ensures _ q _ _ _ hold-literal.ensures
     c.before.before.enum-told3.given.1 skip-clause.result skip-clause.ensures)
 
 enum-known-count : tie.Need-enum-known-count invariant-loop decreases-loop
@@ -212,21 +212,21 @@ loop-less c =
     let back = back.before.before in let next_word = back.next_word in
     let loop = back.before.loop in
     let w = sym start.given.1 ∙ next_word.ensures in
-    let f = going-word loop.invariant.0 w in omega (arith, f.after, f.some, f.within)
+    let f = going_word loop.invariant.0 w in omega (arith, f.after, f.some, f.within)
 
 loop-again : tie.Need-loop-preserved invariant-loop decreases-loop
 loop-again c =
     let back = c.before.before.before.before.before.before in let hold-literal = back.hold-literal in
     let back = back.before.before.before in let known-told3 = back.known-told3 in
     let back = back.before in let l = back.l in
-    let back = back.before.before in let number-item = back.number-item in
+    let back = back.before.before in let number_item = back.number_item in
     let back = back.before.before.before in let start = back.start in
     let back = back.before.before in let next_word = back.next_word in
     let loop = back.before.loop in
     let x = l.given.0.0 in
     let q = l.given.1 ∙ sym (at_arg (λ (z : ℤ). Item.Literal z) x (search (rules, known-told3))) in
     let w = sym start.given.1 ∙ next_word.ensures in (
-      going_on loop.invariant.0 w number-item.ensures _ q _ _ _ hold-literal.ensures c.before.count.given.1
+      going_on loop.invariant.0 w number_item.ensures _ q _ _ _ hold-literal.ensures c.before.count.given.1
           hold-literal.auto.1.1.0,
       hold-literal.auto.0 ∙ loop.invariant.1,
     )

@@ -1,7 +1,7 @@
 use native.Mathlib.Omega.{arith}
 use lib.IntN.{ℤ, nat_abs}
 use Rattle.literals.proofs.Laws.{at_arg}
-use Rattle.dimacs.proofs.Gathering.{hold-repeated, hold-opposed, hold-new}
+use Rattle.dimacs.proofs.Gathering.{hold_repeated, hold_opposed, hold_new}
 use borrow.Author.Rules.{rules}
 use Rattle.dimacs.proofs.hold_literal.Statement.{statement}
 use Rattle.dimacs.proofs.hold_literal.Tie as tie
@@ -36,7 +36,7 @@ returns : tie.Need-returns
 returns c =
     let back = c.before.before.before.before in let mark = back.mark in
     let start = back.before.before.before in
-    λ old here h. hold-repeated h (at_arg (λ (z : ℤ). z) start.args.l start.ranges.l) _ _ (mark.ensures here h.marks) c.enum_told.given.1
+    λ old here h. hold_repeated h (at_arg (λ (z : ℤ). z) start.args.l start.ranges.l) _ _ (mark.ensures here h.marks) c.enum_told.given.1
 
 same-length-2 : tie.Need-same-length-2
 same-length-2 c = search rules
@@ -45,7 +45,7 @@ returns-2 : tie.Need-returns-2
 returns-2 c =
     let back = c.before.before.before.before in let mark = back.mark in
     let start = back.before.before.before in
-    λ old here h. hold-opposed h (at_arg (λ (z : ℤ). z) start.args.l start.ranges.l) _ _ (mark.ensures here h.marks) c.enum-told2.given.1
+    λ old here h. hold_opposed h (at_arg (λ (z : ℤ). z) start.args.l start.ranges.l) _ _ (mark.ensures here h.marks) c.enum-told2.given.1
     start.args.held.now
 
 same-length-3 : tie.Need-same-length-3
@@ -59,7 +59,7 @@ returns-3 c =
     let back = c.before.before.before in let enum-told3 = back.enum-told3 in
     let back = back.before.before.before.before in let mark = back.mark in
     let start = back.before.before.before in
-    λ old here h. hold-new h (at_arg (λ (z : ℤ). z) start.args.l start.ranges.l) _ _ (mark.ensures here h.marks) enum-told3.given.1
+    λ old here h. hold_new h (at_arg (λ (z : ℤ). z) start.args.l start.ranges.l) _ _ (mark.ensures here h.marks) enum-told3.given.1
     start.requires.0 c.before.put.ensures
 
 pub hold-literal-spec : {M : Type 1} → statement M

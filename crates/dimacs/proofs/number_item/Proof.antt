@@ -5,7 +5,7 @@ use lib.IntN.{ℤ, nat_abs}
 use Rattle.definition.specs.Text.{number}
 use Rattle.literals.proofs.Laws.{at_arg, answer, answered}
 use Rattle.dimacs.specs.declared.Item.TheVariants as Item
-use Rattle.dimacs.proofs.Gathering.{item-none, item-large, item-zero, item-high, item-literal}
+use Rattle.dimacs.proofs.Gathering.{item_none, item_large, item_zero, item_high, item_literal}
 use borrow.Author.Rules.{rules}
 use Rattle.dimacs.proofs.number_item.Statement.{statement}
 use Rattle.dimacs.proofs.number_item.Tie as tie
@@ -31,7 +31,7 @@ returns c =
     let back = back.before.before in let read_number = back.read_number in
     let start = back.before.before in
     let l = the-l.given.0.0 in
-    item-zero start.args.variables (number start.args.word.now) l
+    item_zero start.args.variables (number start.args.word.now) l
     (sym read_number.ensures ∙ the-l.given.1)
     (answered (λ (z : ℤ). eqb 0 (nat_abs z)) l (search rules) c.before.is_zero.ensures c.if1.true)
 
@@ -45,7 +45,7 @@ returns-2 c =
     let back = back.before.before in let read_number = back.read_number in
     let start = back.before.before in
     let l = the-l.given.0.0 in
-    item-high start.args.variables (number start.args.word.now) l
+    item_high start.args.variables (number start.args.word.now) l
     (sym read_number.ensures ∙ the-l.given.1)
     (answered (λ (z : ℤ). eqb 0 (nat_abs z)) l (search rules) is_zero.ensures c.before.before.if1.false)
     (omega (arith, answer nat_abs l (search rules) c.before.variable.ensures, c.if2.true))
@@ -53,13 +53,13 @@ returns-2 c =
 returns-3 : tie.Need-returns-3
 returns-3 c =
     let start = c.before.before.before.before in
-    item-none start.args.variables (number start.args.word.now)
+    item_none start.args.variables (number start.args.word.now)
     (sym c.before.before.read_number.ensures ∙ c.enum_told.given.1)
 
 returns-4 : tie.Need-returns-4
 returns-4 c =
     let start = c.before.before.before.before in
-    item-large start.args.variables (number start.args.word.now) start.requires
+    item_large start.args.variables (number start.args.word.now) start.requires
     (sym c.before.before.read_number.ensures ∙ c.enum-told2.given.1)
 
 returns-5 : tie.Need-returns-5
@@ -70,7 +70,7 @@ returns-5 c =
     let start = back.before.before in
     let l = the-l.given.0.0 in
     at_arg (λ (z : ℤ). Item.Literal z) l (search rules)
-    ∙ item-literal start.args.variables (number start.args.word.now) l
+    ∙ item_literal start.args.variables (number start.args.word.now) l
     (sym read_number.ensures ∙ the-l.given.1)
     (answered (λ (z : ℤ). eqb 0 (nat_abs z)) l (search rules) is_zero.ensures c.before.before.if1.false)
     (omega (arith, answer nat_abs l (search rules) c.before.variable.ensures, c.if2.false))

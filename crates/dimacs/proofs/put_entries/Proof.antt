@@ -2,7 +2,7 @@ use borrow.Author.Rules.{rules}
 use native.Mathlib.Omega.{arith}
 use Prim.Native.Nat.{◌-◌}
 use lib.ListN.{length}
-use Rattle.dimacs.proofs.FormulaText.{Entries, entries-start, entries-step, entries-end}
+use Rattle.dimacs.proofs.FormulaText.{Entries, entries_start, entries_step, entries_end}
 use Rattle.dimacs.proofs.put_entries.Statement.{statement}
 use Rattle.dimacs.proofs.put_entries.Tie as tie
 
@@ -15,7 +15,7 @@ decreases-loop buf₀ from store end₀ at₀ buf end at = length store - at
 loop-holds : tie.Need-loop-init invariant-loop decreases-loop
 loop-holds c =
     let start = c.before in
-    entries-start start.args.buf.now start.args.from start.args.store.now start.requires.0
+    entries_start start.args.buf.now start.args.from start.args.store.now start.requires.0
 
 put-entry-requires : tie.Need-put-entry-requires invariant-loop decreases-loop
 put-entry-requires c κs =
@@ -34,13 +34,13 @@ loop-again c =
     let back = c.before.before.before in let put-entry = back.put-entry in
     let back = back.before.before in let loop-test = back.loop-test in
     let loop = back.before.loop in
-    entries-step loop.invariant loop-test.true put-entry.ensures.0 put-entry.ensures.1 c.next-at.ensures
+    entries_step loop.invariant loop-test.true put-entry.ensures.0 put-entry.ensures.1 c.next-at.ensures
 
 same_length : tie.Need-same-length invariant-loop decreases-loop
 same_length c = c.before.loop.invariant.size
 
 returns : tie.Need-returns invariant-loop decreases-loop
-returns c = entries-end c.before.loop.invariant c.loop-test.false
+returns c = entries_end c.before.loop.invariant c.loop-test.false
 
 pub put-entries-spec : {M : Type 1} → statement M
 put-entries-spec =

@@ -3,8 +3,8 @@ use native.Mathlib.Omega.{arith}
 use Rattle.literals.specs.Literal.{negative}
 use Rattle.literals.proofs.Laws.{answered}
 use Rattle.store.specs.Store.{header_at}
-use Rattle.store.proofs.Laws.{formed-next}
-use Rattle.dimacs.proofs.FormulaText.{entry_length, entry-deleted, entry-written}
+use Rattle.store.proofs.Laws.{formed_next}
+use Rattle.dimacs.proofs.FormulaText.{entry_length, entry_deleted, entry_written}
 use Rattle.dimacs.proofs.put_entry.Statement.{statement}
 use Rattle.dimacs.proofs.put_entry.Tie as tie
 
@@ -20,15 +20,15 @@ is-negative-requires c κs = search rules
 returns : tie.Need-returns
 returns c =
     let start = c.before.before.before.before in
-    entry-deleted start.args.store.now start.args.at start.args.buf.now start.args.end
+    entry_deleted start.args.store.now start.args.at start.args.buf.now start.args.end
     (answered negative (header_at start.args.store.now start.args.at)
     (sfits_of c.before.before.is-negative-arg.given) c.before.is_negative.ensures c.if1.true)
 
 next-at-requires : tie.Need-next-at-requires
 next-at-requires c κs = search rules
 
-add-first : tie.Need-overflow-add-first
-add-first c = search rules
+add_first : tie.Need-overflow-add-first
+add_first c = search rules
 
 mul-put-clause : tie.Need-overflow-mul-put-clause
 mul-put-clause c = search rules
@@ -45,7 +45,7 @@ part-put-clause-end c =
     omega (
       arith,
       c.before.next-at.ensures,
-      (formed-next start.args.store.now start.args.at start.requires.0.0 start.requires.0.1).0,
+      (formed_next start.args.store.now start.args.at start.requires.0.0 start.requires.0.1).0,
     )
 
 put-clause-requires : tie.Need-put-clause-requires
@@ -55,9 +55,9 @@ put-clause-requires c κs =
     omega (
       arith,
       next-at.ensures,
-      (formed-next start.args.store.now start.args.at start.requires.0.0 start.requires.0.1).0,
+      (formed_next start.args.store.now start.args.at start.requires.0.0 start.requires.0.1).0,
       entry_length start.args.store.now start.args.at next-at.ensures
-          (formed-next start.args.store.now start.args.at start.requires.0.0 start.requires.0.1).0,
+          (formed_next start.args.store.now start.args.at start.requires.0.0 start.requires.0.1).0,
       start.requires.1,
     )
 
@@ -72,16 +72,16 @@ returns-2 c =
     let back = back.before in let is_negative = back.is_negative in
     let back = back.before in let is-negative-arg = back.is-negative-arg in
     let start = back.before.before in (
-      entry-written start.args.store.now start.args.at
+      entry_written start.args.store.now start.args.at
           (answered negative (header_at start.args.store.now start.args.at)
           (sfits_of is-negative-arg.given) is_negative.ensures if1.false) next-at.ensures
           put-clause.ensures.0,
       omega (
         arith,
         next-at.ensures,
-        (formed-next start.args.store.now start.args.at start.requires.0.0 start.requires.0.1).0,
+        (formed_next start.args.store.now start.args.at start.requires.0.0 start.requires.0.1).0,
         entry_length start.args.store.now start.args.at next-at.ensures
-            (formed-next start.args.store.now start.args.at start.requires.0.0 start.requires.0.1).0,
+            (formed_next start.args.store.now start.args.at start.requires.0.0 start.requires.0.1).0,
         put-clause.ensures.1,
       ),
     )
@@ -95,7 +95,7 @@ put-entry-spec =
     is-negative-requires
     returns
     next-at-requires
-    add-first
+    add_first
     mul-put-clause
     sub-put-clause
     part-put-clause-start

@@ -1,5 +1,5 @@
 use native.Mathlib.Omega.{arith}
-use Rattle.dimacs.proofs.FormulaText.{header-put}
+use Rattle.dimacs.proofs.FormulaText.{header_put}
 use borrow.Author.Rules.{rules}
 use Rattle.dimacs.proofs.put_header.Statement.{statement}
 use Rattle.dimacs.proofs.put_header.Tie as tie
@@ -33,7 +33,7 @@ returns c =
     let back = back.before.before.before.before in let put-number = back.put-number in
     let back = back.before.before.before.before in let put-text = back.put-text in
     let start = back.before.before.before.before in (
-      header-put start.args.h start.args.m put-text.ensures put-number.ensures.0 put_byte.ensures
+      header_put start.args.h start.args.m put-text.ensures put-number.ensures.0 put_byte.ensures
           put-number2.ensures.0 put-byte2.ensures,
       omega (
         arith,

@@ -5,7 +5,7 @@ use Rattle.dimacs.proofs.read_back_limits.Statement.{statement}
 use Rattle.dimacs.proofs.read_back_limits.Tie as tie
 
 returns : tie.Need-returns
-unfolding Reading.read-back-limits
+unfolding Reading.read_back_limits
 returns c = (refl, record { variables = omega arith; clauses = omega arith; literals = omega arith })
 
 pub read-back-limits-spec : {M : Type 1} → statement M

@@ -3,7 +3,7 @@ use lib.ListN.{length-take}
 use lib.Seq.{length-take-le}
 use mathlib.Core.Path.{sym}
 use native.Mathlib.Omega.{arith}
-use Rattle.dimacs.proofs.Reading.{kept-fault, kept-nothing, kept-few, kept_full, kept-stored}
+use Rattle.dimacs.proofs.Reading.{kept_fault, kept_nothing, kept_few, kept_full, kept_stored}
 use borrow.Author.Rules.{rules}
 use Rattle.dimacs.proofs.read_clause.Statement.{statement}
 use Rattle.dimacs.proofs.read_clause.Tie as tie
@@ -41,7 +41,7 @@ add-filled c =
       fits = omega (
         arith,
         start.requires.0,
-        kept-few start.args.text.now start.args.variables start.args.stamp _ _ gather-clause.result
+        kept_few start.args.text.now start.args.variables start.args.stamp _ _ gather-clause.result
             gather-clause.ensures start.args.room c.before.before.next2.given.1,
       );
     }
@@ -56,7 +56,7 @@ slice-reshare-prefix-copy-at c =
       gather-clause.auto.1.1.1.1.0,
       start.requires.0,
       start.requires.1.1.1,
-      kept-few start.args.text.now start.args.variables start.args.stamp _ _ gather-clause.result
+      kept_few start.args.text.now start.args.variables start.args.stamp _ _ gather-clause.result
           gather-clause.ensures start.args.room next2.given.1,
     )
 
@@ -65,7 +65,7 @@ slice-aggregate-copy-at c =
     let back = c.before.before.before.before in let next2 = back.next2 in
     let back = back.before.before.before.before.before in let gather-clause = back.gather-clause in
     let start = back.before.before.before.before.before in
-    let few = kept-few start.args.text.now start.args.variables start.args.stamp _ _
+    let few = kept_few start.args.text.now start.args.variables start.args.stamp _ _
     gather-clause.result gather-clause.ensures start.args.room next2.given.1 in
     sym
     (length-take-le (next2.given.0.1.0 + 1) gather-clause.new.1.1.1.1.0
@@ -79,7 +79,7 @@ copy-at-requires c κs =
     omega (
       arith,
       start.requires.0,
-      kept-few start.args.text.now start.args.variables start.args.stamp _ _ gather-clause.result
+      kept_few start.args.text.now start.args.variables start.args.stamp _ _ gather-clause.result
           gather-clause.ensures start.args.room next2.given.1,
       length-take (next2.given.0.1.0 + 1) gather-clause.new.1.1.1.1.0,
     )
@@ -94,7 +94,7 @@ returns-2 : tie.Need-returns-2
 returns-2 c =
     let back = c.before.before.before.before.before.before in let gather-clause = back.gather-clause in
     let start = back.before.before.before.before.before in
-    kept-fault start.args.text.now start.args.variables start.args.stamp _ _ gather-clause.result
+    kept_fault start.args.text.now start.args.variables start.args.stamp _ _ gather-clause.result
     gather-clause.ensures start.args.room c.before.n.given.1
 
 same-length-5 : tie.Need-same-length-5
@@ -107,7 +107,7 @@ returns-3 : tie.Need-returns-3
 returns-3 c =
     let back = c.before.before.before.before.before.before in let gather-clause = back.gather-clause in
     let start = back.before.before.before.before.before in
-    kept-nothing start.args.text.now start.args.variables start.args.stamp _ _ gather-clause.result
+    kept_nothing start.args.text.now start.args.variables start.args.stamp _ _ gather-clause.result
     gather-clause.ensures start.args.room c.before.next.given.1 start.args.store.now
 
 same-length-7 : tie.Need-same-length-7
@@ -125,7 +125,7 @@ returns-4 c =
     let back = back.before.before in let next2 = back.next2 in
     let back = back.before.before.before.before.before in let gather-clause = back.gather-clause in
     let start = back.before.before.before.before.before in
-    kept-stored start.args.text.now start.args.variables start.args.stamp _ _ gather-clause.result
+    kept_stored start.args.text.now start.args.variables start.args.stamp _ _ gather-clause.result
     gather-clause.ensures start.args.room next2.given.1 (omega (arith, if1.false))
     c.before.copy_at.ensures
 

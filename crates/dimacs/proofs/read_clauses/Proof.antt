@@ -9,17 +9,17 @@ use native.Mathlib.Omega.{arith}
 use lib.ListN.{length, length-replicate}
 use borrow.Author.Rules.{rules}
 use Rattle.definition.specs.Text.{blank}
-use Rattle.text.proofs.Words.{word-answer}
-use Rattle.theory_base.proofs.Slices.{rest-is}
-use Rattle.tables.specs.Sizes.{log-size}
+use Rattle.text.proofs.Words.{word_answer}
+use Rattle.theory_base.proofs.Slices.{rest_is}
+use Rattle.tables.specs.Sizes.{log_size}
 use Rattle.dimacs.specs.Limits.{limits_of}
-use Rattle.dimacs.proofs.Reading.{Reading, reading-start, reading-filled, reading-fresh, reading-end, reading-more, reading-fault, reading-on}
+use Rattle.dimacs.proofs.Reading.{Reading, reading_start, reading_filled, reading_fresh, reading_end, reading_more, reading_fault, reading_on}
 use Rattle.dimacs.proofs.read_clauses.Statement.{statement}
 use Rattle.dimacs.proofs.read_clauses.Tie as tie
 
 abbrev invariant-loop : tie.invariant-loop
 invariant-loop text variables clauses most store₀ seen₀ held₀ at₀ done₀ total₀ end₀ store seen held at done total end =
-    Reading (limits_of most) variables clauses text store₀ seen store at done total end × (length seen ≡ log-size) × (length held ≡ 70_001)
+    Reading (limits_of most) variables clauses text store₀ seen store at done total end × (length seen ≡ log_size) × (length held ≡ 70_001)
 
 abbrev decreases-loop : tie.decreases-loop
 decreases-loop text variables clauses most store₀ seen₀ held₀ at₀ done₀ total₀ end₀ store seen held at done total end =
@@ -28,9 +28,9 @@ decreases-loop text variables clauses most store₀ seen₀ held₀ at₀ done�
 loop-holds : tie.Need-loop-init invariant-loop decreases-loop
 loop-holds c =
     let start = c.before in (
-      reading-start (limits_of start.args.most) start.args.variables start.args.clauses
-          start.args.text.now start.args.store.now log-size,
-      length-replicate {A = ℕ} log-size 0,
+      reading_start (limits_of start.args.most) start.args.variables start.args.clauses
+          start.args.text.now start.args.store.now log_size,
+      length-replicate {A = ℕ} log_size 0,
       length-replicate {A = ℤ} 70_001 (pos 0),
     )
 
@@ -94,7 +94,7 @@ read-clause-requires : tie.Need-read-clause-requires invariant-loop decreases-lo
 read-clause-requires c κs =
     let back = c.before.before.before.before.before.before.before in let loop = back.loop in
     let start = back.before.before in
-    (start.requires.0, (omega (arith, loop.invariant.1), (reading-fresh loop.invariant.0, omega (arith, loop.invariant.2))))
+    (start.requires.0, (omega (arith, loop.invariant.1), (reading_fresh loop.invariant.0, omega (arith, loop.invariant.2))))
 
 enum-known-n : tie.Need-enum-known-n invariant-loop decreases-loop
 enum-known-n c = search rules
@@ -115,7 +115,7 @@ returns c =
     let back = back.before.before in let loop-test = back.loop-test in
     let back = back.before in let loop = back.loop in
     let start = back.before.before in
-    reading-fault loop.invariant.0 loop-test.true (rest-is start.args.text.now loop.at) lower.ensures _ _
+    reading_fault loop.invariant.0 loop-test.true (rest_is start.args.text.now loop.at) lower.ensures _ _
     _ read-clause.ensures c.before.n.given.1
 
 enum-known-next : tie.Need-enum-known-next invariant-loop decreases-loop
@@ -128,7 +128,7 @@ loop-again c =
     let back = back.before.before in let loop-test = back.loop-test in
     let back = back.before in let loop = back.loop in
     let start = back.before.before in (
-      reading-on loop.invariant.0 loop-test.true (rest-is start.args.text.now loop.at) lower.ensures _ _ _
+      reading_on loop.invariant.0 loop-test.true (rest_is start.args.text.now loop.at) lower.ensures _ _ _
           read-clause.ensures c.before.next.given.1,
       read-clause.auto.1.0 ∙ loop.invariant.1,
       read-clause.auto.1.1.1.1.1.0 ∙ loop.invariant.2,
@@ -152,7 +152,7 @@ add-end : tie.Need-overflow-add-end invariant-loop decreases-loop
 add-end c =
     let start = c.before.before.before.before.before.before.before.before.before.before.before.before.before.before.before.before in
     record {
-      fits = omega (arith, start.requires.1, reading-filled (loop-again c).0, (loop-again c).0.few, (loop-again c).0.low);
+      fits = omega (arith, start.requires.1, reading_filled (loop-again c).0, (loop-again c).0.few, (loop-again c).0.low);
     }
 
 loop-less : tie.Need-loop-smaller invariant-loop decreases-loop
@@ -184,8 +184,8 @@ returns-2 : tie.Need-returns-2 invariant-loop decreases-loop
 returns-2 c =
     let back = c.before.before.before.before in let loop = back.loop in
     let start = back.before.before in
-    reading-more loop.invariant.0 (omega arith)
-    (word-answer blank start.args.text.now loop.at
+    reading_more loop.invariant.0 (omega arith)
+    (word_answer blank start.args.text.now loop.at
     (sym c.enum_told.given.1 ∙ c.before.before.next_word.ensures)).words
 
 same-length-3 : tie.Need-same-length-3 invariant-loop decreases-loop
@@ -197,8 +197,8 @@ returns-3 : tie.Need-returns-3 invariant-loop decreases-loop
 returns-3 c =
     let back = c.before.before.before.before in let loop = back.loop in
     let start = back.before.before in
-    reading-end loop.invariant.0 (omega arith)
-    (word-answer blank start.args.text.now loop.at
+    reading_end loop.invariant.0 (omega arith)
+    (word_answer blank start.args.text.now loop.at
     (sym c.enum-told2.given.1 ∙ c.before.before.next_word.ensures))
 
 pub read-clauses-spec : {M : Type 1} → statement M

@@ -4,9 +4,9 @@ use Prim.Native.Nat.{◌-◌}
 use native.Mathlib.Omega.{arith}
 use lib.ListN.{length}
 use Rattle.definition.specs.Text.{blank}
-use Rattle.text.proofs.Words.{word-answer}
+use Rattle.text.proofs.Words.{word_answer}
 use borrow.Author.Rules.{rules}
-use Rattle.dimacs.proofs.Gathering.{Skipping, skipping-end, skipping-fault, skipping-done, skipping-on}
+use Rattle.dimacs.proofs.Gathering.{Skipping, skipping_end, skipping_fault, skipping_done, skipping_on}
 use Rattle.dimacs.proofs.skip_clause.Statement.{statement}
 use Rattle.dimacs.proofs.skip_clause.Tie as tie
 
@@ -28,7 +28,7 @@ enum_told c = search rules
 returns : tie.Need-returns invariant-loop decreases-loop
 returns c =
     let loop = c.before.before.before.loop in
-    skipping-end loop.invariant (sym c.enum_told.given.1 ∙ c.before.before.next_word.ensures)
+    skipping_end loop.invariant (sym c.enum_told.given.1 ∙ c.before.before.next_word.ensures)
 
 enum-known-start : tie.Need-enum-known-start invariant-loop decreases-loop
 enum-known-start c = search rules
@@ -40,7 +40,7 @@ sub-number-item c =
     let entry = back.before.before in
     omega (
       arith,
-      (word-answer blank entry.args.text.now loop.at
+      (word_answer blank entry.args.text.now loop.at
           (sym c.before.start.given.1 ∙ next_word.ensures)).some,
     )
 
@@ -51,7 +51,7 @@ part-number-item-start c =
     let entry = back.before.before in
     omega (
       arith,
-      (word-answer blank entry.args.text.now loop.at
+      (word_answer blank entry.args.text.now loop.at
           (sym c.before.start.given.1 ∙ next_word.ensures)).some,
     )
 
@@ -60,7 +60,7 @@ part-number-item-end c =
     let back = c.before.before.before in let next_word = back.next_word in
     let back = back.before in let loop = back.loop in
     let entry = back.before.before in
-    let f = word-answer blank entry.args.text.now loop.at
+    let f = word_answer blank entry.args.text.now loop.at
     (sym c.before.start.given.1 ∙ next_word.ensures) in
     omega (arith, f.some, f.within)
 
@@ -72,11 +72,11 @@ enum-known-f c = search rules
 
 returns-2 : tie.Need-returns-2 invariant-loop decreases-loop
 returns-2 c =
-    let back = c.before.before.before in let number-item = back.number-item in
+    let back = c.before.before.before in let number_item = back.number_item in
     let back = back.before.before.before in let start = back.start in
     let back = back.before.before in let next_word = back.next_word in
     let loop = back.before.loop in
-    skipping-fault loop.invariant (sym start.given.1 ∙ next_word.ensures) number-item.ensures
+    skipping_fault loop.invariant (sym start.given.1 ∙ next_word.ensures) number_item.ensures
     c.before.f.given.1
 
 enum-told-2 : tie.Need-enum-told-2 invariant-loop decreases-loop
@@ -87,7 +87,7 @@ returns-3 c =
     let back = c.before.before.before.before.before in let start = back.start in
     let back = back.before.before in let next_word = back.next_word in
     let loop = back.before.loop in
-    skipping-done loop.invariant (sym start.given.1 ∙ next_word.ensures) c.before.before.number-item.ensures
+    skipping_done loop.invariant (sym start.given.1 ∙ next_word.ensures) c.before.before.number_item.ensures
     c.enum-told2.given.1
 
 enum-told-3 : tie.Need-enum-told-3 invariant-loop decreases-loop
@@ -99,7 +99,7 @@ loop-less c =
     let back = back.before.before in let next_word = back.next_word in
     let back = back.before in let loop = back.loop in
     let entry = back.before.before in
-    let f = word-answer blank entry.args.text.now loop.at (sym start.given.1 ∙ next_word.ensures) in
+    let f = word_answer blank entry.args.text.now loop.at (sym start.given.1 ∙ next_word.ensures) in
     omega (arith, f.after, f.some, f.within)
 
 loop-again : tie.Need-loop-preserved invariant-loop decreases-loop
@@ -107,7 +107,7 @@ loop-again c =
     let back = c.before.before.before.before.before in let start = back.start in
     let back = back.before.before in let next_word = back.next_word in
     let loop = back.before.loop in
-    skipping-on loop.invariant (sym start.given.1 ∙ next_word.ensures) c.before.before.number-item.ensures
+    skipping_on loop.invariant (sym start.given.1 ∙ next_word.ensures) c.before.before.number_item.ensures
     c.enum-told3.given.1
 
 pub skip-clause-spec : {M : Type 1} → statement M

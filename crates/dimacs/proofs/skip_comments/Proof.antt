@@ -4,13 +4,13 @@ use mathlib.Core.Path.{◌≡◌, refl, sym, ap, ◌∙◌}
 use mathlib.Core.Bool.{Bool, false}
 use native.Mathlib.Omega.{arith}
 use lib.ListN.{length, drop}
-use Rattle.definition.specs.Text.{past-comments}
-use Rattle.theory_text.proofs.HeaderLine.{comment-goes-on, comment-begins, comments-end, comments-all}
+use Rattle.definition.specs.Text.{past_comments}
+use Rattle.theory_text.proofs.HeaderLine.{comment_goes_on, comment_begins, comments_end, comments_all}
 use Rattle.dimacs.proofs.skip_comments.Statement.{statement}
 use Rattle.dimacs.proofs.skip_comments.Tie as tie
 
 abbrev invariant-loop : tie.invariant-loop
-invariant-loop text commented₀ at₀ commented at = (at ≤ length text) × (past-comments commented (drop at text) ≡ past-comments false text)
+invariant-loop text commented₀ at₀ commented at = (at ≤ length text) × (past_comments commented (drop at text) ≡ past_comments false text)
 
 abbrev decreases-loop : tie.decreases-loop
 decreases-loop text commented₀ at₀ commented at = length text - at
@@ -32,8 +32,8 @@ loop-again c =
     let back = c.before.before.before in let loop = back.loop in
     let start = back.before in (
       omega arith,
-      comment-goes-on start.args.text.now loop.at c.before.before.loop-test.true
-          ∙ ap (λ (x : Bool). past-comments x (drop loop.at start.args.text.now)) (sym c.if1.true)
+      comment_goes_on start.args.text.now loop.at c.before.before.loop-test.true
+          ∙ ap (λ (x : Bool). past_comments x (drop loop.at start.args.text.now)) (sym c.if1.true)
           ∙ loop.invariant.1,
     )
 
@@ -43,8 +43,8 @@ returns c =
     let back = back.before in let loop = back.loop in
     let start = back.before in (
       omega arith,
-      comments-end start.args.text.now loop.at loop-test.true c.if2.true
-          ∙ ap (λ (x : Bool). past-comments x (drop loop.at start.args.text.now)) (sym c.before.if1.false)
+      comments_end start.args.text.now loop.at loop-test.true c.if2.true
+          ∙ ap (λ (x : Bool). past_comments x (drop loop.at start.args.text.now)) (sym c.before.if1.false)
           ∙ loop.invariant.1,
     )
 
@@ -60,8 +60,8 @@ loop-again-2 c =
     let back = back.before in let loop = back.loop in
     let start = back.before in (
       omega arith,
-      comment-begins start.args.text.now loop.at loop-test.true c.if2.false
-          ∙ ap (λ (x : Bool). past-comments x (drop loop.at start.args.text.now)) (sym c.before.if1.false)
+      comment_begins start.args.text.now loop.at loop-test.true c.if2.false
+          ∙ ap (λ (x : Bool). past_comments x (drop loop.at start.args.text.now)) (sym c.before.if1.false)
           ∙ loop.invariant.1,
     )
 
@@ -69,7 +69,7 @@ returns-2 : tie.Need-returns-2 invariant-loop decreases-loop
 returns-2 c =
     let loop = c.before.loop in (
       omega arith,
-      comments-all c.before.before.args.text.now loop.commented loop.at c.loop-test.false ∙ loop.invariant.1,
+      comments_all c.before.before.args.text.now loop.commented loop.at c.loop-test.false ∙ loop.invariant.1,
     )
 
 pub skip-comments-spec : {M : Type 1} → statement M

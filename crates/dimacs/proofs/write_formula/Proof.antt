@@ -1,5 +1,5 @@
 use Rattle.store.specs.Store.{stored}
-use Rattle.dimacs.proofs.FormulaText.{formula-put}
+use Rattle.dimacs.proofs.FormulaText.{formula_put}
 use borrow.Author.Rules.{rules}
 use Rattle.dimacs.proofs.write_formula.Statement.{statement}
 use Rattle.dimacs.proofs.write_formula.Tie as tie
@@ -17,7 +17,7 @@ returns : tie.Need-returns
 returns c =
     let back = c.before.before.before.before.before.before in let put-header = back.put-header in
     let start = back.before.before.before in
-    formula-put start.args.h (stored start.args.store.now) start.requires.1.0 put-header.ensures.0
+    formula_put start.args.h (stored start.args.store.now) start.requires.1.0 put-header.ensures.0
     c.before.before.put_entries.ensures
 
 pub write-formula-spec : {M : Type 1} → statement M

@@ -3,7 +3,7 @@ use lib.Dec.{eqb}
 use lib.IntN.{ℤ, nat_abs}
 use Rattle.literals.proofs.Laws.{at_arg, answered}
 use Rattle.drat.specs.declared.LineWord.TheVariants as Word
-use Rattle.drat.proofs.Words.{zero-fault, literal-found, large-fault, no-number-fault}
+use Rattle.drat.proofs.Words.{zero_fault, literal_found, large_fault, no_number_fault}
 use borrow.Author.Rules.{rules}
 use Rattle.drat.proofs.literal_word.Statement.{statement}
 use Rattle.drat.proofs.literal_word.Tie as tie
@@ -22,7 +22,7 @@ returns c =
     let back = c.before.before.before in let l = back.l in
     let back = back.before.before in let read_number = back.read_number in
     let start = back.before.before in
-    zero-fault start.args.next (sym read_number.ensures ∙ l.given.1)
+    zero_fault start.args.next (sym read_number.ensures ∙ l.given.1)
     (answered (λ (z : ℤ). eqb 0 (nat_abs z)) l.given.0.0 (search rules) c.before.is_zero.ensures
     c.if1.true)
 
@@ -38,18 +38,18 @@ returns-2 c =
     let back = back.before.before in let read_number = back.read_number in
     let start = back.before.before in
     at_arg (Word.Literal start.args.next) l.given.0.0 (search rules)
-    ∙ literal-found start.args.next (sym read_number.ensures ∙ l.given.1)
+    ∙ literal_found start.args.next (sym read_number.ensures ∙ l.given.1)
     (answered (λ (z : ℤ). eqb 0 (nat_abs z)) l.given.0.0 (search rules) c.before.is_zero.ensures c.if1.false)
 
 returns-3 : tie.Need-returns-3
 returns-3 c =
     let start = c.before.before.before.before in
-    large-fault start.args.next (sym c.before.before.read_number.ensures ∙ c.enum_told.given.1)
+    large_fault start.args.next (sym c.before.before.read_number.ensures ∙ c.enum_told.given.1)
 
 returns-4 : tie.Need-returns-4
 returns-4 c =
     let start = c.before.before.before.before in
-    no-number-fault start.args.next (sym c.before.before.read_number.ensures ∙ c.enum-told2.given.1)
+    no_number_fault start.args.next (sym c.before.before.read_number.ensures ∙ c.enum-told2.given.1)
 
 pub literal-word-spec : {M : Type 1} → statement M
 literal-word-spec =

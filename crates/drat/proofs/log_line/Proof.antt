@@ -1,5 +1,5 @@
 use native.Mathlib.Omega.{arith}
-use Rattle.drat.proofs.Writing.{rest_put, past-put}
+use Rattle.drat.proofs.Writing.{rest_put, past_put}
 use borrow.Author.Rules.{rules}
 use Rattle.drat.proofs.log_line.Statement.{statement}
 use Rattle.drat.proofs.log_line.Tie as tie
@@ -52,7 +52,7 @@ returns-2 : tie.Need-returns-2
 returns-2 c =
     let back = c.before.before in let write-line2 = back.write-line2 in
     let start = back.before.before.before.before in (
-      past-put {l = start.args.log.now} start.args.at (search rules) write-line2.ensures.0,
+      past_put {l = start.args.log.now} start.args.at (search rules) write-line2.ensures.0,
       omega (arith, write-line2.ensures.1),
     )
 

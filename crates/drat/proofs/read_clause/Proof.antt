@@ -6,8 +6,8 @@ use Prim.Native.Nat.{◌+◌, ◌-◌}
 use lib.IntN.{ℤ}
 use lib.ListN.{length, set, length-set}
 use Rattle.literals.proofs.Laws.{answer}
-use Rattle.drat.proofs.Rest.{word-literal, word-argument, word-last, word-fault}
-use Rattle.drat.proofs.Clause.{Reading, reading-start, reading_step, reading-repeated, reading-opposed, reading-last, reading-fault, store_length}
+use Rattle.drat.proofs.Rest.{word_literal, word_argument, word_last, word_fault}
+use Rattle.drat.proofs.Clause.{Reading, reading_start, reading_step, reading_repeated, reading_opposed, reading_last, reading_fault, store_length}
 use Rattle.drat.proofs.read_clause.Statement.{statement}
 use Rattle.drat.proofs.read_clause.Tie as tie
 
@@ -21,7 +21,7 @@ loop-holds : tie.Need-loop-init invariant-loop decreases-loop
 loop-holds c =
     let start = c.before.before in (
       refl,
-      reading-start start.args.text.now start.args.from start.args.stamp start.args.seen.now
+      reading_start start.args.text.now start.args.from start.args.stamp start.args.seen.now
           start.args.store.now start.args.to start.requires.1.0,
     )
 
@@ -37,7 +37,7 @@ mark-requires c κs =
     let back = back.before.before in let read_word = back.read_word in
     let back = back.before in let loop = back.loop in
     let start = back.before.before.before in
-    let m = word-argument start.args.text.now loop.at (sym read_word.ensures ∙ next.given.1) in
+    let m = word_argument start.args.text.now loop.at (sym read_word.ensures ∙ next.given.1) in
     (m.small, omega (arith, start.requires.0, loop.invariant.0))
 
 enum_told : tie.Need-enum-told invariant-loop decreases-loop
@@ -49,7 +49,7 @@ add-put c =
     let back = back.before.before in let read_word = back.read_word in
     let back = back.before in let loop = back.loop in
     let start = back.before.before.before in
-    let m = word-literal start.args.text.now loop.at (sym read_word.ensures ∙ next.given.1) in
+    let m = word_literal start.args.text.now loop.at (sym read_word.ensures ∙ next.given.1) in
     record { fits = omega (arith, loop.invariant.1.room, m.after, m.within, start.requires.1.1) }
 
 put-requires : tie.Need-put-requires invariant-loop decreases-loop
@@ -61,7 +61,7 @@ add-count c =
     let back = back.before.before in let read_word = back.read_word in
     let back = back.before in let loop = back.loop in
     let start = back.before.before.before in
-    let m = word-literal start.args.text.now loop.at (sym read_word.ensures ∙ next.given.1) in
+    let m = word_literal start.args.text.now loop.at (sym read_word.ensures ∙ next.given.1) in
     record { fits = omega (arith, loop.invariant.1.room, m.after, m.within) }
 
 variable-requires : tie.Need-variable-requires invariant-loop decreases-loop
@@ -76,7 +76,7 @@ loop-less c =
     let back = back.before.before in let read_word = back.read_word in
     let back = back.before in let loop = back.loop in
     let start = back.before.before.before in
-    let m = word-literal start.args.text.now loop.at (sym read_word.ensures ∙ next.given.1) in
+    let m = word_literal start.args.text.now loop.at (sym read_word.ensures ∙ next.given.1) in
     omega (arith, m.after, m.within)
 
 loop-again : tie.Need-loop-preserved invariant-loop decreases-loop
@@ -88,7 +88,7 @@ loop-again c =
     let back = back.before.before in let read_word = back.read_word in
     let back = back.before in let loop = back.loop in
     let start = back.before.before.before in
-    let m = word-argument start.args.text.now loop.at (sym read_word.ensures ∙ next.given.1) in (
+    let m = word_argument start.args.text.now loop.at (sym read_word.ensures ∙ next.given.1) in (
       mark.auto.0 ∙ loop.invariant.0,
       reading_step loop.invariant.1 m _ _ (mark.ensures loop.invariant.1.c loop.invariant.1.marks)
           the-enum-told.given.1 c.before.variable.ensures c.higher-variable.ensures put.ensures,
@@ -112,8 +112,8 @@ returns c =
     let back = back.before.before in let read_word = back.read_word in
     let back = back.before in let loop = back.loop in
     let start = back.before.before.before in
-    let m = word-argument start.args.text.now loop.at (sym read_word.ensures ∙ next.given.1) in
-    reading-repeated loop.invariant.1 m _ _ (mark.ensures loop.invariant.1.c loop.invariant.1.marks)
+    let m = word_argument start.args.text.now loop.at (sym read_word.ensures ∙ next.given.1) in
+    reading_repeated loop.invariant.1 m _ _ (mark.ensures loop.invariant.1.c loop.invariant.1.marks)
     c.enum-told2.given.1
 
 enum-told-3 : tie.Need-enum-told-3 invariant-loop decreases-loop
@@ -134,8 +134,8 @@ returns-2 c =
     let back = back.before.before in let read_word = back.read_word in
     let back = back.before in let loop = back.loop in
     let start = back.before.before.before in
-    let m = word-argument start.args.text.now loop.at (sym read_word.ensures ∙ next.given.1) in
-    reading-opposed loop.invariant.1 m _ _ (mark.ensures loop.invariant.1.c loop.invariant.1.marks)
+    let m = word_argument start.args.text.now loop.at (sym read_word.ensures ∙ next.given.1) in
+    reading_opposed loop.invariant.1 m _ _ (mark.ensures loop.invariant.1.c loop.invariant.1.marks)
     c.enum-told3.given.1
 
 enum-known-next-2 : tie.Need-enum-known-next-2 invariant-loop decreases-loop
@@ -146,7 +146,7 @@ add-put-2 c =
     let back = c.before.before.before.before in let read_word = back.read_word in
     let back = back.before in let loop = back.loop in
     let start = back.before.before.before in
-    let m = word-last start.args.text.now loop.at
+    let m = word_last start.args.text.now loop.at
     (sym read_word.ensures ∙ c.before.before.next2.given.1) in
     record { fits = omega (arith, loop.invariant.1.room, m.after, m.within, start.requires.1.1) }
 
@@ -171,7 +171,7 @@ returns-3 c =
     let back = back.before.before in let read_word = back.read_word in
     let back = back.before in let loop = back.loop in
     let start = back.before.before.before in (
-      reading-last loop.invariant.1 (word-last _ _ (sym read_word.ensures ∙ next2.given.1))
+      reading_last loop.invariant.1 (word_last _ _ (sym read_word.ensures ∙ next2.given.1))
           (answer (λ (z : ℤ). set loop.store (start.args.to + loop.count) z) header.result
           (sfits_of header.type-inv) c.before.put2.ensures
           ∙ ap (λ (z : ℤ). set loop.store (start.args.to + loop.count) z) header.ensures),
@@ -192,8 +192,8 @@ same-length-8 c =
 returns-4 : tie.Need-returns-4 invariant-loop decreases-loop
 returns-4 c =
     let loop = c.before.before.before.loop in (
-      reading-fault loop.invariant.1
-          (word-fault _ _ (sym c.before.before.read_word.ensures ∙ c.enum-told4.given.1)),
+      reading_fault loop.invariant.1
+          (word_fault _ _ (sym c.before.before.read_word.ensures ∙ c.enum-told4.given.1)),
       loop.invariant.1.marks.below,
     )
 

@@ -2,7 +2,7 @@ use native.Mathlib.Omega.{arith}
 use borrow.Author.Rules.{rules, sfits_of}
 use lib.ListN.{set}
 use Rattle.literals.proofs.Laws.{answer}
-use Rattle.drat.proofs.Log.{line-stored, line-refused-by-clause}
+use Rattle.drat.proofs.Log.{line_stored, line_refused_by_clause}
 use borrow.Author.Rules.{rules}
 use Rattle.drat.proofs.read_line.Statement.{statement}
 use Rattle.drat.proofs.read_line.Tie as tie
@@ -43,17 +43,17 @@ same-length-2 c = search rules
 
 returns : tie.Need-returns
 returns c =
-    let back = c.before.before in let line-header = back.line-header in
+    let back = c.before.before in let line_header = back.line_header in
     let back = back.before.before.before in let next = back.next in
     let back = back.before.before.before.before.before in let read-clause = back.read-clause in
     let back = back.before.before.before in let clause-start = back.clause-start in
     let back = back.before in let starts-deletion = back.starts-deletion in
     let start = back.before.before.before in (
-      line-stored start.args.text.now _ starts-deletion.ensures _ clause-start.ensures read-clause.result
+      line_stored start.args.text.now _ starts-deletion.ensures _ clause-start.ensures read-clause.result
           start.args.store.now _ start.args.to read-clause.ensures.0 next.given.1 _
-          line-header.result line-header.ensures
-          (answer (set read-clause.new.1.1.1.1.0 start.args.to) line-header.result
-          (sfits_of line-header.type-inv) c.before.put.ensures),
+          line_header.result line_header.ensures
+          (answer (set read-clause.new.1.1.1.1.0 start.args.to) line_header.result
+          (sfits_of line_header.type-inv) c.before.put.ensures),
       read-clause.ensures.1,
     )
 
@@ -69,7 +69,7 @@ returns-2 c =
     let back = back.before.before.before in let clause-start = back.clause-start in
     let back = back.before in let starts-deletion = back.starts-deletion in
     let start = back.before.before.before in (
-      line-refused-by-clause start.args.text.now _ starts-deletion.ensures _ clause-start.ensures
+      line_refused_by_clause start.args.text.now _ starts-deletion.ensures _ clause-start.ensures
           read-clause.result start.args.store.now _ start.args.to read-clause.ensures.0
           c.enum_told.given.1,
       read-clause.ensures.1,

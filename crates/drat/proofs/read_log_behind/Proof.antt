@@ -1,4 +1,4 @@
-use Rattle.drat.proofs.Log.{log-behind}
+use Rattle.drat.proofs.Log.{log_behind}
 use borrow.Author.Rules.{rules}
 use Rattle.drat.proofs.read_log_behind.Statement.{statement}
 use Rattle.drat.proofs.read_log_behind.Tie as tie
@@ -25,7 +25,7 @@ same_length : tie.Need-same-length
 same_length c = search rules
 
 returns : tie.Need-returns
-returns c = log-behind _ c.before.read_log.result c.before.before.before.before.before.args.store.now _ c.before.before.before.before.before.args.to _ c.before.before.before.lower.ensures c.before.read_log.ensures
+returns c = log_behind _ c.before.read_log.result c.before.before.before.before.before.args.store.now _ c.before.before.before.before.before.args.to _ c.before.before.before.lower.ensures c.before.read_log.ensures
 
 pub read-log-behind-spec : {M : Type 1} → statement M
 read-log-behind-spec =

@@ -1,5 +1,5 @@
 use mathlib.Core.Path.{sym, ◌∙◌}
-use Rattle.drat.proofs.Words.{no_end, at-blank, at-newline}
+use Rattle.drat.proofs.Words.{no_end, at_blank, at_newline}
 use borrow.Author.Rules.{rules}
 use Rattle.drat.proofs.read_word.Statement.{statement}
 use Rattle.drat.proofs.read_word.Tie as tie
@@ -35,7 +35,7 @@ returns-2 c =
     let back = c.before.before.before.before.before in let word-end = back.word-end in
     let start = back.before.before in
     c.literal-word.ensures
-    ∙ at-blank start.args.text.now start.args.at _ word-end.ensures (search rules) c.before.if2.true
+    ∙ at_blank start.args.text.now start.args.at _ word-end.ensures (search rules) c.before.if2.true
 
 is-zero-word-requires : tie.Need-is-zero-word-requires
 is-zero-word-requires c κs = search rules
@@ -47,14 +47,14 @@ returns-3 : tie.Need-returns-3
 returns-3 c =
     let back = c.before.before.before.before.before.before in let word-end = back.word-end in
     let start = back.before.before in
-    at-newline start.args.text.now start.args.at _ word-end.ensures (search rules)
+    at_newline start.args.text.now start.args.at _ word-end.ensures (search rules)
     c.before.before.if2.false (sym c.if3.true ∙ c.before.is-zero-word.ensures)
 
 returns-4 : tie.Need-returns-4
 returns-4 c =
     let back = c.before.before.before.before.before.before in let word-end = back.word-end in
     let start = back.before.before in
-    at-newline start.args.text.now start.args.at _ word-end.ensures (search rules)
+    at_newline start.args.text.now start.args.at _ word-end.ensures (search rules)
     c.before.before.if2.false (sym c.if3.false ∙ c.before.is-zero-word.ensures)
 
 pub read-word-spec : {M : Type 1} → statement M

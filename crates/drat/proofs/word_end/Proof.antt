@@ -4,9 +4,9 @@ use mathlib.Core.Bool.{false}
 use Prim.Native.Nat.{◌-◌}
 use lib.ListN.{length}
 use Rattle.theory_text.specs.Runs.{run_end}
-use Rattle.theory_text.proofs.Runs.{run_step, run-stop, run-stop-end}
+use Rattle.theory_text.proofs.Runs.{run_step, run_stop, run_stop_end}
 use Rattle.drat.specs.Reading.{stops}
-use Rattle.drat.proofs.Words.{goes_on, blank-stops, newline-stops}
+use Rattle.drat.proofs.Words.{goes_on, blank_stops, newline_stops}
 use Rattle.drat.proofs.word_end.Statement.{statement}
 use Rattle.drat.proofs.word_end.Tie as tie
 
@@ -26,14 +26,14 @@ returns : tie.Need-returns invariant-loop decreases-loop
 returns c =
     let back = c.before.before.before in let loop = back.loop in
     let start = back.before in
-    run-stop _ start.args.text.now loop.i (search rules) (blank-stops _ c.if1.true) ∙ loop.invariant
+    run_stop _ start.args.text.now loop.i (search rules) (blank_stops _ c.if1.true) ∙ loop.invariant
 
 returns-2 : tie.Need-returns-2 invariant-loop decreases-loop
 returns-2 c =
     let back = c.before.before.before.before in let loop = back.loop in
     let start = back.before in
-    run-stop _ start.args.text.now loop.i (search rules)
-    (newline-stops _ c.before.if1.false c.if2.true)
+    run_stop _ start.args.text.now loop.i (search rules)
+    (newline_stops _ c.before.if1.false c.if2.true)
     ∙ loop.invariant
 
 add-i : tie.Need-overflow-add-i invariant-loop decreases-loop
@@ -52,7 +52,7 @@ loop-again c =
 returns-3 : tie.Need-returns-3 invariant-loop decreases-loop
 returns-3 c =
     let loop = c.before.loop in
-    run-stop-end _ c.before.before.args.text.now loop.i (search rules) ∙ loop.invariant
+    run_stop_end _ c.before.before.args.text.now loop.i (search rules) ∙ loop.invariant
 
 pub word-end-spec : {M : Type 1} → statement M
 word-end-spec =

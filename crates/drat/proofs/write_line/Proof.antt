@@ -1,5 +1,5 @@
 use native.Mathlib.Omega.{arith}
-use Rattle.drat.proofs.Writing.{addition-put, deletion-put}
+use Rattle.drat.proofs.Writing.{addition_put, deletion_put}
 use borrow.Author.Rules.{rules}
 use Rattle.drat.proofs.write_line.Statement.{statement}
 use Rattle.drat.proofs.write_line.Tie as tie
@@ -26,7 +26,7 @@ returns c =
     let back = back.before.before.before.before in let put_byte = back.put_byte in
     let back = back.before.before in let if1 = back.if1 in
     let start = back.before.before in (
-      deletion-put start.args.clause.now start.args.is-deletion if1.true put_byte.ensures
+      deletion_put start.args.clause.now start.args.is-deletion if1.true put_byte.ensures
           put-byte2.ensures put-clause.ensures.0,
       omega (arith, put_byte.ensures.next, put-byte2.ensures.next, put-clause.ensures.1),
     )
@@ -39,7 +39,7 @@ returns-2 c =
     let back = c.before.before in let put-clause2 = back.put-clause2 in
     let back = back.before.before in let if1 = back.if1 in
     let start = back.before.before in (
-      addition-put start.args.clause.now start.args.is-deletion if1.false put-clause2.ensures.0,
+      addition_put start.args.clause.now start.args.is-deletion if1.false put-clause2.ensures.0,
       omega (arith, put-clause2.ensures.1),
     )
 

@@ -1,5 +1,5 @@
 use mathlib.Core.Path.{sym, ◌∙◌}
-use Rattle.exports.proofs.Laws.{reencoding-counted, reencoding-refused}
+use Rattle.exports.proofs.Laws.{reencoding_counted, reencoding_refused}
 use borrow.Author.Rules.{rules}
 use Rattle.exports.proofs.answered.Statement.{statement}
 use Rattle.exports.proofs.answered.Tie as tie
@@ -25,7 +25,7 @@ same_length c = search rules
 returns : tie.Need-returns
 returns c =
     let r = c.before.before.before.before.before.r in
-    λ o e. reencoding-counted o _ _ _ (sym e ∙ r.given.1) c.before.before.put-done.ensures
+    λ o e. reencoding_counted o _ _ _ (sym e ∙ r.given.1) c.before.before.put-done.ensures
 
 same-length-2 : tie.Need-same-length-2
 same-length-2 c = search rules
@@ -33,7 +33,7 @@ same-length-2 c = search rules
 returns-2 : tie.Need-returns-2
 returns-2 c =
     let r2 = c.before.before.before.before.before.r2 in
-    λ o e. reencoding-refused o _ _ _ (sym e ∙ r2.given.1) c.before.before.zero-counts.ensures
+    λ o e. reencoding_refused o _ _ _ (sym e ∙ r2.given.1) c.before.before.zero-counts.ensures
 
 pub answered-spec : {M : Type 1} → statement M
 answered-spec =

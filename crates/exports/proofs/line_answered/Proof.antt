@@ -1,5 +1,5 @@
 use mathlib.Core.Path.{sym, ◌∙◌}
-use Rattle.exports.proofs.Laws.{line-counted, line_refused}
+use Rattle.exports.proofs.Laws.{line_counted, line_refused}
 use borrow.Author.Rules.{rules}
 use Rattle.exports.proofs.line_answered.Statement.{statement}
 use Rattle.exports.proofs.line_answered.Tie as tie
@@ -25,7 +25,7 @@ same_length c = search rules
 returns : tie.Need-returns
 returns c =
     let r = c.before.before.before.before.before.r in
-    λ o e. line-counted o _ _ _ (sym e ∙ r.given.1) c.before.before.put_count.ensures
+    λ o e. line_counted o _ _ _ (sym e ∙ r.given.1) c.before.before.put_count.ensures
 
 same-length-2 : tie.Need-same-length-2
 same-length-2 c = search rules

@@ -1,4 +1,4 @@
-use Rattle.exports.proofs.Laws.{settings-named}
+use Rattle.exports.proofs.Laws.{settings_named}
 use borrow.Author.Rules.{rules}
 use Rattle.exports.proofs.settings_named.Statement.{statement}
 use Rattle.exports.proofs.settings_named.Tie as tie
@@ -13,7 +13,7 @@ returns : tie.Need-returns
 returns c =
     let back = c.before in let form-named = back.form-named in
     let start = back.before in
-    settings-named form-named.result c.arrangement-named.result start.args.form start.args.arrangement
+    settings_named form-named.result c.arrangement-named.result start.args.form start.args.arrangement
     start.args.step form-named.ensures c.arrangement-named.ensures
 
 pub settings-named-spec : {M : Type 1} → statement M

@@ -1,5 +1,5 @@
 use lib.ListN.{length}
-use Rattle.definition.specs.Calls.{carry-forward}
+use Rattle.definition.specs.Calls.{carry_forward}
 use borrow.Author.Rules.{rules}
 use Rattle.exports.proofs.sirgholyn_carry_forward.Statement.{statement}
 use Rattle.exports.proofs.sirgholyn_carry_forward.Tie as tie
@@ -21,10 +21,10 @@ same-length-3 c = search rules
 
 returns : tie.Need-returns
 returns c =
-    let back = c.before.before.before.before.before.before.before in let the-carry-forward = back.carry-forward in
+    let back = c.before.before.before.before.before.before.before in let the-carry-forward = back.carry_forward in
     let start = back.before.before.before.before.before.before.before.before in
     let k = c.before.before.line-answered.ensures
-    (carry-forward (length start.args.work.now) (length start.args.out.now) start.args.kept
+    (carry_forward (length start.args.work.now) (length start.args.out.now) start.args.kept
     start.args.formula.now start.args.log.now start.args.plan.now) the-carry-forward.ensures.0 in
     (k.0, (the-carry-forward.ensures.1, k.1))
 

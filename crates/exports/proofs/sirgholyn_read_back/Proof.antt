@@ -1,7 +1,7 @@
 use mathlib.Core.Path.{sym, ◌∙◌}
 use lib.ListN.{length}
 use Rattle.definition.specs.Calls.{read_back}
-use Rattle.exports.proofs.Laws.{read-counted, read-refused}
+use Rattle.exports.proofs.Laws.{read_counted, read_refused}
 use borrow.Author.Rules.{rules}
 use Rattle.exports.proofs.sirgholyn_read_back.Statement.{statement}
 use Rattle.exports.proofs.sirgholyn_read_back.Tie as tie
@@ -35,7 +35,7 @@ returns c =
     let back = c.before.before.before.before.before in let v = back.v in
     let back = back.before.before.before in let the-read-back = back.read_back in
     let start = back.before.before.before.before in
-    let k = read-counted (read_back (length start.args.store.now) start.args.text.now) _ _ _
+    let k = read_counted (read_back (length start.args.store.now) start.args.text.now) _ _ _
     start.args.tally.now _ (sym the-read-back.ensures.0 ∙ v.given.1) c.before.before.put_three.ensures
     in
     (k.0, (the-read-back.ensures.1, k.1))
@@ -51,7 +51,7 @@ returns-2 c =
     let back = c.before.before.before.before.before in let n = back.n in
     let back = back.before.before.before in let the-read-back = back.read_back in
     let start = back.before.before.before.before in
-    let k = read-refused (read_back (length start.args.store.now) start.args.text.now) _
+    let k = read_refused (read_back (length start.args.store.now) start.args.text.now) _
     start.args.tally.now _ (sym the-read-back.ensures.0 ∙ n.given.1)
     c.before.before.zero-counts.ensures in
     (k.0, (the-read-back.ensures.1, k.1))

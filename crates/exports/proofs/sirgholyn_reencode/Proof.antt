@@ -43,22 +43,22 @@ use Rattle.definition.specs.Checked.{Checked}
 use Rattle.definition.specs.Calls.{Reencoded}
 use Rattle.records.specs.declared.ChoiceRecord.{ChoiceRecord}
 use Rattle.records.specs.contracts.ChoiceRecord as T
-use Rattle.records.proofs.Walking.{Tokens, tokens-apart, tokens-whole, hands, spread, frees_all, says_all, fact_of, also}
+use Rattle.records.proofs.Walking.{Tokens, tokens_apart, tokens_whole, hands, spread, frees_all, says_all, fact_of, also}
 use Rattle.run.specs.declared.Settings.{Settings}
-use Rattle.run.specs.Settings.{settings-of}
+use Rattle.run.specs.Settings.{settings_of}
 use Rattle.run.specs.contracts.Settings as S
 use Rattle.run.proofs.Settings.TheLaws as S'
-use Rattle.formula_run.specs.Outcome.{outcome-of}
+use Rattle.formula_run.specs.Outcome.{outcome_of}
 use Rattle.formula_run.specs.contracts.Tallied as E
 use Rattle.formula_run.proofs.Tallied.TheLaws as E'
-use Rattle.call_reencode.proofs.Called.{out, log-after, formula-after, table-after, Reencode, to-reencode, For-reencode, Told-reencode, Of-reencode, asks-reencode, gives-reencode}
+use Rattle.call_reencode.proofs.Called.{out, log_after, formula_after, table_after, Reencode, to_reencode, ForReencode, ToldReencode, OfReencode, asks_reencode, gives_reencode}
 use Rattle.call_reencode.proofs.reencode.Symbol as reencode-def
 use Rattle.call_reencode.proofs.reencode.Symbol.{name as #call-reencode·reencode}
 use Rattle.call_reencode.proofs.reencode.Met as reencode-thm
-use Rattle.exports.specs.Numbers.{settings-number, number_of, reencoding}
-use Rattle.exports.specs.Counts.{tally-after, reencoding-counts}
+use Rattle.exports.specs.Numbers.{settings_number, number_of, reencoding}
+use Rattle.exports.specs.Counts.{tally_after, reencoding_counts}
 use Rattle.exports.proofs.Laws.{same_outcome}
-use Rattle.exports.proofs.Called.{Named, to_named, Told-named, asks-named, gives-named, Answered, to-answered, For-answered, Told-answered, Of-answered, asks-answered, gives-answered}
+use Rattle.exports.proofs.Called.{Named, to_named, ToldNamed, asks_named, gives_named, Answered, to_answered, ForAnswered, ToldAnswered, OfAnswered, asks_answered, gives_answered}
 use Rattle.exports.proofs.settings_named.Symbol as named-def
 use Rattle.exports.proofs.settings_named.Symbol.{name as #exports·settings-named}
 use Rattle.exports.proofs.settings_named.Met as named-thm
@@ -76,7 +76,7 @@ stayed = (stay_none_slice (0 ∷ []) tt (plain (λ _. u8)) yes, (stay_none (λ _
 
 module _ {M : Type 1} {𝓤 : Ura M} (𝓛 : Logic 𝓤) (mem : Memory → SProp 𝓤) (run : Routine → Fun 𝓤) (κs : Lfts 6) (qs : Shares 6)
     (text : Bor (List ℕ)) (form arrangement step : ℕ) (work : Bor (List ℤ)) (log formula : Bor (List ℕ)) (table : Bor (List ChoiceRecord)) (tally : Bor (List ℕ))
-    (room : Room u8 (length text.now)) (form-fits : form < 2 ^ 32) (arrangement-fits : arrangement < 2 ^ 32) (step_fits : step < 2 ^ 32)
+    (room : Room u8 (length text.now)) (form_fits : form < 2 ^ 32) (arrangement_fits : arrangement < 2 ^ 32) (step_fits : step < 2 ^ 32)
     (room₁ : Room i32 (length work.now)) (room₂ : Room u8 (length log.now)) (room₃ : Room u8 (length formula.now)) (room₄ : Room T.the_row (length table.now)) (room₅ : Room u64 (length tally.now)) where
   open 𝓛 use {H}
 
@@ -100,16 +100,16 @@ module _ {M : Type 1} {𝓤 : Ura M} (𝓛 : Logic 𝓤) (mem : Memory → SProp
   promised = reencoding form arrangement step text.now work.now log.now formula.now (length table.now)
 
   abbrev log-by : Checked Reencoded → List ℕ
-  log-by o = log-after o log.now
+  log-by o = log_after o log.now
 
   abbrev formula-by : Checked Reencoded → List ℕ
-  formula-by o = formula-after o formula.now
+  formula-by o = formula_after o formula.now
 
   abbrev table-by : Checked Reencoded → List ChoiceRecord
-  table-by o = table-after o table.now
+  table-by o = table_after o table.now
 
-  abbrev tally-by : Checked Reencoded → List ℕ
-  tally-by o = tally-after o reencoding-counts tally.now
+  abbrev tally_by : Checked Reencoded → List ℕ
+  tally_by o = tally_after o reencoding_counts tally.now
 
   -- the call of `reencode` with settings s, its outcome, and the call of `answered`
   abbrev lfts : Lfts 5
@@ -119,48 +119,48 @@ module _ {M : Type 1} {𝓤 : Ura M} (𝓛 : Logic 𝓤) (mem : Memory → SProp
   shares = (qs.0, (qs.1.0, (qs.1.1.0, (qs.1.1.1.0, (qs.1.1.1.1.0, tt)))))
 
   abbrev called : Settings → (Reencode 𝓛 mem run).Ghost
-  called s = to-reencode 𝓛 mem run lfts shares text s work log formula table
+  called s = to_reencode 𝓛 mem run lfts shares text s work log formula table
 
   abbrev Handed : Settings → List (Item 𝓤)
-  Handed s = For-reencode 𝓛 mem run lfts shares text s work log formula table
+  Handed s = ForReencode 𝓛 mem run lfts shares text s work log formula table
 
   abbrev Told : Settings → Val → List ℤ → Type 0
-  Told s = Told-reencode text s work log formula table.now
+  Told s = ToldReencode text s work log formula table.now
 
   abbrev Given-back : Settings → List ℤ → List (Item 𝓤)
-  Given-back s = Of-reencode 𝓛 mem run lfts shares text s work log formula table
+  Given-back s = OfReencode 𝓛 mem run lfts shares text s work log formula table
 
   abbrev outcome-with : Settings → Checked Reencoded
   outcome-with s = out text s work log formula (length table.now)
 
   abbrev answering : Settings → (Answered 𝓛 mem run).Ghost
-  answering s = to-answered 𝓛 mem run κs.1.1.1.1.1.0 qs.1.1.1.1.1.0 tally (outcome-with s)
+  answering s = to_answered 𝓛 mem run κs.1.1.1.1.1.0 qs.1.1.1.1.1.0 tally (outcome-with s)
 
   abbrev Told-last : Settings → Val → Type 0
-  Told-last s = Told-answered 𝓛 mem run κs.1.1.1.1.1.0 qs.1.1.1.1.1.0 tally (outcome-with s)
+  Told-last s = ToldAnswered 𝓛 mem run κs.1.1.1.1.1.0 qs.1.1.1.1.1.0 tally (outcome-with s)
 
   abbrev Given-last : Settings → List (Item 𝓤)
-  Given-last s = Of-answered 𝓛 mem run κs.1.1.1.1.1.0 qs.1.1.1.1.1.0 tally (outcome-with s)
+  Given-last s = OfAnswered 𝓛 mem run κs.1.1.1.1.1.0 qs.1.1.1.1.1.0 tally (outcome-with s)
 
   abbrev Post : Val → SProp 𝓤
   Post = (walk_of 𝓛 exported.ended stayed (exported.clauses 𝓛 mem run)).post ((κs, qs, tt, a, vals), tt)
 
   abbrev Had : List ℤ → Checked Reencoded → List (Item 𝓤)
   Had us o = Tokens 𝓤 6 κs qs
-      ++ (‵ Text ∷ ‵ (finally i32 work.name us) ∷ ‵ (finally u8 log.name (log-by o)) ∷ ‵ (finally u8 formula.name (formula-by o)) ∷ ‵ (finally T.the_row table.name (table-by o)) ∷ ‵ (finally u64 tally.name (tally-by o)) ∷ [])
+      ++ (‵ Text ∷ ‵ (finally i32 work.name us) ∷ ‵ (finally u8 log.name (log-by o)) ∷ ‵ (finally u8 formula.name (formula-by o)) ∷ ‵ (finally T.the_row table.name (table-by o)) ∷ ‵ (finally u64 tally.name (tally_by o)) ∷ [])
 
-  exits : (w₁ w₂ : Val) (s : Settings) (us : List ℤ) → settings-of s ≡ settings-number form arrangement step → Told s w₁ us → Told-last s w₂ → ent 𝓤 (⋆ 𝓛 (Had us (outcome-with s))) (Post (vint w32 (number_of (outcome-with s))))
+  exits : (w₁ w₂ : Val) (s : Settings) (us : List ℤ) → settings_of s ≡ settings_number form arrangement step → Told s w₁ us → Told-last s w₂ → ent 𝓤 (⋆ 𝓛 (Had us (outcome-with s))) (Post (vint w32 (number_of (outcome-with s))))
   exits w₁ w₂ s us named-so e e₂ =
       let same : outcome-with s ≡ promised = same_outcome s form arrangement step text.now work.now log.now formula.now (length table.now) named-so in
       qed 𝓛 (Had us (outcome-with s)) ∵
       suffices ! _ (ends_at 𝓛 exported.ended stayed (exported.clauses 𝓛 mem run) ((κs, qs, tt, a, vals), tt) (vint w32 (number_of (outcome-with s))) (number_of (outcome-with s))
-      (tt, (tt, (tt, (tt, (us, (log-by (outcome-with s), (formula-by (outcome-with s), (table-by (outcome-with s), (tally-by (outcome-with s), tt))))))))) (tt, (tt, (tt, (tt, (e.2.0, (e.2.1, (e.2.2, (e.3, (e₂.2, tt)))))))))) $
+      (tt, (tt, (tt, (tt, (us, (log-by (outcome-with s), (formula-by (outcome-with s), (table-by (outcome-with s), (tally_by (outcome-with s), tt))))))))) (tt, (tt, (tt, (tt, (e.2.0, (e.2.1, (e.2.2, (e.3, (e₂.2, tt)))))))))) $
       says_all ! (also 𝓤 (fact_of 𝓤 (number_of (outcome-with s) ≡ number_of promised) (ap (λ (o : Checked Reencoded). number_of o) same)) (also 𝓤 (fact_of 𝓤 (log-by (outcome-with s) ≡ log-by promised) (ap log-by same)) (also 𝓤 (fact_of 𝓤 (formula-by (outcome-with s) ≡ formula-by promised) (ap formula-by same))
-      (also 𝓤 (fact_of 𝓤 (table-by (outcome-with s) ≡ table-by promised) (ap table-by same)) (fact_of 𝓤 (tally-by (outcome-with s) ≡ tally-by promised) (ap tally-by same)))))) $
-      tokens-whole ! 6 κs qs $ frame ! $
+      (also 𝓤 (fact_of 𝓤 (table-by (outcome-with s) ≡ table-by promised) (ap table-by same)) (fact_of 𝓤 (tally_by (outcome-with s) ≡ tally_by promised) (ap tally_by same)))))) $
+      tokens_whole ! 6 κs qs $ frame ! $
       -- [the text; the last lists of work, log, formula, table and tally]
       nothing ! $ move ! (6 ∷ 0 ∷ []) $ fjoin ! $ move ! (5 ∷ 0 ∷ []) $ fjoin ! $ move ! (4 ∷ 0 ∷ []) $ fjoin ! $ move ! (3 ∷ 0 ∷ []) $ fjoin ! $ move ! (2 ∷ 0 ∷ []) $ fjoin ! $
-      owned ! u32 (Is u32) (uint_Makes 𝓛 w32) step _ (refl, step_fits) $ fjoin ! $ owned ! u32 (Is u32) (uint_Makes 𝓛 w32) arrangement _ (refl, arrangement-fits) $ fjoin ! $ owned ! u32 (Is u32) (uint_Makes 𝓛 w32) form _ (refl, form-fits) $ fjoin ! $ move ! (1 ∷ 0 ∷ []) $ fjoin ! $ frame ! $
+      owned ! u32 (Is u32) (uint_Makes 𝓛 w32) step _ (refl, step_fits) $ fjoin ! $ owned ! u32 (Is u32) (uint_Makes 𝓛 w32) arrangement _ (refl, arrangement_fits) $ fjoin ! $ owned ! u32 (Is u32) (uint_Makes 𝓛 w32) form _ (refl, form_fits) $ fjoin ! $ move ! (1 ∷ 0 ∷ []) $ fjoin ! $ frame ! $
       owned ! u32 (Is u32) (uint_Makes 𝓛 w32) (number_of (outcome-with s)) _ (refl, e₂.1) $ done !
 
   module _ (C : Calls 𝓤 H) (Λ : Loops 𝓤 H) (fm : FmC 𝓤 H 𝓛.laws C) (known-named : Triple 𝓤 (C #exports·settings-named) (Named 𝓛 mem run)) (known-reencode : Triple 𝓤 (C #call-reencode·reencode) (Reencode 𝓛 mem run)) (known-answered : Triple 𝓤 (C #exports·answered) (Answered 𝓛 mem run)) where
@@ -174,8 +174,8 @@ module _ {M : Type 1} {𝓤 : Ura M} (𝓛 : Logic 𝓤) (mem : Memory → SProp
         alloc1 ! (λ l₁₂. alloc1 ! (λ l₁₃. alloc1 ! (λ l₁₄. alloc1 ! (λ l₁₅. alloc1 ! (λ l₁₆. alloc1 ! (λ l₁₇.
         alloc1 ! (λ l₁₈. alloc1 ! (λ l₁₉. alloc1 ! (λ l₂₀. alloc1 ! (λ l₂₁. alloc0 ! $ params1 ! $
         pass1 ! (init ! 40 refl (tt, (tt, (record { fits = room.0 }, tt)))) $
-        pass1 ! (init ! 38 refl (tt, record { fits = form-fits })) $
-        pass1 ! (init ! 36 refl (tt, record { fits = arrangement-fits })) $
+        pass1 ! (init ! 38 refl (tt, record { fits = form_fits })) $
+        pass1 ! (init ! 36 refl (tt, record { fits = arrangement_fits })) $
         pass1 ! (init ! 34 refl (tt, record { fits = step_fits })) $
         pass1 ! (init ! 32 refl (tt, (tt, (record { fits = room₁.0 }, tt)))) $
         pass1 ! (init ! 30 refl (tt, (tt, (record { fits = room₂.0 }, tt)))) $
@@ -183,9 +183,9 @@ module _ {M : Type 1} {𝓤 : Ura M} (𝓛 : Logic 𝓤) (mem : Memory → SProp
         pass1 ! (init ! 26 refl (tt, (tt, (record { fits = room₄.0 }, tt)))) $
         pass1 ! (init ! 24 refl (tt, (tt, (record { fits = room₅.0 }, tt)))) $ pass0 ! $
         -- [_21; …; _0; …; the tokens; what the parameters own]
-        hands ! [] ((Named 𝓛 mem run).pre (to_named 𝓛 mem run form arrangement step)) (asks-named 𝓛 mem run form arrangement step form-fits arrangement-fits step_fits) $
+        hands ! [] ((Named 𝓛 mem run).pre (to_named 𝓛 mem run form arrangement step)) (asks_named 𝓛 mem run form arrangement step form_fits arrangement_fits step_fits) $
         calls_at ! fm (Named 𝓛 mem run) known-named (to_named 𝓛 mem run form arrangement step) (and_then ! (load ! (from ! (stop !)) (look ! 39 refl)) (and_then ! (load ! (from ! (stop !)) (look ! 37 refl)) (and_then ! (load ! (from ! (stop !)) (look ! 35 refl)) (no_more !)))) (λ w.
-        use1 𝓛 (later (some (λ (s : Settings). given (Told-named 𝓛 mem run form arrangement step w s) (raw (⋆ 𝓛 []))))) (gives-named 𝓛 mem run form arrangement step w) $ await ! tt $ pick ! (λ s. learn ! (λ is-named. drop ! $
+        use1 𝓛 (later (some (λ (s : Settings). given (ToldNamed 𝓛 mem run form arrangement step w s) (raw (⋆ 𝓛 []))))) (gives_named 𝓛 mem run form arrangement step w) $ await ! tt $ pick ! (λ s. learn ! (λ is-named. drop ! $
         land ! (from ! (stop !)) (init ! 22 refl (subst (λ (v : Val). Holds (has_ty S'.mir v) × WT v) (sym is-named.0) ((LL.lawful S.the_type S'.the_laws 𝓛).typed s _ is-named.1).0)) $ rewrite ! 22 (λ (v : Val). ‵ (fat full_share S'.mir l₁₀ 0 v)) is-named.0 refl $
         assigns ! (addr ! (from ! (fld ! refl (hop ! (look_in ! 32 (sub ! 0 refl (whole !))) (stop !))))) (from ! (stop !)) (init ! 18 refl (tt, tt)) $
         assigns ! (agg ! (and_then ! (load ! (from ! (stop !)) (look ! 18 refl)) (and_then ! (load ! (from ! (fld ! refl (stop !))) (look_in ! 32 (sub ! 1 refl (whole !)))) (no_more !)))) (from ! (stop !)) (init ! 16 refl (tt, (tt, (record { fits = room₁.0 }, tt)))) $
@@ -199,21 +199,21 @@ module _ {M : Type 1} {𝓤 : Ura M} (𝓛 : Logic 𝓤) (mem : Memory → SProp
         use1 𝓛 (‵ Text ⊛ ‵ Text) ((shr_slice_copy 𝓛 (named 0) κs.0 u8).twice text (shr_slice_vals text)) $ split ! $ move ! (2 ∷ []) $
         fsplit ! $ move ! (1 ∷ []) $ fsplit ! $ move ! (1 ∷ []) $ fsplit ! $ move ! (1 ∷ []) $ fsplit ! $ move ! (1 ∷ []) $ fsplit ! $
         move ! (1 ∷ []) $ fsplit ! $ move ! (1 ∷ []) $ fsplit ! $ move ! (1 ∷ []) $ fsplit ! $
-        move ! (55 ∷ []) $ tokens-apart ! 6 κs qs $
+        move ! (55 ∷ []) $ tokens_apart ! 6 κs qs $
         -- [[text]; [work]; [log]; [formula]; [table]; [tally]; tally; true; table; formula; log; work; step; arrangement; form; text; text; _21; …; _0; …]
-        move ! (0 ∷ 1 ∷ 2 ∷ 3 ∷ 4 ∷ 15 ∷ 11 ∷ 10 ∷ 9 ∷ 8 ∷ []) $ hands ! (Handed s) ((Reencode 𝓛 mem run).pre (called s)) (asks-reencode 𝓛 mem run lfts shares text s work log formula table is-named.1) $
+        move ! (0 ∷ 1 ∷ 2 ∷ 3 ∷ 4 ∷ 15 ∷ 11 ∷ 10 ∷ 9 ∷ 8 ∷ []) $ hands ! (Handed s) ((Reencode 𝓛 mem run).pre (called s)) (asks_reencode 𝓛 mem run lfts shares text s work log formula table is-named.1) $
         calls_at ! fm (Reencode 𝓛 mem run) known-reencode (called s)
         (and_then ! (load ! (from ! (stop !)) (look ! 48 refl)) (and_then ! (load ! (from ! (stop !)) (look ! 30 refl))
         (and_then ! (load ! (from ! (stop !)) (look ! 24 refl)) (and_then ! (load ! (from ! (stop !)) (look ! 20 refl))
         (and_then ! (load ! (from ! (stop !)) (look ! 16 refl)) (and_then ! (load ! (from ! (stop !)) (look ! 12 refl)) (no_more !))))))) (λ w₁.
-        use1 𝓛 (later (some (λ (us : List ℤ). given (Told s w₁ us) (raw (⋆ 𝓛 (Given-back s us)))))) (gives-reencode 𝓛 mem run lfts shares text s work log formula table w₁) $ await ! tt $ pick ! (λ us. learn ! (λ e. spread ! (Given-back s us) $
+        use1 𝓛 (later (some (λ (us : List ℤ). given (Told s w₁ us) (raw (⋆ 𝓛 (Given-back s us)))))) (gives_reencode 𝓛 mem run lfts shares text s work log formula table w₁) $ await ! tt $ pick ! (λ us. learn ! (λ e. spread ! (Given-back s us) $
         -- [[text]; [work]; [log]; [formula]; [table]; the last lists of work, log, formula and table; [tally]; tally; true; step; arrangement; form; text; _21; …; _0; …]
-        land ! (from ! (stop !)) (init ! 36 refl (subst (λ (v : Val). Holds (has_ty E'.mir v) × WT v) (sym e.0) ((EL.lawful E.the_type E'.the_laws 𝓛 tt).typed (outcome-of (outcome-with s)) _ e.1).0)) $ rewrite ! 36 (λ (v : Val). ‵ (fat full_share E'.mir l₁₁ 0 v)) e.0 refl $
+        land ! (from ! (stop !)) (init ! 36 refl (subst (λ (v : Val). Holds (has_ty E'.mir v) × WT v) (sym e.0) ((EL.lawful E.the_type E'.the_laws 𝓛 tt).typed (outcome_of (outcome-with s)) _ e.1).0)) $ rewrite ! 36 (λ (v : Val). ‵ (fat full_share E'.mir l₁₁ 0 v)) e.0 refl $
         assigns ! (addr ! (from ! (fld ! refl (hop ! (look_in ! 40 (sub ! 0 refl (whole !))) (stop !))))) (from ! (stop !)) (init ! 18 refl (tt, tt)) $
         assigns ! (agg ! (and_then ! (load ! (from ! (stop !)) (look ! 18 refl)) (and_then ! (load ! (from ! (fld ! refl (stop !))) (look_in ! 40 (sub ! 1 refl (whole !)))) (no_more !)))) (from ! (stop !)) (init ! 16 refl (tt, (tt, (record { fits = room₅.0 }, tt)))) $
-        move ! (9 ∷ 10 ∷ []) $ hands ! (For-answered 𝓛 mem run κs.1.1.1.1.1.0 qs.1.1.1.1.1.0 tally (outcome-with s)) ((Answered 𝓛 mem run).pre (answering s)) (asks-answered 𝓛 mem run κs.1.1.1.1.1.0 qs.1.1.1.1.1.0 tally (outcome-with s) e.1) $
+        move ! (9 ∷ 10 ∷ []) $ hands ! (ForAnswered 𝓛 mem run κs.1.1.1.1.1.0 qs.1.1.1.1.1.0 tally (outcome-with s)) ((Answered 𝓛 mem run).pre (answering s)) (asks_answered 𝓛 mem run κs.1.1.1.1.1.0 qs.1.1.1.1.1.0 tally (outcome-with s) e.1) $
         calls_at ! fm (Answered 𝓛 mem run) known-answered (answering s) (and_then ! (load ! (from ! (stop !)) (look ! 15 refl)) (and_then ! (load ! (from ! (stop !)) (look ! 35 refl)) (no_more !))) (λ w₂.
-        use1 𝓛 (later (given (Told-last s w₂) (raw (⋆ 𝓛 (Given-last s))))) (gives-answered 𝓛 mem run κs.1.1.1.1.1.0 qs.1.1.1.1.1.0 tally (outcome-with s) w₂) $ await ! tt $ learn ! (λ e₂. spread ! (Given-last s) $
+        use1 𝓛 (later (given (Told-last s w₂) (raw (⋆ 𝓛 (Given-last s))))) (gives_answered 𝓛 mem run κs.1.1.1.1.1.0 qs.1.1.1.1.1.0 tally (outcome-with s) w₂) $ await ! tt $ learn ! (λ e₂. spread ! (Given-last s) $
         -- [[tally]; the tally's last list; [text]; [work]; [log]; [formula]; [table]; the last lists of work, log, formula and table; true; step; arrangement; form; text; _21; …; _0; …]
         land ! (from ! (stop !)) (init ! 58 refl (subst (λ (v : Val). Holds (has_ty (ty_int w32) v) × WT v) (sym e₂.0) (tt, record { fits = e₂.1 }))) $ rewrite ! 58 (λ (v : Val). ‵ (fat full_share (ty_int w32) l₀ 0 v)) e₂.0 refl $
         returns ! (look ! 58 refl) $ forget ! 16 refl $ forget ! 18 refl $ forget ! 20 refl $ forget ! 22 refl $ forget ! 24 refl $

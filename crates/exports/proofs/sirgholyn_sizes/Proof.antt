@@ -1,4 +1,4 @@
-use Rattle.exports.proofs.Laws.{sizes-answered}
+use Rattle.exports.proofs.Laws.{sizes_answered}
 use borrow.Author.Rules.{rules}
 use Rattle.exports.proofs.sirgholyn_sizes.Statement.{statement}
 use Rattle.exports.proofs.sirgholyn_sizes.Tie as tie
@@ -21,10 +21,10 @@ same-length-2 c = search rules
 returns : tie.Need-returns
 returns c =
     let back = c.before.before.before.before.before in let sizes = back.sizes in
-    let back = back.before.before in let settings-named = back.settings-named in
+    let back = back.before.before in let settings_named = back.settings_named in
     let start = back.before.before.before in
-    sizes-answered settings-named.result start.args.form start.args.arrangement start.args.step
-    start.args.text.now start.args.work.now start.args.tally.now settings-named.ensures
+    sizes_answered settings_named.result start.args.form start.args.arrangement start.args.step
+    start.args.text.now start.args.work.now start.args.tally.now settings_named.ensures
     sizes.ensures c.before.before.answered.ensures
 
 pub sirgholyn-sizes-spec : {M : Type 1} → statement M

@@ -1,5 +1,5 @@
 use lib.ListN.{length}
-use Rattle.definition.specs.Calls.{walk-back}
+use Rattle.definition.specs.Calls.{walk_back}
 use borrow.Author.Rules.{rules}
 use Rattle.exports.proofs.sirgholyn_walk_back.Statement.{statement}
 use Rattle.exports.proofs.sirgholyn_walk_back.Tie as tie
@@ -21,10 +21,10 @@ same-length-3 c = search rules
 
 returns : tie.Need-returns
 returns c =
-    let back = c.before.before.before.before.before.before.before in let the-walk-back = back.walk-back in
+    let back = c.before.before.before.before.before.before.before in let the-walk-back = back.walk_back in
     let start = back.before.before.before.before.before.before.before.before in
     let k = c.before.before.line-answered.ensures
-    (walk-back (length start.args.work.now) (length start.args.out.now) start.args.kept
+    (walk_back (length start.args.work.now) (length start.args.out.now) start.args.kept
     start.args.formula.now start.args.log.now start.args.answer.now) the-walk-back.ensures.0 in
     (k.0, (the-walk-back.ensures.1, k.1))
 

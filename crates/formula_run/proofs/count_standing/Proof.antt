@@ -2,8 +2,8 @@ use mathlib.Core.Path.{sym, ap}
 use native.Mathlib.Omega.{arith}
 use Prim.Native.Nat.{◌-◌}
 use lib.ListN.{length}
-use Rattle.store.proofs.Laws.{place-start, stored-none}
-use Rattle.formula_run.proofs.Counting.{Counted, counted_next, counted-all}
+use Rattle.store.proofs.Laws.{place_start, stored_none}
+use Rattle.formula_run.proofs.Counting.{Counted, counted_next, counted_all}
 use Rattle.formula_run.proofs.count_standing.Statement.{statement}
 use Rattle.formula_run.proofs.count_standing.Tie as tie
 
@@ -14,7 +14,7 @@ abbrev decreases-loop : tie.decreases-loop
 decreases-loop store n₀ at₀ n at = length store - at
 
 loop-holds : tie.Need-loop-init invariant-loop decreases-loop
-loop-holds c = record { place = place-start c.requires; count = ap length (sym stored-none); few = omega arith }
+loop-holds c = record { place = place_start c.requires; count = ap length (sym stored_none); few = omega arith }
 
 standing-at-requires : tie.Need-standing-at-requires invariant-loop decreases-loop
 standing-at-requires c κs = c.loop-test.true
@@ -35,7 +35,7 @@ loop-again c =
     (counted_next loop.invariant c.before.before.loop-test.true)
 
 returns : tie.Need-returns invariant-loop decreases-loop
-returns c = counted-all c.before.loop.invariant c.loop-test.false
+returns c = counted_all c.before.loop.invariant c.loop-test.false
 
 pub count-standing-spec : {M : Type 1} → statement M
 count-standing-spec =

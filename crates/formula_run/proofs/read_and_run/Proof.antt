@@ -1,7 +1,7 @@
 use mathlib.Core.Path.{sym}
 use native.Mathlib.Omega.{arith}
 use lib.Seq.{length-take-le}
-use Rattle.formula_run.proofs.Running.{call-fault, call-short, lent-ready, call-run}
+use Rattle.formula_run.proofs.Running.{call_fault, call_short, lent_ready, call_run}
 use borrow.Author.Rules.{rules}
 use Rattle.formula_run.proofs.read_and_run.Statement.{statement}
 use Rattle.formula_run.proofs.read_and_run.Tie as tie
@@ -28,12 +28,12 @@ returns : tie.Need-returns
 returns c =
     let back = c.before.before.before in let v = back.v in
     let back = back.before.before.before in let read = back.read in
-    let back = back.before.before in let input-limits = back.input-limits in
+    let back = back.before.before in let input_limits = back.input_limits in
     let start = back.before.before.before.before.before in
-    call-short start.args.text.now start.args.settings start.requires.0 start.args.work.now
+    call_short start.args.text.now start.args.settings start.requires.0 start.args.work.now
     start.args.log.now start.args.formula.now start.args.rows.now start.requires.1
-    input-limits.result input-limits.ensures.0 _ read.ensures.0 _ _ _ _ _ v.given.1
-    c.before.workspace-need.ensures (omega (arith, c.if1.true, read.auto.1.1.0))
+    input_limits.result input_limits.ensures.0 _ read.ensures.0 _ _ _ _ _ v.given.1
+    c.before.workspace_need.ensures (omega (arith, c.if1.true, read.auto.1.1.0))
 
 slice-relend-prefix-run-all : tie.Need-slice-relend-prefix-run-all
 slice-relend-prefix-run-all c = search rules
@@ -42,21 +42,21 @@ slice-aggregate-run-all : tie.Need-slice-aggregate-run-all
 slice-aggregate-run-all c =
     let read = c.before.before.before.before.before.before.before.read in
     sym
-    (length-take-le c.before.before.workspace-need.result read.new.1.1.0
+    (length-take-le c.before.before.workspace_need.result read.new.1.1.0
     (omega (arith, c.before.if1.false)))
 
 run-all-requires : tie.Need-run-all-requires
 run-all-requires c κs =
     let back = c.before.before.before.before in let if1 = back.if1 in
-    let back = back.before in let workspace-need = back.workspace-need in
+    let back = back.before in let workspace_need = back.workspace_need in
     let back = back.before.before in let v = back.v in
     let back = back.before.before.before in let read = back.read in
-    let back = back.before.before in let input-limits = back.input-limits in
+    let back = back.before.before in let input_limits = back.input_limits in
     let start = back.before.before.before.before.before in
-    lent-ready start.args.text.now start.args.settings start.requires.0 start.args.work.now
+    lent_ready start.args.text.now start.args.settings start.requires.0 start.args.work.now
     start.args.log.now start.args.formula.now start.args.rows.now start.requires.1
-    input-limits.result input-limits.ensures.0 _ read.ensures.0 _ _ _ _ _ v.given.1
-    workspace-need.ensures (omega (arith, if1.false, read.auto.1.1.0)) read.ensures.1
+    input_limits.result input_limits.ensures.0 _ read.ensures.0 _ _ _ _ _ v.given.1
+    workspace_need.ensures (omega (arith, if1.false, read.auto.1.1.0)) read.ensures.1
 
 same-length-2 : tie.Need-same-length-2
 same-length-2 c = search rules
@@ -64,11 +64,11 @@ same-length-2 c = search rules
 returns-2 : tie.Need-returns-2
 returns-2 c =
     let back = c.before.before.before.before in let read = back.read in
-    let back = back.before.before in let input-limits = back.input-limits in
+    let back = back.before.before in let input_limits = back.input_limits in
     let start = back.before.before.before.before.before in
-    call-fault start.args.text.now start.args.settings start.requires.0 start.args.work.now
+    call_fault start.args.text.now start.args.settings start.requires.0 start.args.work.now
     start.args.log.now start.args.formula.now start.args.rows.now start.requires.1
-    input-limits.result input-limits.ensures.0 _ read.ensures.0 _ c.before.n.given.1
+    input_limits.result input_limits.ensures.0 _ read.ensures.0 _ c.before.n.given.1
 
 same-length-3 : tie.Need-same-length-3
 same-length-3 c = search rules
@@ -86,15 +86,15 @@ returns-3 : tie.Need-returns-3
 returns-3 c =
     let back = c.before.before.before.before.before.before.before in let run-all = back.run-all in
     let back = back.before.before.before.before.before in let if1 = back.if1 in
-    let back = back.before in let workspace-need = back.workspace-need in
+    let back = back.before in let workspace_need = back.workspace_need in
     let back = back.before.before in let v = back.v in
     let back = back.before.before.before in let read = back.read in
-    let back = back.before.before in let input-limits = back.input-limits in
+    let back = back.before.before in let input_limits = back.input_limits in
     let start = back.before.before.before.before.before in
-    call-run start.args.text.now start.args.settings start.requires.0 start.args.work.now
+    call_run start.args.text.now start.args.settings start.requires.0 start.args.work.now
     start.args.log.now start.args.formula.now start.args.rows.now start.requires.1
-    input-limits.result input-limits.ensures.0 _ read.ensures.0 _ _ _ _ _ v.given.1
-    workspace-need.ensures (omega (arith, if1.false, read.auto.1.1.0)) read.ensures.1 run-all.ensures
+    input_limits.result input_limits.ensures.0 _ read.ensures.0 _ _ _ _ _ v.given.1
+    workspace_need.ensures (omega (arith, if1.false, read.auto.1.1.0)) read.ensures.1 run-all.ensures
 
 pub read-and-run-spec : {M : Type 1} → statement M
 read-and-run-spec =

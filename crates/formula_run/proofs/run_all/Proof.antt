@@ -1,5 +1,5 @@
 use mathlib.Core.Path.{refl}
-use Rattle.formula_run.proofs.Running.{run-left, run-answers, run-refused}
+use Rattle.formula_run.proofs.Running.{run_left, run_answers, run_refused}
 use borrow.Author.Rules.{rules}
 use Rattle.formula_run.proofs.run_all.Statement.{statement}
 use Rattle.formula_run.proofs.run_all.Tie as tie
@@ -15,7 +15,7 @@ write-standing-requires c κs =
     let back = c.before.before.before in let r = back.r in
     let back = back.before.before.before.before.before.before.before in let run = back.run in
     let start = back.before.before.before.before.before.before.before in
-    run-left run.ensures r.given.1 start.requires.small
+    run_left run.ensures r.given.1 start.requires.small
 
 enum-known-n : tie.Need-enum-known-n
 enum-known-n c = search rules
@@ -36,7 +36,7 @@ returns : tie.Need-returns
 returns c =
     let back = c.before.before.before.before.before.before in let r = back.r in
     let run = back.before.before.before.before.before.before.before.run in
-    run-answers run.ensures r.given.1 refl c.before.before.write-standing.ensures
+    run_answers run.ensures r.given.1 refl c.before.before.write-standing.ensures
 
 same-length-5 : tie.Need-same-length-5
 same-length-5 c = search rules
@@ -50,7 +50,7 @@ same-length-7 c = search rules
 returns-2 : tie.Need-returns-2
 returns-2 c =
     let run = c.before.before.before.before.before.before.before.before.run in
-    run-refused run.ensures _ c.before.n.given.1
+    run_refused run.ensures _ c.before.n.given.1
 
 pub run-all-spec : {M : Type 1} → statement M
 run-all-spec =

@@ -3,7 +3,7 @@ use borrow.Author.Rules.{sfits_of, rules}
 use Rattle.literals.specs.Literal.{negative}
 use Rattle.literals.proofs.Laws.{answered}
 use Rattle.store.specs.Store.{header_at}
-use Rattle.formula_run.proofs.Counting.{bit-deleted, bit-stands}
+use Rattle.formula_run.proofs.Counting.{bit_deleted, bit_stands}
 use Rattle.formula_run.proofs.standing_at.Statement.{statement}
 use Rattle.formula_run.proofs.standing_at.Tie as tie
 
@@ -20,7 +20,7 @@ returns : tie.Need-returns
 returns c =
     let start = c.before.before.before in
     sym
-    (bit-deleted start.args.store.now start.args.at
+    (bit_deleted start.args.store.now start.args.at
     (answered negative (header_at start.args.store.now start.args.at)
     (sfits_of c.before.before.is-negative-arg.given) c.before.is_negative.ensures c.if1.true))
 
@@ -28,7 +28,7 @@ returns-2 : tie.Need-returns-2
 returns-2 c =
     let start = c.before.before.before in
     sym
-    (bit-stands start.args.store.now start.args.at
+    (bit_stands start.args.store.now start.args.at
     (answered negative (header_at start.args.store.now start.args.at)
     (sfits_of c.before.before.is-negative-arg.given) c.before.is_negative.ensures c.if1.false))
 

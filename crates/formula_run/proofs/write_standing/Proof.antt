@@ -1,7 +1,7 @@
 use native.Mathlib.Omega.{arith}
 use mathlib.Core.Path.{sym}
 use lib.Seq.{length-take-le}
-use Rattle.formula_run.proofs.Running.{left-few, formula-written}
+use Rattle.formula_run.proofs.Running.{left_few, formula_written}
 use borrow.Author.Rules.{rules}
 use Rattle.formula_run.proofs.write_standing.Statement.{statement}
 use Rattle.formula_run.proofs.write_standing.Tie as tie
@@ -17,7 +17,7 @@ count-standing-requires c κs = search rules
 cast-write-formula : tie.Need-overflow-cast-write-formula
 cast-write-formula c =
     let start = c.before.before.before.before in
-    record { fits = omega (arith, c.before.count-standing.ensures, (left-few start.requires).0) }
+    record { fits = omega (arith, c.before.count-standing.ensures, (left_few start.requires).0) }
 
 slice-aggregate-write-formula : tie.Need-slice-aggregate-write-formula
 slice-aggregate-write-formula c =
@@ -27,7 +27,7 @@ slice-aggregate-write-formula c =
 write-formula-requires : tie.Need-write-formula-requires
 write-formula-requires c κs =
     let start = c.before.before.before.before.before in
-    (start.requires.formed, (c.before.before.count-standing.ensures, (left-few start.requires).1))
+    (start.requires.formed, (c.before.before.count-standing.ensures, (left_few start.requires).1))
 
 same_length : tie.Need-same-length
 same_length c = search rules
@@ -35,7 +35,7 @@ same_length c = search rules
 returns : tie.Need-returns
 returns c =
     let count-standing = c.before.before.before.before.before.count-standing in
-    formula-written c.before.before.write-formula.ensures count-standing.ensures
+    formula_written c.before.before.write-formula.ensures count-standing.ensures
 
 pub write-standing-spec : {M : Type 1} → statement M
 write-standing-spec =

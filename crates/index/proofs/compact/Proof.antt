@@ -1,6 +1,6 @@
 use mathlib.Core.Path.{◌∙◌, sym}
-use Rattle.index.proofs.Laws.{indexed-inside, indexed-length}
-use Rattle.index.proofs.Filling.{compacted-formed, compacted-room, compacted-small, made-room}
+use Rattle.index.proofs.Laws.{indexed_inside, indexed_length}
+use Rattle.index.proofs.Filling.{compacted_formed, compacted_room, compacted_small, made_room}
 use borrow.Author.Rules.{rules}
 use Rattle.index.proofs.compact.Statement.{statement}
 use Rattle.index.proofs.compact.Tie as tie
@@ -9,7 +9,7 @@ slice-relend-prefix-compact : tie.Need-slice-relend-prefix-compact
 slice-relend-prefix-compact c = search rules
 
 slice-aggregate-compact : tie.Need-slice-aggregate-compact
-slice-aggregate-compact c = sym (indexed-length c.before.before.requires.0)
+slice-aggregate-compact c = sym (indexed_length c.before.before.requires.0)
 
 compact-requires : tie.Need-compact-requires
 compact-requires c κs = search rules
@@ -23,12 +23,12 @@ enter-all-requires c κs =
     let back = back.before.before.before in let compact = back.compact in
     let start = back.before.before.before in (
       (
-        compacted-formed start.args.work.now start.args.end start.args.cells compact.result
-            compact.new.0 (indexed-inside start.requires.0) compact.auto.0 compact.ensures start.requires.1,
-        compacted-room start.args.work.now start.args.end start.args.cells compact.result
-            compact.new.0 (indexed-inside start.requires.0) compact.auto.0 compact.ensures start.requires.1,
-        compacted-small start.args.work.now start.args.end start.args.cells compact.result
-            compact.new.0 (indexed-inside start.requires.0) compact.auto.0 compact.ensures start.requires.1
+        compacted_formed start.args.work.now start.args.end start.args.cells compact.result
+            compact.new.0 (indexed_inside start.requires.0) compact.auto.0 compact.ensures start.requires.1,
+        compacted_room start.args.work.now start.args.end start.args.cells compact.result
+            compact.new.0 (indexed_inside start.requires.0) compact.auto.0 compact.ensures start.requires.1,
+        compacted_small start.args.work.now start.args.end start.args.cells compact.result
+            compact.new.0 (indexed_inside start.requires.0) compact.auto.0 compact.ensures start.requires.1
             start.requires.0.small,
       ),
       (clear.ensures, clear.auto.0 ∙ start.requires.0.size),
@@ -45,8 +45,8 @@ returns c =
     let back = c.before.before.before in let enter-all = back.enter-all in
     let back = back.before.before.before.before.before.before.before.before in let compact = back.compact in
     let start = back.before.before.before in
-    made-room start.args.work.now start.args.end start.args.cells compact.result compact.new.0
-    (indexed-inside start.requires.0) compact.auto.0 compact.ensures start.requires.1 _ _ enter-all.auto.0
+    made_room start.args.work.now start.args.end start.args.cells compact.result compact.new.0
+    (indexed_inside start.requires.0) compact.auto.0 compact.ensures start.requires.1 _ _ enter-all.auto.0
     enter-all.ensures.0 enter-all.ensures.1
 
 pub compact-spec : {M : Type 1} → statement M

@@ -7,8 +7,8 @@ use native.Mathlib.Omega.{arith}
 use Rattle.literals.proofs.Laws.{answer}
 use Rattle.tables.specs.Entries.{entry_of}
 use Rattle.index.specs.Index.{nodes}
-use Rattle.index.proofs.Chains.{with-node}
-use Rattle.index.proofs.Entering.{Entering, with-last, entering-start, entering-room, entering-step, entering-end}
+use Rattle.index.proofs.Chains.{with_node}
+use Rattle.index.proofs.Entering.{Entering, with_last, entering_start, entering_room, entering_step, entering_end}
 use Rattle.index.proofs.enter.Statement.{statement}
 use Rattle.index.proofs.enter.Tie as tie
 
@@ -26,7 +26,7 @@ add-i c =
 loop-holds : tie.Need-loop-init invariant-loop decreases-loop
 loop-holds c =
     let start = c.before in
-    entering-start start.args.work.now start.args.newest.now start.args.at start.args.next
+    entering_start start.args.work.now start.args.newest.now start.args.at start.args.next
     start.requires.0.0 start.requires.0.1 start.requires.1
 
 mul-l : tie.Need-overflow-mul-l invariant-loop decreases-loop
@@ -44,7 +44,7 @@ enter-literal-requires c κs =
     let back = c.before.before.before in let loop-test = back.loop-test in
     let back = back.before in let loop = back.loop in
     let start = back.before.before in
-    entering-room start.args.work.now start.args.newest.now start.args.at start.args.next
+    entering_room start.args.work.now start.args.newest.now start.args.at start.args.next
     start.requires.0.0 start.requires.0.1 start.requires.1 loop.work loop.newest loop.i loop.invariant
     loop-test.true
 
@@ -67,12 +67,12 @@ loop-again c =
     let back = back.before in let loop = back.loop in
     let start = back.before.before in
     let l = get_or loop.work loop.i (pos 0) in
-    entering-step start.args.work.now start.args.newest.now start.args.at start.args.next
+    entering_step start.args.work.now start.args.newest.now start.args.at start.args.next
     start.requires.0.0 start.requires.0.1 start.requires.1 loop.work loop.newest loop.i loop.invariant
     loop-test.true l refl _ _
-    (answer (λ (z : ℤ). with-node loop.work (nodes loop.newest) start.args.at (entry_of loop.newest z)) l
+    (answer (λ (z : ℤ). with_node loop.work (nodes loop.newest) start.args.at (entry_of loop.newest z)) l
     (sfits_of the-l.given) enter-literal.ensures.0)
-    (answer (λ (z : ℤ). with-last loop.newest z) l (sfits_of the-l.given) enter-literal.ensures.1)
+    (answer (λ (z : ℤ). with_last loop.newest z) l (sfits_of the-l.given) enter-literal.ensures.1)
 
 same_length : tie.Need-same-length invariant-loop decreases-loop
 same_length c = c.before.loop.invariant.size
@@ -84,7 +84,7 @@ returns : tie.Need-returns invariant-loop decreases-loop
 returns c =
     let back = c.before in let loop = back.loop in
     let start = back.before.before in
-    entering-end start.args.work.now start.args.newest.now start.args.at start.args.next
+    entering_end start.args.work.now start.args.newest.now start.args.at start.args.next
     start.requires.0.0 start.requires.0.1 start.requires.1 loop.work loop.newest loop.i loop.invariant
     c.loop-test.false
 

@@ -1,7 +1,7 @@
 use mathlib.Core.Path.{◌∙◌, sym}
 use Prim.Native.Nat.{◌-◌}
 use native.Mathlib.Omega.{arith}
-use Rattle.index.proofs.Filling.{Filling, filling-start, filling-inside, filling-room, filling_step, filling-end}
+use Rattle.index.proofs.Filling.{Filling, filling_start, filling_inside, filling_room, filling_step, filling_end}
 use Rattle.index.proofs.enter_all.Statement.{statement}
 use Rattle.index.proofs.enter_all.Tie as tie
 
@@ -14,14 +14,14 @@ decreases-loop work₀ newest₀ end at₀ work newest at = end - at
 loop-holds : tie.Need-loop-init invariant-loop decreases-loop
 loop-holds c =
     let start = c.before in
-    filling-start start.args.work.now start.args.end start.requires.0.0 start.requires.0.1
+    filling_start start.args.work.now start.args.end start.requires.0.0 start.requires.0.1
     start.args.newest.now start.requires.0.2 start.requires.1.0 start.requires.1.1
 
 next-at-requires : tie.Need-next-at-requires invariant-loop decreases-loop
 next-at-requires c κs =
     let back = c.before.before in let loop = back.loop in
     let start = back.before.before in
-    filling-inside start.args.work.now start.args.end start.requires.0.0 start.requires.0.1 loop.work
+    filling_inside start.args.work.now start.args.end start.requires.0.0 start.requires.0.1 loop.work
     loop.newest loop.at loop.invariant c.before.loop-test.true
 
 enter-requires : tie.Need-enter-requires invariant-loop decreases-loop
@@ -31,7 +31,7 @@ enter-requires c κs =
     let back = back.before in let loop = back.loop in
     let start = back.before.before in (
       (loop.invariant.indexed, next-at.ensures),
-      filling-room start.args.work.now start.args.end start.requires.0.0 start.requires.0.1 loop.work
+      filling_room start.args.work.now start.args.end start.requires.0.0 start.requires.0.1 loop.work
           loop.newest loop.at loop.invariant loop-test.true next-at.result next-at.ensures,
     )
 
@@ -65,7 +65,7 @@ returns : tie.Need-returns invariant-loop decreases-loop
 returns c =
     let back = c.before in let loop = back.loop in
     let start = back.before.before in
-    filling-end start.args.work.now start.args.end start.requires.0.0 start.requires.0.1 loop.work
+    filling_end start.args.work.now start.args.end start.requires.0.0 start.requires.0.1 loop.work
     loop.newest loop.at loop.invariant c.loop-test.false
 
 pub enter-all-spec : {M : Type 1} → statement M

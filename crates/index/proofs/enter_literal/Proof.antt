@@ -7,7 +7,7 @@ use Prim.Native.Nat.{◌+◌}
 use Rattle.literals.specs.Literal.{index_of, header_of}
 use Rattle.literals.proofs.Laws.{at_arg, answer}
 use Rattle.tables.specs.Entries.{entry_of}
-use Rattle.index.proofs.Entering.{node-written, last_written}
+use Rattle.index.proofs.Entering.{node_written, last_written}
 use borrow.Author.Rules.{rules}
 use Rattle.index.proofs.enter_literal.Statement.{statement}
 use Rattle.index.proofs.enter_literal.Tie as tie
@@ -77,7 +77,7 @@ returns c =
     let back = back.before.before in let header = back.header in
     let back = back.before in let nodes = back.nodes in
     let start = back.before.before.before in (
-      node-written start.args.work.now _ _ start.args.at
+      node_written start.args.work.now _ _ start.args.at
           (entry_of start.args.newest.now start.args.l) _ _ nodes.ensures
           (at_arg (λ (z : ℤ). z) header.result (sfits_of header.type-inv) ∙ header.ensures)
           (at_arg (λ (z : ℤ). z) header2.result (sfits_of header2.type-inv)

@@ -2,7 +2,7 @@ use Prim.Native.Nat.{◌+◌, ◌-◌, ◌*◌}
 use lib.IntN.{pos}
 use lib.ListN.{length, get_or}
 use borrow.Author.Rules.{sfits_of}
-use Rattle.literals.specs.Literal.{header-literals}
+use Rattle.literals.specs.Literal.{header_literals}
 use Rattle.literals.proofs.Laws.{answer}
 use borrow.Author.Rules.{rules}
 use Rattle.index.proofs.older.Statement.{statement}
@@ -29,7 +29,7 @@ header-length-requires c κs = search rules
 returns : tie.Need-returns
 returns c =
     let start = c.before.before in
-    answer header-literals
+    answer header_literals
     (get_or start.args.work.now (length start.args.work.now - 2 * start.args.node + 1) (pos 0))
     (sfits_of c.before.header-length-arg.given) c.header-length.ensures
 

@@ -2,7 +2,7 @@ use Prim.Native.Nat.{◌-◌, ◌*◌}
 use lib.IntN.{pos}
 use lib.ListN.{length, get_or}
 use borrow.Author.Rules.{sfits_of}
-use Rattle.literals.specs.Literal.{header-literals}
+use Rattle.literals.specs.Literal.{header_literals}
 use Rattle.literals.proofs.Laws.{answer}
 use borrow.Author.Rules.{rules}
 use Rattle.index.proofs.place_at.Statement.{statement}
@@ -26,7 +26,7 @@ header-length-requires c κs = search rules
 returns : tie.Need-returns
 returns c =
     let start = c.before.before in
-    answer header-literals
+    answer header_literals
     (get_or start.args.work.now (length start.args.work.now - 2 * start.args.node) (pos 0))
     (sfits_of c.before.header-length-arg.given) c.header-length.ensures
 

@@ -1,4 +1,4 @@
-use Rattle.literals.proofs.Bits.{flip_asks, flip-value}
+use Rattle.literals.proofs.Bits.{flip_asks, flip_value}
 use Rattle.literals.proofs.flipped.Statement.{statement}
 use Rattle.literals.proofs.flipped.Tie as tie
 
@@ -6,7 +6,7 @@ sub-result : tie.Need-overflow-sub-result
 sub-result c = flip_asks c.args.h c.ranges.h
 
 returns : tie.Need-returns
-returns c = flip-value c.args.h c.ranges.h
+returns c = flip_value c.args.h c.ranges.h
 
 pub flipped-spec : {M : Type 1} → statement M
 flipped-spec = tie.close (tie.spec sub-result returns)

@@ -1,5 +1,5 @@
 use Rattle.literals.proofs.Laws.{answer, answered}
-use Rattle.literals.proofs.Bits.{literals-negative, literals-positive}
+use Rattle.literals.proofs.Bits.{literals_negative, literals_positive}
 use Rattle.literals.specs.Literal.{negative, flip}
 use mathlib.Core.Path.{ap, ◌∙◌}
 use lib.IntN.{nat_abs}
@@ -34,7 +34,7 @@ returns c =
     let f = start.ranges.h in
     answer nat_abs flipped.result (sfits_of flipped.type-inv) c.variable.ensures
     ∙ ap nat_abs (answer flip h f flipped.ensures)
-    ∙ literals-negative h (answered negative h f is_negative.ensures c.before.before.if1.true)
+    ∙ literals_negative h (answered negative h f is_negative.ensures c.before.before.if1.true)
 
 returns-2 : tie.Need-returns-2
 returns-2 c =
@@ -42,7 +42,7 @@ returns-2 c =
     let h = start.args.h in
     let f = start.ranges.h in
     answer nat_abs h f c.variable2.ensures
-    ∙ literals-positive h (answered negative h f c.before.before.is_negative.ensures c.before.if1.false)
+    ∙ literals_positive h (answered negative h f c.before.before.is_negative.ensures c.before.if1.false)
 
 pub header-length-spec : {M : Type 1} → statement M
 header-length-spec =

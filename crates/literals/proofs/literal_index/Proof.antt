@@ -1,5 +1,5 @@
 use Rattle.literals.proofs.Laws.{answer, answered}
-use Rattle.literals.proofs.Bits.{index-negative, index-positive}
+use Rattle.literals.proofs.Bits.{index_negative, index_positive}
 use Rattle.literals.specs.Literal.{negative}
 use native.Mathlib.Omega.{arith}
 use lib.IntN.{nat_abs}
@@ -31,7 +31,7 @@ returns c =
     let l = start.args.l in
     let f = start.ranges.l in
     let e = answer nat_abs l f c.before.before.variable.ensures in
-    rw (index-negative l (answered negative l f c.before.is_negative.ensures c.if1.true)) (omega arith)
+    rw (index_negative l (answered negative l f c.before.is_negative.ensures c.if1.true)) (omega arith)
 
 returns-2 : tie.Need-returns-2
 returns-2 c =
@@ -39,7 +39,7 @@ returns-2 c =
     let l = start.args.l in
     let f = start.ranges.l in
     let e = answer nat_abs l f c.before.before.variable.ensures in
-    rw (index-positive l (answered negative l f c.before.is_negative.ensures c.if1.false)) (omega arith)
+    rw (index_positive l (answered negative l f c.before.is_negative.ensures c.if1.false)) (omega arith)
 
 pub literal-index-spec : {M : Type 1} → statement M
 literal-index-spec =

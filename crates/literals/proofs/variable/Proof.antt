@@ -1,5 +1,5 @@
 use Rattle.literals.proofs.Laws.{answer, answered}
-use Rattle.literals.proofs.Bits.{cast_fits, turned-cast, turned-variable, turned-add}
+use Rattle.literals.proofs.Bits.{cast_fits, turned_cast, turned_variable, turned_add}
 use Rattle.literals.specs.Literal.{negative, flip}
 use borrow.Author.Rules.{sfits_of, rules}
 use Rattle.literals.proofs.variable.Statement.{statement}
@@ -16,7 +16,7 @@ cast-result c =
     let start = c.before.before.before in
     let l = start.args.l in
     let f = start.ranges.l in
-    turned-cast l c.flipped.result f (sfits_of c.flipped.type-inv)
+    turned_cast l c.flipped.result f (sfits_of c.flipped.type-inv)
     (answered negative l f c.before.before.is_negative.ensures c.before.if1.true)
     (answer flip l f c.flipped.ensures)
 
@@ -25,7 +25,7 @@ add-result c =
     let start = c.before.before.before in
     let l = start.args.l in
     let f = start.ranges.l in
-    turned-add l c.flipped.result f (sfits_of c.flipped.type-inv)
+    turned_add l c.flipped.result f (sfits_of c.flipped.type-inv)
     (answered negative l f c.before.before.is_negative.ensures c.before.if1.true)
     (answer flip l f c.flipped.ensures)
 
@@ -40,7 +40,7 @@ returns c =
     let start = c.before.before.before in
     let l = start.args.l in
     let f = start.ranges.l in
-    turned-variable l c.flipped.result f (sfits_of c.flipped.type-inv)
+    turned_variable l c.flipped.result f (sfits_of c.flipped.type-inv)
     (answered negative l f c.before.before.is_negative.ensures c.before.if1.true)
     (answer flip l f c.flipped.ensures)
 

@@ -1,5 +1,5 @@
 use mathlib.Core.Path.{refl}
-use Rattle.log_texts.proofs.Workspace.{short-at-once, short-by-quotient}
+use Rattle.log_texts.proofs.Workspace.{short_at_once, short_by_quotient}
 use borrow.Author.Rules.{rules}
 use Rattle.log_texts.proofs.is_short.Statement.{statement}
 use Rattle.log_texts.proofs.is_short.Tie as tie
@@ -19,12 +19,12 @@ add-least-2 c = search rules
 returns : tie.Need-returns
 returns c =
     let start = c.before in
-    short-at-once start.args.size start.args.n start.args.g start.args.x _ refl c.if1.true
+    short_at_once start.args.size start.args.n start.args.g start.args.x _ refl c.if1.true
 
 returns-2 : tie.Need-returns-2
 returns-2 c =
     let start = c.before in
-    short-by-quotient start.args.size start.args.n start.args.g start.args.x _ refl c.if1.false
+    short_by_quotient start.args.size start.args.n start.args.g start.args.x _ refl c.if1.false
 
 pub is-short-spec : {M : Type 1} → statement M
 is-short-spec = tie.close (tie.spec mul-least mul-least-2 add-least add-least-2 returns returns-2)

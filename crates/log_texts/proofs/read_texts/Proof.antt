@@ -1,6 +1,6 @@
 use native.Mathlib.Omega.{arith}
 use mathlib.Core.Path.{refl, sym, ◌∙◌}
-use Rattle.log_texts.proofs.Handing.{words-fault, words-read, n-small, short-refused, lines-fit-work, handed-on}
+use Rattle.log_texts.proofs.Handing.{words_fault, words_read, n_small, short_refused, lines_fit_work, handed_on}
 use borrow.Author.Rules.{rules}
 use Rattle.log_texts.proofs.read_texts.Statement.{statement}
 use Rattle.log_texts.proofs.read_texts.Tie as tie
@@ -18,9 +18,9 @@ is-short-requires : tie.Need-is-short-requires
 is-short-requires c κs =
     let back = c.before.before.before.before.before.before in let read-words = back.read-words in
     let start = back.before.before.before.before.before.before.before in
-    n-small start.args.forward start.args.kept start.args.formula.now start.args.log.now
+    n_small start.args.forward start.args.kept start.args.formula.now start.args.log.now
     start.args.answer.now start.args.work.now _ _ _ _ _ _ _
-    (words-read start.args.forward start.args.kept start.args.formula.now start.args.log.now
+    (words_read start.args.forward start.args.kept start.args.formula.now start.args.log.now
     start.args.answer.now start.args.work.now _ _ read-words.result read-words.ensures _ _ _ _ _
     c.before.v.given.1)
 
@@ -35,9 +35,9 @@ returns c =
     let back = c.before.before.before in let v = back.v in
     let back = back.before.before.before.before.before in let read-words = back.read-words in
     let start = back.before.before.before.before.before.before.before in
-    short-refused start.args.forward start.args.kept start.args.formula.now start.args.log.now
+    short_refused start.args.forward start.args.kept start.args.formula.now start.args.log.now
     start.args.answer.now start.args.work.now _ _ _ _ _ _ _
-    (words-read start.args.forward start.args.kept start.args.formula.now start.args.log.now
+    (words_read start.args.forward start.args.kept start.args.formula.now start.args.log.now
     start.args.answer.now start.args.work.now _ _ read-words.result read-words.ensures _ _ _ _ _
     v.given.1) _ read-words.auto.1.1.1.1.1.0 (sym c.before.is-short.ensures ∙ c.if1.true)
 
@@ -52,9 +52,9 @@ add-t21 c =
     record {
       fits = omega (
         arith,
-        lines-fit-work start.args.forward start.args.kept start.args.formula.now start.args.log.now
+        lines_fit_work start.args.forward start.args.kept start.args.formula.now start.args.log.now
             start.args.answer.now start.args.work.now _ _ _ _ _ _ _
-            (words-read start.args.forward start.args.kept start.args.formula.now start.args.log.now
+            (words_read start.args.forward start.args.kept start.args.formula.now start.args.log.now
             start.args.answer.now start.args.work.now _ _ read-words.result read-words.ensures _ _ _ _
             _ v.given.1) _ read-words.auto.1.1.1.1.1.0
             (sym c.before.before.is-short.ensures ∙ c.before.if1.false),
@@ -71,7 +71,7 @@ returns-2 : tie.Need-returns-2
 returns-2 c =
     let back = c.before.before.before.before.before.before in let read-words = back.read-words in
     let start = back.before.before.before.before.before.before.before in
-    words-fault start.args.forward start.args.kept start.args.formula.now start.args.log.now
+    words_fault start.args.forward start.args.kept start.args.formula.now start.args.log.now
     start.args.answer.now start.args.work.now _ _ read-words.result read-words.ensures _
     c.before.k.given.1 _
 
@@ -86,9 +86,9 @@ returns-3 c =
     let back = c.before.before.before.before in let v = back.v in
     let back = back.before.before.before.before.before in let read-words = back.read-words in
     let start = back.before.before.before.before.before.before.before in
-    handed-on start.args.forward start.args.kept start.args.formula.now start.args.log.now
+    handed_on start.args.forward start.args.kept start.args.formula.now start.args.log.now
     start.args.answer.now start.args.work.now _ _ _ _ _ _ _
-    (words-read start.args.forward start.args.kept start.args.formula.now start.args.log.now
+    (words_read start.args.forward start.args.kept start.args.formula.now start.args.log.now
     start.args.answer.now start.args.work.now _ _ read-words.result read-words.ensures _ _ _ _ _
     v.given.1) _ read-words.auto.1.1.1.1.1.0
     (sym c.before.before.is-short.ensures ∙ c.before.if1.false) _ refl _ c.by_way.ensures (search rules)

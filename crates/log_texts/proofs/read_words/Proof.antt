@@ -1,5 +1,5 @@
 use native.Mathlib.Omega.{arith}
-use Rattle.log_texts.proofs.TextsRead.{says-formula, says-log, y-small, says-answer, says-read}
+use Rattle.log_texts.proofs.TextsRead.{says_formula, says_log, y_small, says_answer, says_read}
 use borrow.Author.Rules.{rules}
 use Rattle.log_texts.proofs.read_words.Statement.{statement}
 use Rattle.log_texts.proofs.read_words.Tie as tie
@@ -37,10 +37,10 @@ read-answer-requires c κs =
     let back = back.before.before.before in let read-log-behind = back.read-log-behind in
     let back = back.before.before.before in let v = back.v in
     let back = back.before.before.before in let read = back.read in
-    let back = back.before.before in let input-limits = back.input-limits in
+    let back = back.before.before in let input_limits = back.input_limits in
     let start = back.before.before.before.before.before in
-    let y = y-small start.args.forward start.args.kept start.args.formula.now start.args.log.now
-    start.args.answer.now start.args.work.now input-limits.result input-limits.ensures.0
+    let y = y_small start.args.forward start.args.kept start.args.formula.now start.args.log.now
+    start.args.answer.now start.args.work.now input_limits.result input_limits.ensures.0
     read.result read.ensures.0 _ read.ensures.1 _ _ _ _ v.given.1 read-log-behind.result _
     read-log-behind.ensures _ _ _ g.given.1 _ c.before.before.higher-variable.ensures _
     c.before.by_way.ensures in
@@ -58,10 +58,10 @@ same_length c = search rules
 returns : tie.Need-returns
 returns c =
     let back = c.before.before.before.before in let read = back.read in
-    let back = back.before.before in let input-limits = back.input-limits in
+    let back = back.before.before in let input_limits = back.input_limits in
     let start = back.before.before.before.before.before in
-    says-formula start.args.forward start.args.kept start.args.formula.now start.args.log.now
-    start.args.answer.now start.args.work.now input-limits.result input-limits.ensures.0
+    says_formula start.args.forward start.args.kept start.args.formula.now start.args.log.now
+    start.args.answer.now start.args.work.now input_limits.result input_limits.ensures.0
     read.result read.ensures.0 _ c.before.k.given.1
 
 same-length-2 : tie.Need-same-length-2
@@ -72,10 +72,10 @@ returns-2 c =
     let back = c.before.before.before.before in let read-log-behind = back.read-log-behind in
     let back = back.before.before.before in let v = back.v in
     let back = back.before.before.before in let read = back.read in
-    let back = back.before.before in let input-limits = back.input-limits in
+    let back = back.before.before in let input_limits = back.input_limits in
     let start = back.before.before.before.before.before in
-    says-log start.args.forward start.args.kept start.args.formula.now start.args.log.now
-    start.args.answer.now start.args.work.now input-limits.result input-limits.ensures.0
+    says_log start.args.forward start.args.kept start.args.formula.now start.args.log.now
+    start.args.answer.now start.args.work.now input_limits.result input_limits.ensures.0
     read.result read.ensures.0 _ read.ensures.1 _ _ _ _ v.given.1 read-log-behind.result _
     read-log-behind.ensures _ c.before.k2.given.1
 
@@ -94,10 +94,10 @@ returns-3 c =
     let back = back.before.before.before in let read-log-behind = back.read-log-behind in
     let back = back.before.before.before in let v = back.v in
     let back = back.before.before.before in let read = back.read in
-    let back = back.before.before in let input-limits = back.input-limits in
+    let back = back.before.before in let input_limits = back.input_limits in
     let start = back.before.before.before.before.before in
-    says-answer start.args.forward start.args.kept start.args.formula.now start.args.log.now
-    start.args.answer.now start.args.work.now input-limits.result input-limits.ensures.0
+    says_answer start.args.forward start.args.kept start.args.formula.now start.args.log.now
+    start.args.answer.now start.args.work.now input_limits.result input_limits.ensures.0
     read.result read.ensures.0 _ read.ensures.1 _ _ _ _ v.given.1 read-log-behind.result _
     read-log-behind.ensures _ _ _ g.given.1 _ higher-variable.ensures _ by_way.ensures _
     read_answer.result read_answer.ensures _ c.before.k3.given.1
@@ -117,10 +117,10 @@ returns-4 c =
     let back = back.before.before.before in let read-log-behind = back.read-log-behind in
     let back = back.before.before.before in let v = back.v in
     let back = back.before.before.before in let read = back.read in
-    let back = back.before.before in let input-limits = back.input-limits in
+    let back = back.before.before in let input_limits = back.input_limits in
     let start = back.before.before.before.before.before in
-    says-read start.args.forward start.args.kept start.args.formula.now start.args.log.now
-    start.args.answer.now start.args.work.now input-limits.result input-limits.ensures.0
+    says_read start.args.forward start.args.kept start.args.formula.now start.args.log.now
+    start.args.answer.now start.args.work.now input_limits.result input_limits.ensures.0
     read.result read.ensures.0 _ read.ensures.1 _ _ _ _ v.given.1 read-log-behind.result _
     read-log-behind.ensures _ _ _ g.given.1 _ higher-variable.ensures _ by_way.ensures _
     read_answer.result read_answer.ensures c.enum_told.given.1

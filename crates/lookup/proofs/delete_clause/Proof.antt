@@ -1,5 +1,5 @@
 use mathlib.Core.Path.{sym, ◌∙◌}
-use Rattle.lookup.proofs.Finding.{found_inside, deleted-found, deleted-none}
+use Rattle.lookup.proofs.Finding.{found_inside, deleted_found, deleted_none}
 use borrow.Author.Rules.{rules}
 use Rattle.lookup.proofs.delete_clause.Statement.{statement}
 use Rattle.lookup.proofs.delete_clause.Tie as tie
@@ -27,7 +27,7 @@ returns c =
     let back = c.before.before.before.before in let at = back.at in
     let back = back.before.before in let find = back.find in
     let start = back.before.before.before in
-    deleted-found start.requires.0 _ (sym find.ensures ∙ at.given.1) c.before.mark-deleted.ensures
+    deleted_found start.requires.0 _ (sym find.ensures ∙ at.given.1) c.before.mark-deleted.ensures
 
 same-length-2 : tie.Need-same-length-2
 same-length-2 c = search rules
@@ -35,7 +35,7 @@ same-length-2 c = search rules
 returns-2 : tie.Need-returns-2
 returns-2 c =
     let start = c.before.before.before.before.before in
-    deleted-none start.requires.0 _ (sym c.before.before.find.ensures ∙ c.enum_told.given.1)
+    deleted_none start.requires.0 _ (sym c.before.before.find.ensures ∙ c.enum_told.given.1)
 
 pub delete-clause-spec : {M : Type 1} → statement M
 delete-clause-spec =

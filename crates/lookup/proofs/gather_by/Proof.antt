@@ -3,7 +3,7 @@ use mathlib.Core.Path.{◌≡◌, refl, ◌∙◌}
 use Prim.Native.Nat.{◌-◌, ◌<◌}
 use native.Mathlib.Omega.{arith}
 use lib.ListN.{length, length-set}
-use Rattle.lookup.proofs.Gathering.{Gathered, gathered-start, gathered-readable, gathered-small, gathered-room, gathered-falls, gathered-more, gathered-all}
+use Rattle.lookup.proofs.Gathering.{Gathered, gathered_start, gathered_readable, gathered_small, gathered_room, gathered_falls, gathered_more, gathered_all}
 use Rattle.lookup.proofs.gather_by.Statement.{statement}
 use Rattle.lookup.proofs.gather_by.Tie as tie
 
@@ -30,10 +30,10 @@ loop-holds : tie.Need-loop-init invariant-loop decreases-loop
 loop-holds c =
     let back = c.before.before.before.before.before.before in let start-cursors = back.start-cursors in
     let start = back.before.before.before.before.before.before.before in
-    (refl, refl, refl, gathered-start start.requires.0 start-cursors.ensures c.latest.ensures)
+    (refl, refl, refl, gathered_start start.requires.0 start-cursors.ensures c.latest.ensures)
 
 sub-to : tie.Need-overflow-sub-to invariant-loop decreases-loop
-sub-to c = gathered-room c.before.loop.invariant.3 c.loop-test.true
+sub-to c = gathered_room c.before.loop.invariant.3 c.loop-test.true
 
 sub-list : tie.Need-overflow-sub-list invariant-loop decreases-loop
 sub-list c = omega (arith, c.loop-test.true)
@@ -41,20 +41,20 @@ sub-list c = omega (arith, c.loop-test.true)
 cast-list : tie.Need-overflow-cast-list invariant-loop decreases-loop
 cast-list c =
     let start = c.before.before.before.before.before.before.before.before.before.before.before.before.before.before.before in
-    record { fits = omega (arith, gathered-small c.before.loop.invariant.3 start.requires.0.indexed) }
+    record { fits = omega (arith, gathered_small c.before.loop.invariant.3 start.requires.0.indexed) }
 
 mul-list : tie.Need-overflow-mul-list invariant-loop decreases-loop
 mul-list c =
     let back = c.before in let loop = back.loop in
     let start = back.before.before.before.before.before.before.before.before.before.before.before.before.before.before in
     let h : loop.to - 1 < length start.args.list.now = omega
-    (arith, gathered-room loop.invariant.3 c.loop-test.true, loop.invariant.3.within, loop.invariant.0) in
+    (arith, gathered_room loop.invariant.3 c.loop-test.true, loop.invariant.3.within, loop.invariant.0) in
     search (rules, h)
 
 slice-write-list : tie.Need-slice-write-list invariant-loop decreases-loop
 slice-write-list c =
     let loop = c.before.loop in
-    omega (arith, gathered-room loop.invariant.3 c.loop-test.true, loop.invariant.3.within)
+    omega (arith, gathered_room loop.invariant.3 c.loop-test.true, loop.invariant.3.within)
 
 step-cursors-requires : tie.Need-step-cursors-requires invariant-loop decreases-loop
 step-cursors-requires c κs =
@@ -64,7 +64,7 @@ step-cursors-requires c κs =
       omega (arith, loop.invariant.1, start.requires.1.0, start-cursors.auto.1.1.1.1.0),
       omega (arith, loop.invariant.2, start.requires.1.1, start-cursors.auto.1.1.1.1.1.0),
       c.before.before.loop-test.true,
-      gathered-readable loop.invariant.3,
+      gathered_readable loop.invariant.3,
     )
 
 latest-requires-2 : tie.Need-latest-requires-2 invariant-loop decreases-loop
@@ -81,7 +81,7 @@ loop-less c =
     let back = c.before.before.before.before.before.before in let step-cursors = back.step-cursors in
     let back = back.before.before.before in let loop-test = back.loop-test in
     let loop = back.before.loop in
-    gathered-falls loop.invariant.3 loop-test.true refl step-cursors.ensures c.latest2.ensures
+    gathered_falls loop.invariant.3 loop-test.true refl step-cursors.ensures c.latest2.ensures
 
 loop-again : tie.Need-loop-preserved invariant-loop decreases-loop
 loop-again c =
@@ -91,7 +91,7 @@ loop-again c =
       length-set loop.list (loop.to - 1) (loop.next - 1) ∙ loop.invariant.0,
       step-cursors.auto.1.1.1.0 ∙ loop.invariant.1,
       step-cursors.auto.1.1.1.1.0 ∙ loop.invariant.2,
-      gathered-more loop.invariant.3 loop-test.true refl step-cursors.ensures c.latest2.ensures,
+      gathered_more loop.invariant.3 loop-test.true refl step-cursors.ensures c.latest2.ensures,
     )
 
 same_length : tie.Need-same-length invariant-loop decreases-loop
@@ -108,7 +108,7 @@ same-length-3 c =
     c.before.loop.invariant.2 ∙ start-cursors.auto.1.1.1.1.1.0
 
 returns : tie.Need-returns invariant-loop decreases-loop
-returns c = gathered-all c.before.loop.invariant.3 (omega (arith, c.loop-test.false))
+returns c = gathered_all c.before.loop.invariant.3 (omega (arith, c.loop-test.false))
 
 pub gather-by-spec : {M : Type 1} → statement M
 gather-by-spec =

@@ -3,7 +3,7 @@ use mathlib.Core.Path.{◌≡◌, ap, subst, ◌∙◌}
 use Prim.Native.Nat.{ℕ, ◌≤◌, ◌-◌, max}
 use native.Mathlib.Omega.{arith}
 use Rattle.lookup.specs.Cursors.{Latest}
-use Rattle.lookup.proofs.Cursors.{latest-none, latest-more}
+use Rattle.lookup.proofs.Cursors.{latest_none, latest_more}
 use Rattle.lookup.proofs.latest.Statement.{statement}
 use Rattle.lookup.proofs.latest.Tie as tie
 
@@ -14,7 +14,7 @@ abbrev decreases-loop : tie.decreases-loop
 decreases-loop places n most₀ i₀ most i = n - i
 
 loop-holds : tie.Need-loop-init invariant-loop decreases-loop
-loop-holds c = (omega arith, latest-none c.before.args.places.now)
+loop-holds c = (omega arith, latest_none c.before.args.places.now)
 
 entry-at-requires : tie.Need-entry-at-requires invariant-loop decreases-loop
 entry-at-requires c κs = search rules
@@ -35,7 +35,7 @@ loop-again : tie.Need-loop-preserved invariant-loop decreases-loop
 loop-again c =
     let loop = c.before.before.before.loop in (
       omega (arith, c.before.before.loop-test.true),
-      latest-more loop.invariant.1 (c.higher.ensures ∙ ap (max loop.most) c.before.entry_at.ensures),
+      latest_more loop.invariant.1 (c.higher.ensures ∙ ap (max loop.most) c.before.entry_at.ensures),
     )
 
 returns : tie.Need-returns invariant-loop decreases-loop

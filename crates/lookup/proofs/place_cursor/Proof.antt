@@ -1,5 +1,5 @@
 use native.Mathlib.Omega.{arith}
-use Rattle.lookup.proofs.Cursors.{shown-asked, shown-small, placed_by}
+use Rattle.lookup.proofs.Cursors.{shown_asked, shown_small, placed_by}
 use borrow.Author.Rules.{rules}
 use Rattle.lookup.proofs.place_cursor.Statement.{statement}
 use Rattle.lookup.proofs.place_cursor.Tie as tie
@@ -17,10 +17,10 @@ slice-write-cursors : tie.Need-slice-write-cursors
 slice-write-cursors c = search rules
 
 shown-requires : tie.Need-shown-requires
-shown-requires c κs = shown-asked c.standing-before.ensures.readable
+shown-requires c κs = shown_asked c.standing_before.ensures.readable
 
 cast-places : tie.Need-overflow-cast-places
-cast-places c = record { fits = omega (arith, shown-small c.before.standing-before.ensures.readable, c.shown.ensures) }
+cast-places c = record { fits = omega (arith, shown_small c.before.standing_before.ensures.readable, c.shown.ensures) }
 
 mul-places : tie.Need-overflow-mul-places
 mul-places c = search rules
@@ -38,7 +38,7 @@ returns : tie.Need-returns
 returns c =
     let start = c.before.before.before.before in
     placed_by start.args.i start.args.cursors.now start.args.places.now
-    c.before.standing-before.ensures c.shown.ensures
+    c.before.standing_before.ensures c.shown.ensures
 
 pub place-cursor-spec : {M : Type 1} → statement M
 place-cursor-spec =

@@ -1,7 +1,7 @@
 use mathlib.Core.Path.{sym, ap, ◌∙◌}
 use Prim.Native.Nat.{ℕ, ◌+◌}
 use native.Mathlib.Omega.{arith}
-use Rattle.lookup.proofs.Cursors.{shown-none, shown-node}
+use Rattle.lookup.proofs.Cursors.{shown_none, shown_node}
 use borrow.Author.Rules.{rules}
 use Rattle.lookup.proofs.shown.Statement.{statement}
 use Rattle.lookup.proofs.shown.Tie as tie
@@ -9,7 +9,7 @@ use Rattle.lookup.proofs.shown.Tie as tie
 returns : tie.Need-returns
 returns c =
     let start = c.before in
-    sym (shown-none start.args.work.now start.args.node c.if1.true)
+    sym (shown_none start.args.work.now start.args.node c.if1.true)
 
 place-at-requires : tie.Need-place-at-requires
 place-at-requires c κs = search rules
@@ -21,7 +21,7 @@ returns-2 : tie.Need-returns-2
 returns-2 c =
     let start = c.before.before in
     ap (λ (k : ℕ). k + 1) c.place_at.ensures
-    ∙ sym (shown-node start.args.work.now start.args.node (omega (arith, c.before.if1.false)))
+    ∙ sym (shown_node start.args.work.now start.args.node (omega (arith, c.before.if1.false)))
 
 pub shown-spec : {M : Type 1} → statement M
 shown-spec = tie.close (tie.spec returns place-at-requires add-result returns-2)

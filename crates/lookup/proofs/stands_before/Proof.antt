@@ -2,7 +2,7 @@ use borrow.Author.Rules.{sfits_of, rules}
 use Rattle.literals.specs.Literal.{negative}
 use Rattle.literals.proofs.Laws.{answered}
 use Rattle.store.specs.Store.{header_at}
-use Rattle.lookup.proofs.Cursors.{stands-not, stands_by}
+use Rattle.lookup.proofs.Cursors.{stands_not, stands_by}
 use Rattle.lookup.proofs.stands_before.Statement.{statement}
 use Rattle.lookup.proofs.stands_before.Tie as tie
 
@@ -22,7 +22,7 @@ returns : tie.Need-returns
 returns c =
     let back = c.before.before.before in let place_at = back.place_at in
     let start = back.before in
-    stands-not start.args.work.now start.args.node start.args.before place_at.result
+    stands_not start.args.work.now start.args.node start.args.before place_at.result
     place_at.ensures
     (answered negative (header_at start.args.work.now place_at.result)
     (sfits_of c.before.before.is-negative-arg.given) c.before.is_negative.ensures c.if1.true)

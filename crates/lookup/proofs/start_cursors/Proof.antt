@@ -4,9 +4,9 @@ use Prim.Native.Nat.{◌≤◌, ◌-◌}
 use native.Mathlib.Omega.{arith}
 use lib.IntN.{pos}
 use lib.ListN.{length, get_or}
-use Rattle.literals.proofs.Laws.{answer-negated}
+use Rattle.literals.proofs.Laws.{answer_negated}
 use Rattle.tables.specs.Entries.{entry_of}
-use Rattle.lookup.proofs.Cursors.{Starting, starting-none, starting-more, starting-all, last-readable}
+use Rattle.lookup.proofs.Cursors.{Starting, starting_none, starting_more, starting_all, last_readable}
 use Rattle.lookup.proofs.start_cursors.Statement.{statement}
 use Rattle.lookup.proofs.start_cursors.Tie as tie
 
@@ -17,7 +17,7 @@ abbrev decreases-loop : tie.decreases-loop
 decreases-loop work newest start choice cursors₀ places₀ i₀ cursors places i = length choice - i
 
 loop-holds : tie.Need-loop-init invariant-loop decreases-loop
-loop-holds c = (omega arith, refl, refl, starting-none)
+loop-holds c = (omega arith, refl, refl, starting_none)
 
 mul-negated : tie.Need-overflow-mul-negated invariant-loop decreases-loop
 mul-negated c = search rules
@@ -38,8 +38,8 @@ place-cursor-requires c κs =
     let back = back.before in let loop-test = back.loop-test in
     let back = back.before in let loop = back.loop in
     let start = back.before.before.before.before in (
-      last-readable start.requires.0.1 loop.i loop-test.true
-          (answer-negated (entry_of start.args.newest.now) (get_or start.args.choice.now loop.i (pos 0))
+      last_readable start.requires.0.1 loop.i loop-test.true
+          (answer_negated (entry_of start.args.newest.now) (get_or start.args.choice.now loop.i (pos 0))
           (sfits_of negated-arg.given) (sfits_of negated.type-inv) negated.ensures
           c.before.before.last-node.ensures) start.requires.0.0.indexed,
       omega (arith, loop-test.true, start.requires.1.0, loop.invariant.1),
@@ -64,8 +64,8 @@ loop-again c =
       omega (arith, loop-test.true),
       place-cursor.auto.1.1.1.1.0 ∙ loop.invariant.1,
       place-cursor.auto.1.1.1.1.1.0 ∙ loop.invariant.2,
-      starting-more start.requires.0.1 loop.i loop-test.true
-          (answer-negated (entry_of start.args.newest.now) (get_or start.args.choice.now loop.i (pos 0))
+      starting_more start.requires.0.1 loop.i loop-test.true
+          (answer_negated (entry_of start.args.newest.now) (get_or start.args.choice.now loop.i (pos 0))
           (sfits_of negated-arg.given) (sfits_of negated.type-inv) negated.ensures last-node.ensures)
           (omega (arith, loop-test.true, start.requires.1.0, loop.invariant.1))
           (omega (arith, loop-test.true, start.requires.1.1, loop.invariant.2)) loop.invariant.3 place-cursor.ensures,
@@ -80,7 +80,7 @@ same-length-2 c = search rules
 returns : tie.Need-returns invariant-loop decreases-loop
 returns c =
     let loop = c.before.loop in
-    starting-all (omega (arith, loop.invariant.0, c.loop-test.false)) loop.invariant.3
+    starting_all (omega (arith, loop.invariant.0, c.loop-test.false)) loop.invariant.3
 
 pub start-cursors-spec : {M : Type 1} → statement M
 start-cursors-spec =

@@ -1,7 +1,7 @@
 use mathlib.Core.Path.{sym, subst, ◌∙◌}
 use Prim.Native.Nat.{ℕ}
 use Rattle.lookup.specs.Cursors.{Readable}
-use Rattle.lookup.proofs.Cursors.{stepped-there, stepped-elsewhere}
+use Rattle.lookup.proofs.Cursors.{stepped_there, stepped_elsewhere}
 use borrow.Author.Rules.{rules}
 use Rattle.lookup.proofs.step_cursor.Statement.{statement}
 use Rattle.lookup.proofs.step_cursor.Tie as tie
@@ -42,7 +42,7 @@ returns c =
     let back = back.before.before.before in let entry-at2 = back.entry-at2 in
     let back = back.before.before in let if1 = back.if1 in
     let entry_at = back.before.entry_at in
-    stepped-there entry-at2.ensures (sym entry_at.ensures ∙ if1.true) place-cursor.ensures
+    stepped_there entry-at2.ensures (sym entry_at.ensures ∙ if1.true) place-cursor.ensures
 
 same-length-3 : tie.Need-same-length-3
 same-length-3 c = search rules
@@ -50,7 +50,7 @@ same-length-3 c = search rules
 returns-2 : tie.Need-returns-2
 returns-2 c =
     let start = c.before.before.before.before.before in
-    stepped-elsewhere start.args.work.now start.args.next start.args.i start.args.cursors.now
+    stepped_elsewhere start.args.work.now start.args.next start.args.i start.args.cursors.now
     start.args.places.now (λ e. c.if1.false (c.before.entry_at.ensures ∙ e))
 
 pub step-cursor-spec : {M : Type 1} → statement M

@@ -4,7 +4,7 @@ use Prim.Native.Nat.{ℕ, ◌≤◌, ◌-◌}
 use native.Mathlib.Omega.{arith}
 use lib.ListN.{length}
 use Rattle.lookup.specs.Cursors.{Readable}
-use Rattle.lookup.proofs.Cursors.{Stepping, stepping-none, stepping-more, stepping-all}
+use Rattle.lookup.proofs.Cursors.{Stepping, stepping_none, stepping_more, stepping_all}
 use Rattle.lookup.proofs.step_cursors.Statement.{statement}
 use Rattle.lookup.proofs.step_cursors.Tie as tie
 
@@ -20,7 +20,7 @@ loop-holds c =
       omega arith,
       refl,
       refl,
-      stepping-none start.args.work.now start.args.n start.args.next start.args.cursors.now
+      stepping_none start.args.work.now start.args.n start.args.next start.args.cursors.now
           start.args.places.now,
     )
 
@@ -32,7 +32,7 @@ step-cursor-requires c κs =
       omega (arith, loop-test.true, start.requires.0, loop.invariant.1),
       omega (arith, loop-test.true, start.requires.1, loop.invariant.2),
       start.requires.2,
-      subst (λ (k : ℕ). Readable start.args.work.now k) (sym (loop.invariant.3.cursors-left loop.i (omega arith)))
+      subst (λ (k : ℕ). Readable start.args.work.now k) (sym (loop.invariant.3.cursors_left loop.i (omega arith)))
           (start.requires.3 loop.i loop-test.true),
     )
 
@@ -51,7 +51,7 @@ loop-again c =
       omega (arith, loop-test.true),
       step-cursor.auto.1.1.1.0 ∙ loop.invariant.1,
       step-cursor.auto.1.1.1.1.0 ∙ loop.invariant.2,
-      stepping-more (omega (arith, loop-test.true, start.requires.0, loop.invariant.1))
+      stepping_more (omega (arith, loop-test.true, start.requires.0, loop.invariant.1))
           (omega (arith, loop-test.true, start.requires.1, loop.invariant.2)) loop-test.true loop.invariant.3
           step-cursor.ensures,
     )
@@ -65,7 +65,7 @@ same-length-2 c = search rules
 returns : tie.Need-returns invariant-loop decreases-loop
 returns c =
     let loop = c.before.loop in
-    stepping-all (omega (arith, loop.invariant.0, c.loop-test.false)) loop.invariant.3
+    stepping_all (omega (arith, loop.invariant.0, c.loop-test.false)) loop.invariant.3
 
 pub step-cursors-spec : {M : Type 1} → statement M
 step-cursors-spec =

@@ -1,5 +1,5 @@
 use borrow.Author.Rules.{rules}
-use Rattle.marks.proofs.Words.{and-without-mark, past-without-mark}
+use Rattle.marks.proofs.Words.{and_without_mark, past_without_mark}
 use Rattle.marks.proofs.clear.Statement.{statement}
 use Rattle.marks.proofs.clear.Tie as tie
 
@@ -28,13 +28,13 @@ returns : tie.Need-returns
 returns c =
     let start = c.before.before.before.before.before in
     let word_of = c.before.before.before.word_of in
-    and-without-mark start.args.marks.now start.args.v word_of.result c.mark_of.result word_of.ensures c.mark_of.ensures (search rules)
+    and_without_mark start.args.marks.now start.args.v word_of.result c.mark_of.result word_of.ensures c.mark_of.ensures (search rules)
 
 returns-2 : tie.Need-returns-2
 returns-2 c =
     let start = c.before.before.before in
     let word_of = c.before.word_of in
-    past-without-mark start.args.marks.now start.args.v word_of.result word_of.ensures (search rules)
+    past_without_mark start.args.marks.now start.args.v word_of.result word_of.ensures (search rules)
 
 pub clear_spec : {M : Type 1} → statement M
 clear_spec =

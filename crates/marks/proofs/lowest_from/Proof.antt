@@ -1,5 +1,5 @@
 use borrow.Author.Rules.{rules}
-use Rattle.marks.proofs.Words.{lowest-at, lowest-nothing}
+use Rattle.marks.proofs.Words.{lowest_at, lowest_nothing}
 use Rattle.marks.proofs.lowest_from.Statement.{statement}
 use Rattle.marks.proofs.lowest_from.Tie as tie
 
@@ -28,14 +28,14 @@ returns : tie.Need-returns
 returns c =
     let first_word = c.before.before.before.first_word in
     let start = c.before.before.before.before.before in
-    lowest-at start.args.marks.now start.args.from first_word.result first_word.ensures.0 first_word.ensures.1.0
+    lowest_at start.args.marks.now start.args.from first_word.result first_word.ensures.0 first_word.ensures.1.0
     c.lowest-in.result c.lowest-in.ensures.0 c.lowest-in.ensures.1.0 c.lowest-in.ensures.1.1
 
 returns-2 : tie.Need-returns-2
 returns-2 c =
     let first_word = c.before.first_word in
     let start = c.before.before.before in
-    lowest-nothing start.args.marks.now start.args.from first_word.result first_word.ensures.0 first_word.ensures.1.0 (search rules)
+    lowest_nothing start.args.marks.now start.args.from first_word.result first_word.ensures.0 first_word.ensures.1.0 (search rules)
 
 pub lowest-from-spec : {M : Type 1} → statement M
 lowest-from-spec =

@@ -1,5 +1,5 @@
 use borrow.Author.Rules.{rules}
-use Rattle.marks.proofs.Words.{or-with-mark}
+use Rattle.marks.proofs.Words.{or_with_mark}
 use Rattle.marks.proofs.set.Statement.{statement}
 use Rattle.marks.proofs.set.Tie as tie
 
@@ -28,7 +28,7 @@ returns : tie.Need-returns
 returns c =
     let start = c.before.before.before.before in
     let word_of = c.before.before.word_of in
-    or-with-mark start.args.marks.now start.args.v word_of.result c.mark_of.result word_of.ensures
+    or_with_mark start.args.marks.now start.args.v word_of.result c.mark_of.result word_of.ensures
     c.mark_of.ensures (search rules)
 
 pub set_spec : {M : Type 1} → statement M

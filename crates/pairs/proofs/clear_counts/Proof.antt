@@ -2,7 +2,7 @@ use mathlib.Core.Path.{sym}
 use native.Mathlib.Omega.{arith}
 use lib.Seq.{length-take-le}
 use borrow.Author.Rules.{rules}
-use Rattle.pairs.proofs.Clearing.{counts-cleared}
+use Rattle.pairs.proofs.Clearing.{counts_cleared}
 use Rattle.pairs.proofs.clear_counts.Statement.{statement}
 use Rattle.pairs.proofs.clear_counts.Tie as tie
 
@@ -25,7 +25,7 @@ returns : tie.Need-returns
 returns c =
     let back = c.before.before in let clear = back.clear in
     let start = back.before.before.before in
-    counts-cleared start.requires.0 start.requires.1 clear.new.0 clear.auto.0 clear.ensures
+    counts_cleared start.requires.0 start.requires.1 clear.new.0 clear.auto.0 clear.ensures
 
 pub clear-counts-spec : {M : Type 1} → statement M
 clear-counts-spec =

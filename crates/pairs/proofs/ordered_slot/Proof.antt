@@ -1,5 +1,5 @@
 use mathlib.Core.Path.{sym}
-use Rattle.pairs.proofs.Slots.{ordered_at, ordered-zero, ordered-not, ordered-high}
+use Rattle.pairs.proofs.Slots.{ordered_at, ordered_zero, ordered_not, ordered_high}
 use borrow.Author.Rules.{rules}
 use Rattle.pairs.proofs.ordered_slot.Statement.{statement}
 use Rattle.pairs.proofs.ordered_slot.Tie as tie
@@ -24,17 +24,17 @@ returns c =
 returns-2 : tie.Need-returns-2
 returns-2 c =
     let start = c.before.before.before in
-    sym (ordered-high start.args.a start.args.b (search rules) (search rules) (search rules))
+    sym (ordered_high start.args.a start.args.b (search rules) (search rules) (search rules))
 
 returns-3 : tie.Need-returns-3
 returns-3 c =
     let start = c.before.before in
-    sym (ordered-not start.args.a start.args.b (search rules) (search rules))
+    sym (ordered_not start.args.a start.args.b (search rules) (search rules))
 
 returns-4 : tie.Need-returns-4
 returns-4 c =
     let start = c.before in
-    sym (ordered-zero start.args.a start.args.b (search rules))
+    sym (ordered_zero start.args.a start.args.b (search rules))
 
 pub ordered-slot-spec : {M : Type 1} → statement M
 ordered-slot-spec =

@@ -3,7 +3,7 @@ use lib.IntN.{pos}
 use lib.ListN.{get_or}
 use Rattle.literals.proofs.Laws.{answer}
 use Rattle.tables.specs.Places.{place_in}
-use Rattle.pairs.proofs.Slots.{slot-first, slot-second, slot-long}
+use Rattle.pairs.proofs.Slots.{slot_first, slot_second, slot_long}
 use borrow.Author.Rules.{sfits_of, rules}
 use Rattle.pairs.proofs.pair_slot.Statement.{statement}
 use Rattle.pairs.proofs.pair_slot.Tie as tie
@@ -36,12 +36,12 @@ returns c =
     let back = back.before in let place-of-arg = back.place-of-arg in
     let back = back.before in let if1 = back.if1 in
     let start = back.before.before in
-    slot-first start.args.places.now start.args.clause.now if1.true
+    slot_first start.args.places.now start.args.clause.now if1.true
     (answer (place_in start.args.places.now) (get_or start.args.clause.now 0 (pos 0))
     (sfits_of place-of-arg.given) place_of.ensures)
     (answer (place_in start.args.places.now) (get_or start.args.clause.now 1 (pos 0))
     (sfits_of place-of-arg2.given) c.before.before.place-of2.ensures) c.before.if2.true
-    c.ordered-slot.ensures
+    c.ordered_slot.ensures
 
 ordered-slot-requires-2 : tie.Need-ordered-slot-requires-2
 ordered-slot-requires-2 c κs = search rules
@@ -53,7 +53,7 @@ returns-2 c =
     let back = back.before in let place-of-arg = back.place-of-arg in
     let back = back.before in let if1 = back.if1 in
     let start = back.before.before in
-    slot-second start.args.places.now start.args.clause.now if1.true
+    slot_second start.args.places.now start.args.clause.now if1.true
     (answer (place_in start.args.places.now) (get_or start.args.clause.now 0 (pos 0))
     (sfits_of place-of-arg.given) place_of.ensures)
     (answer (place_in start.args.places.now) (get_or start.args.clause.now 1 (pos 0))
@@ -63,7 +63,7 @@ returns-2 c =
 returns-3 : tie.Need-returns-3
 returns-3 c =
     let start = c.before.before in
-    sym (slot-long start.args.places.now start.args.clause.now c.if1.false)
+    sym (slot_long start.args.places.now start.args.clause.now c.if1.false)
 
 pub pair-slot-spec : {M : Type 1} → statement M
 pair-slot-spec =

@@ -1,6 +1,6 @@
 use mathlib.Core.Path.{refl, sym}
 use borrow.Author.Rules.{sfits_of, rules}
-use Rattle.pairs.proofs.Lines.{written_as, room_as, cell-is}
+use Rattle.pairs.proofs.Lines.{written_as, room_as, cell_is}
 use Rattle.pairs.proofs.record_cell.Statement.{statement}
 use Rattle.pairs.proofs.record_cell.Tie as tie
 
@@ -45,7 +45,7 @@ record-times-requires c κs =
       refl,
       room_as start.requires.1
           (sym
-          (cell-is start.args.counts.now start.args.choice.now start.args.i start.args.j
+          (cell_is start.args.counts.now start.args.choice.now start.args.i start.args.j
           entry_at.ensures (sfits_of negated-arg.given) (sfits_of negated-arg2.given) (sfits_of negated.type-inv)
           (sfits_of negated2.type-inv) negated.ensures negated2.ensures)),
     )
@@ -63,7 +63,7 @@ returns c =
     let back = back.before in let entry_at = back.entry_at in
     let start = back.before.before.before in (
       written_as record-times.ensures.0
-          (cell-is start.args.counts.now start.args.choice.now start.args.i start.args.j
+          (cell_is start.args.counts.now start.args.choice.now start.args.i start.args.j
           entry_at.ensures (sfits_of negated-arg.given) (sfits_of negated-arg2.given) (sfits_of negated.type-inv)
           (sfits_of negated2.type-inv) negated.ensures negated2.ensures),
       record-times.ensures.1,

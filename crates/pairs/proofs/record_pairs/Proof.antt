@@ -2,16 +2,16 @@ use mathlib.Core.Path.{◌≡◌, refl, ap, ◌∙◌}
 use Prim.Native.Nat.{ℕ, ◌-◌, ◌≤◌}
 use native.Mathlib.Omega.{arith}
 use lib.ListN.{length}
-use Rattle.definition.specs.Lists.{for-from}
+use Rattle.definition.specs.Lists.{for_from}
 use Rattle.progress.specs.Progress.{Written}
-use Rattle.progress.proofs.Laws.{written-length}
-use Rattle.pairs.specs.Pairs.{row-lines}
-use Rattle.pairs.proofs.Lines.{written_as, written_start, room-turn, written-turn}
+use Rattle.progress.proofs.Laws.{written_length}
+use Rattle.pairs.specs.Pairs.{row_lines}
+use Rattle.pairs.proofs.Lines.{written_as, written_start, room_turn, written_turn}
 use Rattle.pairs.proofs.record_pairs.Statement.{statement}
 use Rattle.pairs.proofs.record_pairs.Tie as tie
 
 abbrev invariant-loop : tie.invariant-loop
-invariant-loop log₀ counts choice q₀ i₀ log q i = (i ≤ length choice) × (q.end ≡ q₀.end) × Written (for-from 0 (i - 0) (row-lines counts choice)) log₀ q₀ log q
+invariant-loop log₀ counts choice q₀ i₀ log q i = (i ≤ length choice) × (q.end ≡ q₀.end) × Written (for_from 0 (i - 0) (row_lines counts choice)) log₀ q₀ log q
 
 abbrev decreases-loop : tie.decreases-loop
 decreases-loop log₀ counts choice q₀ i₀ log q i = length choice - i
@@ -21,7 +21,7 @@ loop-holds c =
     let start = c.before.before in (
       omega arith,
       refl,
-      written_start 0 0 (row-lines start.args.counts.now start.args.choice.now)
+      written_start 0 0 (row_lines start.args.counts.now start.args.choice.now)
           start.args.log.now start.args.p (omega arith),
     )
 
@@ -31,8 +31,8 @@ record-row-requires c κs =
     let back = back.before in let loop = back.loop in
     let start = back.before.before.before in (
       (loop-test.true, start.requires.0),
-      room-turn 0 (length start.args.choice.now) loop.i
-          (row-lines start.args.counts.now start.args.choice.now) (omega arith)
+      room_turn 0 (length start.args.choice.now) loop.i
+          (row_lines start.args.counts.now start.args.choice.now) (omega arith)
           (omega (arith, loop-test.true)) start.requires.1 loop.invariant.2,
     )
 
@@ -55,13 +55,13 @@ loop-again c =
     let start = back.before.before.before in (
       omega (arith, loop-test.true),
       record-row.ensures.1 ∙ loop.invariant.1,
-      written-turn 0 loop.i
-          (row-lines start.args.counts.now start.args.choice.now) (omega arith)
+      written_turn 0 loop.i
+          (row_lines start.args.counts.now start.args.choice.now) (omega arith)
           loop.invariant.2 record-row.ensures.0,
     )
 
 same_length : tie.Need-same-length invariant-loop decreases-loop
-same_length c = written-length c.before.loop.invariant.2
+same_length c = written_length c.before.loop.invariant.2
 
 returns : tie.Need-returns invariant-loop decreases-loop
 returns c =
@@ -70,8 +70,8 @@ returns c =
     let e : loop.i - 0 ≡ length start.args.choice.now = omega (arith, loop.invariant.0, c.loop-test.false) in (
       written_as loop.invariant.2
           (ap
-          (λ (k : ℕ). for-from 0 k
-          (row-lines start.args.counts.now start.args.choice.now)) e),
+          (λ (k : ℕ). for_from 0 k
+          (row_lines start.args.counts.now start.args.choice.now)) e),
       loop.invariant.1,
     )
 

@@ -2,16 +2,16 @@ use mathlib.Core.Path.{◌≡◌, refl, ap, ◌∙◌}
 use Prim.Native.Nat.{ℕ, suc, ◌-◌, ◌≤◌}
 use native.Mathlib.Omega.{arith}
 use lib.ListN.{length}
-use Rattle.definition.specs.Lists.{for-from}
+use Rattle.definition.specs.Lists.{for_from}
 use Rattle.progress.specs.Progress.{Written}
-use Rattle.progress.proofs.Laws.{written-length}
-use Rattle.pairs.specs.Pairs.{cell-lines}
-use Rattle.pairs.proofs.Lines.{written_as, written_start, room-turn, written-turn}
+use Rattle.progress.proofs.Laws.{written_length}
+use Rattle.pairs.specs.Pairs.{cell_lines}
+use Rattle.pairs.proofs.Lines.{written_as, written_start, room_turn, written_turn}
 use Rattle.pairs.proofs.record_row.Statement.{statement}
 use Rattle.pairs.proofs.record_row.Tie as tie
 
 abbrev invariant-loop : tie.invariant-loop
-invariant-loop log₀ counts choice i q₀ j₀ log q j = (suc i ≤ j) × (j ≤ length choice) × (q.end ≡ q₀.end) × Written (for-from (suc i) (j - suc i) (cell-lines counts choice i)) log₀ q₀ log q
+invariant-loop log₀ counts choice i q₀ j₀ log q j = (suc i ≤ j) × (j ≤ length choice) × (q.end ≡ q₀.end) × Written (for_from (suc i) (j - suc i) (cell_lines counts choice i)) log₀ q₀ log q
 
 abbrev decreases-loop : tie.decreases-loop
 decreases-loop log₀ counts choice i q₀ j₀ log q j = length choice - j
@@ -28,7 +28,7 @@ loop-holds c =
       omega (arith, start.requires.0.0),
       refl,
       written_start (suc start.args.i) _
-          (cell-lines start.args.counts.now start.args.choice.now
+          (cell_lines start.args.counts.now start.args.choice.now
           start.args.i) start.args.log.now start.args.p (omega arith),
     )
 
@@ -38,8 +38,8 @@ record-cell-requires c κs =
     let back = back.before in let loop = back.loop in
     let start = back.before.before.before in (
       (omega (arith, loop.invariant.0), loop-test.true, start.requires.0.1),
-      room-turn (suc start.args.i) (length start.args.choice.now - suc start.args.i) loop.j
-          (cell-lines start.args.counts.now start.args.choice.now
+      room_turn (suc start.args.i) (length start.args.choice.now - suc start.args.i) loop.j
+          (cell_lines start.args.counts.now start.args.choice.now
           start.args.i) loop.invariant.0 (omega (arith, loop.invariant.0, loop-test.true)) start.requires.1
           loop.invariant.3,
     )
@@ -64,13 +64,13 @@ loop-again c =
       omega (arith, loop.invariant.0),
       omega (arith, loop-test.true),
       record-cell.ensures.1 ∙ loop.invariant.2,
-      written-turn (suc start.args.i) loop.j
-          (cell-lines start.args.counts.now start.args.choice.now
+      written_turn (suc start.args.i) loop.j
+          (cell_lines start.args.counts.now start.args.choice.now
           start.args.i) loop.invariant.0 loop.invariant.3 record-cell.ensures.0,
     )
 
 same_length : tie.Need-same-length invariant-loop decreases-loop
-same_length c = written-length c.before.loop.invariant.3
+same_length c = written_length c.before.loop.invariant.3
 
 returns : tie.Need-returns invariant-loop decreases-loop
 returns c =
@@ -79,8 +79,8 @@ returns c =
     let e : loop.j ≡ length start.args.choice.now = omega (arith, loop.invariant.1, c.loop-test.false) in (
       written_as loop.invariant.3
           (ap
-          (λ (k : ℕ). for-from (suc start.args.i) (k - suc start.args.i)
-          (cell-lines start.args.counts.now start.args.choice.now
+          (λ (k : ℕ). for_from (suc start.args.i) (k - suc start.args.i)
+          (cell_lines start.args.counts.now start.args.choice.now
           start.args.i)) e),
       loop.invariant.2,
     )

@@ -5,8 +5,8 @@ use lib.ListN.{replicate}
 use borrow.Author.Rules.{rules}
 use Rattle.definition.specs.Standing.{deletion}
 use Rattle.progress.specs.Progress.{Written}
-use Rattle.progress.proofs.Laws.{written_none, written-length}
-use Rattle.pairs.proofs.Lines.{written_as, room-again, written-again}
+use Rattle.progress.proofs.Laws.{written_none, written_length}
+use Rattle.pairs.proofs.Lines.{written_as, room_again, written_again}
 use Rattle.pairs.proofs.record_times.Statement.{statement}
 use Rattle.pairs.proofs.record_times.Tie as tie
 
@@ -25,7 +25,7 @@ record-line-requires : tie.Need-record-line-requires invariant-loop decreases-lo
 record-line-requires c κs =
     let back = c.before.before in let loop = back.loop in
     let start = back.before.before in
-    let room = room-again loop.done start.args.times (deletion start.args.pair.now)
+    let room = room_again loop.done start.args.times (deletion start.args.pair.now)
     c.before.loop-test.true start.requires.1 loop.invariant.2 in
     (omega (arith, room.text, start.requires.0), omega (arith, room.count))
 
@@ -42,11 +42,11 @@ loop-again c =
     let start = back.before.before in (
       search rules,
       record-line.ensures.1 ∙ loop.invariant.1,
-      written-again loop.done (deletion start.args.pair.now) loop.invariant.2 record-line.ensures.0,
+      written_again loop.done (deletion start.args.pair.now) loop.invariant.2 record-line.ensures.0,
     )
 
 same_length : tie.Need-same-length invariant-loop decreases-loop
-same_length c = written-length c.before.loop.invariant.2
+same_length c = written_length c.before.loop.invariant.2
 
 returns : tie.Need-returns invariant-loop decreases-loop
 returns c =

@@ -3,8 +3,8 @@ use borrow.Author.Rules.{sfits_of, rules}
 use Rattle.literals.specs.Literal.{negative}
 use Rattle.literals.proofs.Laws.{answered}
 use Rattle.store.specs.Store.{header_at}
-use Rattle.store.proofs.Laws.{formed-next}
-use Rattle.pairs.proofs.Taking.{step-deleted, step-pair, step_other}
+use Rattle.store.proofs.Laws.{formed_next}
+use Rattle.pairs.proofs.Taking.{step_deleted, step_pair, step_other}
 use Rattle.pairs.proofs.take_pair.Statement.{statement}
 use Rattle.pairs.proofs.take_pair.Tie as tie
 
@@ -20,15 +20,15 @@ is-negative-requires c κs = search rules
 returns : tie.Need-returns
 returns c =
     let start = c.before.before.before.before.before in
-    step-deleted start.args.places.now start.args.store.now start.args.at start.args.counts.now
+    step_deleted start.args.places.now start.args.store.now start.args.at start.args.counts.now
     (answered negative (header_at start.args.store.now start.args.at)
     (sfits_of c.before.before.is-negative-arg.given) c.before.is_negative.ensures c.if1.true)
 
 next-at-requires : tie.Need-next-at-requires
 next-at-requires c κs = search rules
 
-add-first : tie.Need-overflow-add-first
-add-first c = search rules
+add_first : tie.Need-overflow-add-first
+add_first c = search rules
 
 mul-pair-slot : tie.Need-overflow-mul-pair-slot
 mul-pair-slot c = search rules
@@ -45,7 +45,7 @@ part-pair-slot-end c =
     omega (
       arith,
       c.before.next-at.ensures,
-      (formed-next start.args.store.now start.args.at start.requires.0 start.requires.1).0,
+      (formed_next start.args.store.now start.args.at start.requires.0 start.requires.1).0,
     )
 
 pair-slot-requires : tie.Need-pair-slot-requires
@@ -73,7 +73,7 @@ returns-2 c =
     let back = back.before in let is_negative = back.is_negative in
     let back = back.before in let is-negative-arg = back.is-negative-arg in
     let start = back.before.before.before in
-    step-pair start.args.places.now start.args.store.now start.args.at start.args.counts.now
+    step_pair start.args.places.now start.args.store.now start.args.at start.args.counts.now
     (answered negative (header_at start.args.store.now start.args.at) (sfits_of is-negative-arg.given)
     is_negative.ensures if1.false) next-at.ensures pair-slot.ensures if2.true
     c.before.mark-deleted.ensures count_at.ensures
@@ -101,7 +101,7 @@ take-pair-spec =
     is-negative-requires
     returns
     next-at-requires
-    add-first
+    add_first
     mul-pair-slot
     sub-pair-slot
     part-pair-slot-start

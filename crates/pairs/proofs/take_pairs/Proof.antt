@@ -4,14 +4,14 @@ use lib.IntN.{ℤ, pos}
 use Prim.Native.Nat.{◌-◌, ◌≤◌}
 use lib.ListN.{length, get_or, take}
 use borrow.Author.Rules.{sfits_of, rules}
-use Rattle.literals.proofs.Laws.{answer-negated}
-use Rattle.index.proofs.Laws.{indexed-inside, indexed-length}
-use Rattle.pairs.proofs.Taking.{Gone-through, through-start, through-next, negated-within, countable-zeros, countable-then, pairs-taken}
+use Rattle.literals.proofs.Laws.{answer_negated}
+use Rattle.index.proofs.Laws.{indexed_inside, indexed_length}
+use Rattle.pairs.proofs.Taking.{GoneThrough, through_start, through_next, negated_within, countable_zeros, countable_then, pairs_taken}
 use Rattle.pairs.proofs.take_pairs.Statement.{statement}
 use Rattle.pairs.proofs.take_pairs.Tie as tie
 
 abbrev invariant-loop : tie.invariant-loop
-invariant-loop work₀ newest end places choice counts₀ i₀ work counts i = (i ≤ length choice) × Gone-through choice places end newest work₀ counts₀ work counts i
+invariant-loop work₀ newest end places choice counts₀ i₀ work counts i = (i ≤ length choice) × GoneThrough choice places end newest work₀ counts₀ work counts i
 
 abbrev decreases-loop : tie.decreases-loop
 decreases-loop work₀ newest end places choice counts₀ i₀ work counts i = length choice - i
@@ -19,7 +19,7 @@ decreases-loop work₀ newest end places choice counts₀ i₀ work counts i = l
 loop-holds : tie.Need-loop-init invariant-loop decreases-loop
 loop-holds c =
     let start = c.before.before.before in
-    (search rules, through-start start.requires.0.0)
+    (search rules, through_start start.requires.0.0)
 
 mul-negated : tie.Need-overflow-mul-negated invariant-loop decreases-loop
 mul-negated c = search rules
@@ -37,12 +37,12 @@ take-with-requires c κs =
     let back = back.before in let loop-test = back.loop-test in
     let back = back.before in let loop = back.loop in
     let start = back.before.before.before.before in
-    let l = answer-negated (λ (z : ℤ). z) (get_or start.args.choice.now loop.i (pos 0))
+    let l = answer_negated (λ (z : ℤ). z) (get_or start.args.choice.now loop.i (pos 0))
     (sfits_of negated-arg.given) (sfits_of negated.type-inv) negated.ensures refl in (
-      (loop.invariant.1.indexed, negated-within start.requires.0.2 loop.i loop-test.true l),
-      countable-then start.requires.0.0.formed loop.invariant.1.less
-          (countable-zeros start.args.places.now (take start.args.end start.args.work.now)
-          (omega (arith, start.requires.0.0.small, indexed-inside start.requires.0.0, indexed-length start.requires.0.0))
+      (loop.invariant.1.indexed, negated_within start.requires.0.2 loop.i loop-test.true l),
+      countable_then start.requires.0.0.formed loop.invariant.1.less
+          (countable_zeros start.args.places.now (take start.args.end start.args.work.now)
+          (omega (arith, start.requires.0.0.small, indexed_inside start.requires.0.0, indexed_length start.requires.0.0))
           start.requires.1),
     )
 
@@ -60,10 +60,10 @@ loop-again c =
     let back = back.before in let loop-test = back.loop-test in
     let back = back.before in let loop = back.loop in
     let start = back.before.before.before.before in
-    let l = answer-negated (λ (z : ℤ). z) (get_or start.args.choice.now loop.i (pos 0))
+    let l = answer_negated (λ (z : ℤ). z) (get_or start.args.choice.now loop.i (pos 0))
     (sfits_of negated-arg.given) (sfits_of negated.type-inv) negated.ensures refl in (
       omega (arith, loop-test.true),
-      through-next start.requires.0.0 loop.invariant.1 l take-with.auto.0 take-with.ensures.0
+      through_next start.requires.0.0 loop.invariant.1 l take-with.auto.0 take-with.ensures.0
           take-with.ensures.1.0 take-with.ensures.1.1,
     )
 
@@ -77,7 +77,7 @@ returns : tie.Need-returns invariant-loop decreases-loop
 returns c =
     let back = c.before in let loop = back.loop in
     let start = back.before.before.before.before in (
-      pairs-taken start.requires.0.1 start.requires.0.2 start.requires.0.0.formed start.requires.1 loop.invariant.1.less
+      pairs_taken start.requires.0.1 start.requires.0.2 start.requires.0.0.formed start.requires.1 loop.invariant.1.less
           (λ k h. loop.invariant.1.none k (omega (arith, h, c.loop-test.false))),
       loop.invariant.1.indexed,
     )

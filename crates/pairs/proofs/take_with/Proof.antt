@@ -1,19 +1,19 @@
 use mathlib.Core.Path.{sym, ap, subst}
-use Rattle.index.proofs.Laws.{indexed-inside, indexed-length}
+use Rattle.index.proofs.Laws.{indexed_inside, indexed_length}
 use lib.IntN.{ℤ, nat_abs}
 use lib.ListN.{take}
 use mir.Syntax.{w32}
 use mir.Val.{to_z}
 use mir.ValLaws.{to_z-of_z}
-use Rattle.pairs.specs.Pairs.{No-pair-with}
+use Rattle.pairs.specs.Pairs.{NoPairWith}
 use native.Mathlib.Omega.{arith}
 use borrow.Author.Rules.{rules}
-use Rattle.pairs.proofs.Taking.{Reading-pairs, pairs_start, pairs-reads, pairs_next, pairs_end}
+use Rattle.pairs.proofs.Taking.{ReadingPairs, pairs_start, pairs_reads, pairs_next, pairs_end}
 use Rattle.pairs.proofs.take_with.Statement.{statement}
 use Rattle.pairs.proofs.take_with.Tie as tie
 
 abbrev invariant-loop : tie.invariant-loop
-invariant-loop work₀ newest end places counts₀ l node₀ work counts node = Reading-pairs (to_z w32 l) places end newest work₀ counts₀ work counts node
+invariant-loop work₀ newest end places counts₀ l node₀ work counts node = ReadingPairs (to_z w32 l) places end newest work₀ counts₀ work counts node
 
 abbrev decreases-loop : tie.decreases-loop
 decreases-loop work₀ newest end places counts₀ l node₀ work counts node = node
@@ -30,7 +30,7 @@ loop-holds c =
 place-at-requires : tie.Need-place-at-requires invariant-loop decreases-loop
 place-at-requires c κs =
     let start = c.before.before.before.before.before.before.before in
-    let read = pairs-reads start.requires.0.0 start.requires.1 c.before.before.loop.invariant
+    let read = pairs_reads start.requires.0.0 start.requires.1 c.before.before.loop.invariant
     c.before.loop-test.true in
     (read.first, read.within)
 
@@ -39,18 +39,18 @@ older-requires c κs =
     let back = c.before.before.before in let loop-test = back.loop-test in
     let back = back.before in let loop = back.loop in
     let start = back.before.before.before.before.before in
-    let read = pairs-reads start.requires.0.0 start.requires.1 loop.invariant loop-test.true in
+    let read = pairs_reads start.requires.0.0 start.requires.1 loop.invariant loop-test.true in
     (read.first, read.within)
 
 slice-relend-prefix-take-pair : tie.Need-slice-relend-prefix-take-pair invariant-loop decreases-loop
 slice-relend-prefix-take-pair c =
     let loop = c.before.before.before.before.before.loop in
-    indexed-inside loop.invariant.indexed
+    indexed_inside loop.invariant.indexed
 
 slice-aggregate-take-pair : tie.Need-slice-aggregate-take-pair invariant-loop decreases-loop
 slice-aggregate-take-pair c =
     let loop = c.before.before.before.before.before.before.loop in
-    sym (indexed-length loop.invariant.indexed)
+    sym (indexed_length loop.invariant.indexed)
 
 take-pair-requires : tie.Need-take-pair-requires invariant-loop decreases-loop
 take-pair-requires c κs =
@@ -58,7 +58,7 @@ take-pair-requires c κs =
     let back = back.before.before in let loop-test = back.loop-test in
     let back = back.before in let loop = back.loop in
     let start = back.before.before.before.before.before in
-    let read = pairs-reads start.requires.0.0 start.requires.1 loop.invariant loop-test.true in
+    let read = pairs_reads start.requires.0.0 start.requires.1 loop.invariant loop-test.true in
     rw place_at.ensures (read.entry.inside, read.entry.place.rest)
 
 loop-less : tie.Need-loop-smaller invariant-loop decreases-loop
@@ -67,7 +67,7 @@ loop-less c =
     let back = back.before.before.before.before in let loop-test = back.loop-test in
     let back = back.before in let loop = back.loop in
     let start = back.before.before.before.before.before in
-    let read = pairs-reads start.requires.0.0 start.requires.1 loop.invariant loop-test.true in
+    let read = pairs_reads start.requires.0.0 start.requires.1 loop.invariant loop-test.true in
     omega (arith, read.falls, older.ensures)
 
 loop-again : tie.Need-loop-preserved invariant-loop decreases-loop
@@ -93,7 +93,7 @@ returns c =
     let start = back.before.before.before.before.before in (
       loop.invariant.less,
       (
-        subst (λ (z : ℤ). No-pair-with z start.args.places.now (take start.args.end loop.work))
+        subst (λ (z : ℤ). NoPairWith z start.args.places.now (take start.args.end loop.work))
             (to_z-of_z w32 start.args.l start.ranges.l)
             (pairs_end start.requires.0.0 start.requires.1 loop.invariant c.loop-test.false),
         loop.invariant.indexed,

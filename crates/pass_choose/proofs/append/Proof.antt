@@ -1,5 +1,5 @@
 use mathlib.Core.Path.{sym, ◌∙◌}
-use Rattle.pass_choose.proofs.Laws.{joined-one, never-full}
+use Rattle.pass_choose.proofs.Laws.{joined_one, never_full}
 use borrow.Author.Rules.{rules}
 use Rattle.pass_choose.proofs.append.Statement.{statement}
 use Rattle.pass_choose.proofs.append.Tie as tie
@@ -20,7 +20,7 @@ returns : tie.Need-returns
 returns c =
     let back = c.before.before.before.before in let append-clause = back.append-clause in
     let start = back.before.before in
-    joined-one start.args.chosen.now _ start.args.end _ start.args.clause.now start.requires.0
+    joined_one start.args.chosen.now _ start.args.end _ start.args.clause.now start.requires.0
     start.requires.1 (sym append-clause.ensures.0 ∙ c.before.next.given.1) append-clause.ensures.1
 
 same-length-2 : tie.Need-same-length-2
@@ -30,7 +30,7 @@ returns-2 : tie.Need-returns-2
 returns-2 c =
     let back = c.before.before.before in let append-clause = back.append-clause in
     let start = back.before.before in
-    never-full start.args.chosen.now start.args.end start.args.clause.now start.requires.0
+    never_full start.args.chosen.now start.args.end start.args.clause.now start.requires.0
     start.requires.1 (sym append-clause.ensures.0 ∙ c.enum_told.given.1)
 
 pub append-spec : {M : Type 1} → statement M

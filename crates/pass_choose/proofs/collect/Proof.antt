@@ -1,6 +1,6 @@
 use mathlib.Core.Path.{sym}
 use lib.Seq.{length-take-le}
-use Rattle.progress.proofs.Laws.{good-counted}
+use Rattle.progress.proofs.Laws.{good_counted}
 use borrow.Author.Rules.{rules}
 use Rattle.pass_choose.proofs.collect.Statement.{statement}
 use Rattle.pass_choose.proofs.collect.Tie as tie
@@ -28,7 +28,7 @@ collect-all-requires : tie.Need-collect-all-requires
 collect-all-requires c κs =
     let back = c.before.before.before.before in let count-all = back.count-all in
     let start = back.before.before.before in
-    (good-counted start.requires.0 count-all.ensures, start.requires.1)
+    (good_counted start.requires.0 count-all.ensures, start.requires.1)
 
 same_length : tie.Need-same-length
 same_length c = search rules

@@ -3,8 +3,8 @@ use borrow.Author.Rules.{sfits_of, rules}
 use Rattle.literals.specs.Literal.{negative}
 use Rattle.literals.proofs.Laws.{answered}
 use Rattle.store.specs.Store.{header_at}
-use Rattle.store.proofs.Laws.{formed-next}
-use Rattle.pass_choose.proofs.Laws.{at-deleted, at_other, at_room, at-choice}
+use Rattle.store.proofs.Laws.{formed_next}
+use Rattle.pass_choose.proofs.Laws.{at_deleted, at_other, at_room, at_choice}
 use Rattle.pass_choose.proofs.collect_at.Statement.{statement}
 use Rattle.pass_choose.proofs.collect_at.Tie as tie
 
@@ -20,7 +20,7 @@ is-negative-requires c κs = search rules
 returns : tie.Need-returns
 returns c =
     let start = c.before.before.before.before in
-    at-deleted start.args.counts.now start.args.store.now start.args.at start.args.chosen.now
+    at_deleted start.args.counts.now start.args.store.now start.args.at start.args.chosen.now
     start.args.end start.requires.1
     (answered negative (header_at start.args.store.now start.args.at)
     (sfits_of c.before.before.is-negative-arg.given) c.before.is_negative.ensures c.if1.true)
@@ -28,8 +28,8 @@ returns c =
 next-at-requires : tie.Need-next-at-requires
 next-at-requires c κs = search rules
 
-add-first : tie.Need-overflow-add-first
-add-first c = search rules
+add_first : tie.Need-overflow-add-first
+add_first c = search rules
 
 mul-is-choice : tie.Need-overflow-mul-is-choice
 mul-is-choice c = search rules
@@ -46,7 +46,7 @@ part-is-choice-end c =
     omega (
       arith,
       c.next-at.ensures,
-      (formed-next start.args.store.now start.args.at start.requires.0.0 start.requires.0.1).0,
+      (formed_next start.args.store.now start.args.at start.requires.0.0 start.requires.0.1).0,
     )
 
 is-choice-requires : tie.Need-is-choice-requires
@@ -68,12 +68,12 @@ part-append-end c =
     omega (
       arith,
       next-at.ensures,
-      (formed-next start.args.store.now start.args.at start.requires.0.0 start.requires.0.1).0,
+      (formed_next start.args.store.now start.args.at start.requires.0.0 start.requires.0.1).0,
     )
 
 append-requires : tie.Need-append-requires
 append-requires c κs =
-    let back = c.before.before.before in let is-choice = back.is-choice in
+    let back = c.before.before.before in let is_choice = back.is_choice in
     let back = back.before.before in let next-at = back.next-at in
     let back = back.before in let if1 = back.if1 in
     let back = back.before in let is_negative = back.is_negative in
@@ -82,7 +82,7 @@ append-requires c κs =
     at_room start.args.counts.now start.args.store.now start.args.at start.args.chosen.now
     start.args.end start.requires.1 next-at.result next-at.ensures
     (answered negative (header_at start.args.store.now start.args.at) (sfits_of is-negative-arg.given)
-    is_negative.ensures if1.false) is-choice.ensures c.before.before.if2.true
+    is_negative.ensures if1.false) is_choice.ensures c.before.before.if2.true
 
 same_length : tie.Need-same-length
 same_length c = search rules
@@ -90,16 +90,16 @@ same_length c = search rules
 returns-2 : tie.Need-returns-2
 returns-2 c =
     let back = c.before.before.before.before in let if2 = back.if2 in
-    let back = back.before in let is-choice = back.is-choice in
+    let back = back.before in let is_choice = back.is_choice in
     let back = back.before.before in let next-at = back.next-at in
     let back = back.before in let if1 = back.if1 in
     let back = back.before in let is_negative = back.is_negative in
     let back = back.before in let is-negative-arg = back.is-negative-arg in
     let start = back.before.before in
-    at-choice start.args.counts.now start.args.store.now start.args.at start.args.chosen.now
+    at_choice start.args.counts.now start.args.store.now start.args.at start.args.chosen.now
     start.args.end start.requires.1 next-at.result next-at.ensures
     (answered negative (header_at start.args.store.now start.args.at) (sfits_of is-negative-arg.given)
-    is_negative.ensures if1.false) is-choice.ensures if2.true c.before.append.ensures
+    is_negative.ensures if1.false) is_choice.ensures if2.true c.before.append.ensures
 
 returns-3 : tie.Need-returns-3
 returns-3 c =
@@ -111,7 +111,7 @@ returns-3 c =
     at_other start.args.counts.now start.args.store.now start.args.at start.args.chosen.now
     start.args.end start.requires.1 next-at.result next-at.ensures
     (answered negative (header_at start.args.store.now start.args.at) (sfits_of is-negative-arg.given)
-    is_negative.ensures if1.false) c.before.is-choice.ensures c.if2.false
+    is_negative.ensures if1.false) c.before.is_choice.ensures c.if2.false
 
 pub collect-at-spec : {M : Type 1} → statement M
 collect-at-spec =
@@ -122,7 +122,7 @@ collect-at-spec =
     is-negative-requires
     returns
     next-at-requires
-    add-first
+    add_first
     mul-is-choice
     sub-is-choice
     part-is-choice-start

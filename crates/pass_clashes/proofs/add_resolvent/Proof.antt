@@ -1,6 +1,6 @@
 -- The parts between the places past the headers and those past the entries are the two clauses (Adding).
 use native.Mathlib.Omega.{arith}
-use Rattle.pass_clashes.proofs.Adding.{one-within, other-within, parts-joinable, still-indexed, entry-there, nodes-room, resolvent-grown}
+use Rattle.pass_clashes.proofs.Adding.{one_within, other_within, parts_joinable, still_indexed, entry_there, nodes_room, resolvent_grown}
 use borrow.Author.Rules.{rules}
 use Rattle.pass_clashes.proofs.add_resolvent.Statement.{statement}
 use Rattle.pass_clashes.proofs.add_resolvent.Tie as tie
@@ -8,22 +8,22 @@ use Rattle.pass_clashes.proofs.add_resolvent.Tie as tie
 add_a : tie.Need-overflow-add-a
 add_a c =
     let start = c.before.before in
-    record { fits = omega (arith, one-within start.requires.0, start.requires.0.good.small) }
+    record { fits = omega (arith, one_within start.requires.0, start.requires.0.good.small) }
 
 add-b : tie.Need-overflow-add-b
 add-b c =
     let start = c.before.before in
-    record { fits = omega (arith, other-within start.requires.0, start.requires.0.good.small) }
+    record { fits = omega (arith, other_within start.requires.0, start.requires.0.good.small) }
 
 next-at-requires : tie.Need-next-at-requires
 next-at-requires c κs =
     let start = c.before.before.before in
-    one-within start.requires.0
+    one_within start.requires.0
 
 next-at-requires-2 : tie.Need-next-at-requires-2
 next-at-requires-2 c κs =
     let start = c.before.before.before.before.before in
-    other-within start.requires.0
+    other_within start.requires.0
 
 sub-append-resolvent : tie.Need-overflow-sub-append-resolvent
 sub-append-resolvent c = search rules
@@ -35,7 +35,7 @@ append-resolvent-requires : tie.Need-append-resolvent-requires
 append-resolvent-requires c κs =
     let back = c.before.before.before in let next-at = back.next-at in
     let start = back.before.before.before.before in
-    parts-joinable start.requires.0 next-at.ensures c.before.next-at2.ensures start.requires.1
+    parts_joinable start.requires.0 next-at.ensures c.before.next-at2.ensures start.requires.1
 
 record-added-requires : tie.Need-record-added-requires
 record-added-requires c κs =
@@ -49,8 +49,8 @@ record-added-requires c κs =
     let o = start.requires.1 in
     let d = append-resolvent.ensures.0 in
     let w = append-resolvent.ensures.1 in (
-      (still-indexed r i j o d w, entry-there r i j o d w),
-      (nodes-room r i j o d w, (omega (arith, r.good.room.text), omega (arith, r.good.room.count))),
+      (still_indexed r i j o d w, entry_there r i j o d w),
+      (nodes_room r i j o d w, (omega (arith, r.good.room.text), omega (arith, r.good.room.count))),
     )
 
 same_length : tie.Need-same-length
@@ -69,7 +69,7 @@ returns c =
     let back = back.before.before in let next-at2 = back.next-at2 in
     let back = back.before.before in let next-at = back.next-at in
     let start = back.before.before.before.before in
-    resolvent-grown start.requires.0 next-at.ensures next-at2.ensures start.requires.1
+    resolvent_grown start.requires.0 next-at.ensures next-at2.ensures start.requires.1
     append-resolvent.ensures.0 append-resolvent.ensures.1 record-added.ensures
 
 pub add-resolvent-spec : {M : Type 1} → statement M

@@ -8,13 +8,13 @@ use mir.Syntax.{w32}
 use mir.Val.{of_z, to_z}
 use Rattle.literals.proofs.Laws.{answered, at_arg}
 use Rattle.definition.specs.Lists.{any}
-use Rattle.theory_base.proofs.Slices.{any-hit, any-miss, any-end}
-use Rattle.pass_clashes.specs.Resolving.{opposite-in}
+use Rattle.theory_base.proofs.Slices.{any_hit, any_miss, any_end}
+use Rattle.pass_clashes.specs.Resolving.{opposite_in}
 use Rattle.pass_clashes.proofs.any_opposite.Statement.{statement}
 use Rattle.pass_clashes.proofs.any_opposite.Tie as tie
 
 abbrev invariant-loop : tie.invariant-loop
-invariant-loop table gone clause i₀ i = (i ≤ length clause) × (any (opposite-in table (to_z w32 gone)) (drop i clause) ≡ any (opposite-in table (to_z w32 gone)) clause)
+invariant-loop table gone clause i₀ i = (i ≤ length clause) × (any (opposite_in table (to_z w32 gone)) (drop i clause) ≡ any (opposite_in table (to_z w32 gone)) clause)
 
 abbrev decreases-loop : tie.decreases-loop
 decreases-loop table gone clause i₀ i = length clause - i
@@ -36,12 +36,12 @@ returns c =
     let back = c.before.before.before.before in let loop = back.loop in
     let start = back.before.before in
     let s = start.args.clause.now in
-    let q : ℤ → Bool = λ z. opposite-in start.args.table.now (to_z w32 (of_z w32 start.args.gone)) z in
+    let q : ℤ → Bool = λ z. opposite_in start.args.table.now (to_z w32 (of_z w32 start.args.gone)) z in
     let e = answered q (get_or s loop.i (pos 0)) (sfits_of c.before.before.is-opposite-arg.given)
     c.before.is-opposite.ensures c.if1.true in
-    any-hit q s loop.i (pos 0) (search rules) e
+    any_hit q s loop.i (pos 0) (search rules) e
     ∙ loop.invariant.1
-    ∙ at_arg (λ (z : ℤ). any (opposite-in start.args.table.now z) s) start.args.gone start.ranges.gone
+    ∙ at_arg (λ (z : ℤ). any (opposite_in start.args.table.now z) s) start.args.gone start.ranges.gone
 
 add-i : tie.Need-overflow-add-i invariant-loop decreases-loop
 add-i c = search rules
@@ -54,19 +54,19 @@ loop-again c =
     let back = c.before.before.before.before in let loop = back.loop in
     let start = back.before.before in
     let s = start.args.clause.now in
-    let q : ℤ → Bool = λ z. opposite-in start.args.table.now (to_z w32 (of_z w32 start.args.gone)) z in
+    let q : ℤ → Bool = λ z. opposite_in start.args.table.now (to_z w32 (of_z w32 start.args.gone)) z in
     let e = answered q (get_or s loop.i (pos 0)) (sfits_of c.before.before.is-opposite-arg.given)
     c.before.is-opposite.ensures c.if1.false in
-    (search rules, any-miss q s loop.i (pos 0) (search rules) e ∙ loop.invariant.1)
+    (search rules, any_miss q s loop.i (pos 0) (search rules) e ∙ loop.invariant.1)
 
 returns-2 : tie.Need-returns-2 invariant-loop decreases-loop
 returns-2 c =
     let back = c.before in let loop = back.loop in
     let start = back.before.before in
-    any-end (opposite-in start.args.table.now (to_z w32 (of_z w32 start.args.gone))) start.args.clause.now
+    any_end (opposite_in start.args.table.now (to_z w32 (of_z w32 start.args.gone))) start.args.clause.now
     loop.i (search rules)
     ∙ loop.invariant.1
-    ∙ at_arg (λ (z : ℤ). any (opposite-in start.args.table.now z) start.args.clause.now) start.args.gone
+    ∙ at_arg (λ (z : ℤ). any (opposite_in start.args.table.now z) start.args.clause.now) start.args.gone
     start.ranges.gone
 
 pub any-opposite-spec : {M : Type 1} → statement M

@@ -3,21 +3,21 @@ use mathlib.Core.Path.{◌∙◌}
 use mir.Syntax.{w32}
 use mir.ValLaws.{to_z-of_z}
 use borrow.Author.Rules.{sfits_of}
-use Rattle.pass_clashes.proofs.Copying.{first-room, second-room, entry_next, entry-written, entry_length}
+use Rattle.pass_clashes.proofs.Copying.{first_room, second_room, entry_next, entry_written, entry_length}
 use borrow.Author.Rules.{rules}
 use Rattle.pass_clashes.proofs.append_resolvent.Statement.{statement}
 use Rattle.pass_clashes.proofs.append_resolvent.Tie as tie
 
-add-first : tie.Need-overflow-add-first
-add-first c = search rules
+add_first : tie.Need-overflow-add-first
+add_first c = search rules
 
 copy-without-requires : tie.Need-copy-without-requires
-copy-without-requires c κs = first-room c.before.requires
+copy-without-requires c κs = first_room c.before.requires
 
 copy-without-requires-2 : tie.Need-copy-without-requires-2
 copy-without-requires-2 c κs =
     let start = c.before.before.before.before in
-    second-room start.requires c.before.before.copy-without.ensures
+    second_room start.requires c.before.before.copy-without.ensures
 
 sub-header : tie.Need-overflow-sub-header
 sub-header c = search rules
@@ -43,7 +43,7 @@ returns c =
     let back = back.before.before.before in let copy-without = back.copy-without in
     let start = back.before.before in (
       entry_next start.requires copy-without.ensures copy-without2.ensures,
-      entry-written start.requires copy-without.ensures copy-without2.ensures
+      entry_written start.requires copy-without.ensures copy-without2.ensures
           (to_z-of_z w32 c.header.result (sfits_of c.header.type-inv) ∙ c.header.ensures),
     )
 
@@ -51,7 +51,7 @@ pub append-resolvent-spec : {M : Type 1} → statement M
 append-resolvent-spec =
     tie.close
     (tie.spec
-    add-first
+    add_first
     copy-without-requires
     copy-without-requires-2
     sub-header

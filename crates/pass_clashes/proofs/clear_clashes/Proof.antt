@@ -1,6 +1,6 @@
 use mathlib.Core.Path.{refl}
 use mathlib.Core.List.{[]}
-use Rattle.progress.proofs.Laws.{good-first}
+use Rattle.progress.proofs.Laws.{good_first}
 use borrow.Author.Rules.{rules}
 use Rattle.pass_clashes.proofs.clear_clashes.Statement.{statement}
 use Rattle.pass_clashes.proofs.clear_clashes.Tie as tie
@@ -11,7 +11,7 @@ slice-aggregate-mark-clashes c = search rules
 mark-clashes-requires : tie.Need-mark-clashes-requires
 mark-clashes-requires c κs =
     let start = c.before.before.before.before.before.before in
-    (good-first [] _ start.requires.0.good, refl)
+    (good_first [] _ start.requires.0.good, refl)
 
 slice-aggregate-clear-marked : tie.Need-slice-aggregate-clear-marked
 slice-aggregate-clear-marked c = search rules

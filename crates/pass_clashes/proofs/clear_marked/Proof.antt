@@ -3,9 +3,9 @@ use mathlib.Core.Path.{sym, ap, ◌∙◌}
 use mathlib.Core.List.{List}
 use Prim.Native.Nat.{ℕ}
 use lib.ListN.{length}
-use Rattle.progress.proofs.Laws.{written-length, runs-written}
-use Rattle.pass_clashes.specs.Scan.{Scanned, turns-left}
-use Rattle.pass_clashes.proofs.Scanning.{scanned-start, scanned-then, scanned-end, scanned-weighed}
+use Rattle.progress.proofs.Laws.{written_length, runs_written}
+use Rattle.pass_clashes.specs.Scan.{Scanned, turns_left}
+use Rattle.pass_clashes.proofs.Scanning.{scanned_start, scanned_then, scanned_end, scanned_weighed}
 use Rattle.pass_clashes.proofs.clear_marked.Statement.{statement}
 use Rattle.pass_clashes.proofs.clear_marked.Tie as tie
 
@@ -13,12 +13,12 @@ abbrev invariant-loop : tie.invariant-loop
 invariant-loop work₀ newest₀ table₀ weights₀ log₀ marks₀ step s₀ work newest table weights log marks s = Scanned step work₀ weights₀ log₀ s₀ work newest table weights log marks s
 
 abbrev decreases-loop : tie.decreases-loop
-decreases-loop work₀ newest₀ table₀ weights₀ log₀ marks₀ step s₀ work newest table weights log marks s = turns-left work s
+decreases-loop work₀ newest₀ table₀ weights₀ log₀ marks₀ step s₀ work newest table weights log marks s = turns_left work s
 
 loop-holds : tie.Need-loop-init invariant-loop decreases-loop
 loop-holds c =
     let start = c.before.before.before.before.before in
-    scanned-start start.args.log.now start.requires.0.0 start.requires.0.1 start.requires.0.2 start.requires.0.3
+    scanned_start start.args.log.now start.requires.0.0 start.requires.0.1 start.requires.0.2 start.requires.0.3
     start.requires.1.0 start.requires.1.1
 
 clear-next-requires : tie.Need-clear-next-requires invariant-loop decreases-loop
@@ -36,7 +36,7 @@ loop-again : tie.Need-loop-preserved invariant-loop decreases-loop
 loop-again c =
     let back = c.before.before.before.before.before.before.before.before.before.before.before in let clear_next = back.clear_next in
     let loop = back.before.before.before.before.before.before.before.before.before.loop in
-    scanned-then loop.invariant clear_next.ensures.0
+    scanned_then loop.invariant clear_next.ensures.0
 
 same_length : tie.Need-same-length invariant-loop decreases-loop
 same_length c =
@@ -63,7 +63,7 @@ same-length-4 c =
 same-length-5 : tie.Need-same-length-5 invariant-loop decreases-loop
 same-length-5 c =
     let loop = c.before.before.before.loop in
-    written-length (runs-written loop.invariant.runs)
+    written_length (runs_written loop.invariant.runs)
 
 same-length-6 : tie.Need-same-length-6 invariant-loop decreases-loop
 same-length-6 c =
@@ -76,10 +76,10 @@ returns c =
     let back = c.before in let if1 = back.if1 in
     let back = back.before.before in let loop = back.loop in
     let start = back.before.before.before.before.before.before in (
-      scanned-end loop.invariant if1.false,
+      scanned_end loop.invariant if1.false,
       (
         loop.invariant.searching.indexed,
-        (loop.invariant.searching.zeros, scanned-weighed loop.invariant if1.false start.requires.0.3),
+        (loop.invariant.searching.zeros, scanned_weighed loop.invariant if1.false start.requires.0.3),
       ),
     )
 

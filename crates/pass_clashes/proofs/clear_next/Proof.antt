@@ -1,6 +1,6 @@
 -- Making room runs no event; the lowest mark is the first clash left (Scanning).
 use mathlib.Core.Path.{sym, ◌∙◌}
-use Rattle.pass_clashes.proofs.Scanning.{step_room, scanned-none, none-fewer, lowest-small, there-clashes, light-there, resolvable, scanned-clash, clash-fewer}
+use Rattle.pass_clashes.proofs.Scanning.{step_room, scanned_none, none_fewer, lowest_small, there_clashes, light_there, resolvable, scanned_clash, clash_fewer}
 use borrow.Author.Rules.{rules}
 use Rattle.pass_clashes.proofs.clear_next.Statement.{statement}
 use Rattle.pass_clashes.proofs.clear_next.Tie as tie
@@ -20,23 +20,23 @@ find-clash-requires : tie.Need-find-clash-requires
 find-clash-requires c κs =
     let back = c.before.before.before.before.before in let make-room = back.make-room in
     let back = back.before.before.before.before in let v = back.v in
-    let back = back.before.before in let lowest-from = back.lowest-from in
+    let back = back.before.before in let lowest_from = back.lowest_from in
     let start = back.before.before.before.before.before.before.before.before in
-    (make-room.ensures.1.0, lowest-small start.requires.0 (sym lowest-from.ensures ∙ v.given.1))
+    (make-room.ensures.1.0, lowest_small start.requires.0 (sym lowest_from.ensures ∙ v.given.1))
 
 resolve-requires : tie.Need-resolve-requires
 resolve-requires c κs =
     let back = c.before.before.before.before.before.before in let find-clash = back.find-clash in
     let back = back.before.before.before.before.before.before in let make-room = back.make-room in
     let back = back.before.before.before.before in let v = back.v in
-    let back = back.before.before in let lowest-from = back.lowest-from in
+    let back = back.before.before in let lowest_from = back.lowest_from in
     let start = back.before.before.before.before.before.before.before.before in
-    let e = sym lowest-from.ensures ∙ v.given.1 in
+    let e = sym lowest_from.ensures ∙ v.given.1 in
     let k = make-room.ensures.0 start.args.log.now in (
-      resolvable start.requires.0 e k (find-clash.ensures (there-clashes start.requires.0 e k))
+      resolvable start.requires.0 e k (find-clash.ensures (there_clashes start.requires.0 e k))
           make-room.ensures.1.0 make-room.ensures.1.1,
       start.requires.0.zeros,
-      light-there start.requires.0 e k,
+      light_there start.requires.0 e k,
     )
 
 word-of-requires : tie.Need-word-of-requires
@@ -69,16 +69,16 @@ returns c =
     let back = back.before.before.before.before.before.before.before in let find-clash = back.find-clash in
     let back = back.before.before.before.before.before.before in let make-room = back.make-room in
     let back = back.before.before.before.before in let v = back.v in
-    let back = back.before.before in let lowest-from = back.lowest-from in
+    let back = back.before.before in let lowest_from = back.lowest_from in
     let start = back.before.before.before.before.before.before.before.before in
-    let e = sym lowest-from.ensures ∙ v.given.1 in
+    let e = sym lowest_from.ensures ∙ v.given.1 in
     let k = make-room.ensures.0 start.args.log.now in
-    let h = find-clash.ensures (there-clashes start.requires.0 e k) in
+    let h = find-clash.ensures (there_clashes start.requires.0 e k) in
     rw c.word_of.ensures (
-      scanned-clash start.requires.0 e k h resolve.ensures.0 resolve.new.1.1.1.1.1.0
+      scanned_clash start.requires.0 e k h resolve.ensures.0 resolve.new.1.1.1.1.1.0
           resolve.ensures.1.0 resolve.auto.1.1.1.1.1.0 resolve.ensures.1.1.0
           resolve.ensures.1.1.1.0 resolve.ensures.1.1.1.1,
-      clash-fewer start.requires.0 e k h resolve.ensures.0,
+      clash_fewer start.requires.0 e k h resolve.ensures.0,
     )
 
 same-length-7 : tie.Need-same-length-7
@@ -87,9 +87,9 @@ same-length-7 c = search rules
 returns-2 : tie.Need-returns-2
 returns-2 c =
     let start = c.before.before.before.before.before.before.before.before.before.before in (
-      scanned-none start.requires.0 (sym c.before.before.lowest-from.ensures ∙ c.enum_told.given.1)
+      scanned_none start.requires.0 (sym c.before.before.lowest_from.ensures ∙ c.enum_told.given.1)
           start.args.log.now,
-      none-fewer start.requires.0 start.requires.1,
+      none_fewer start.requires.0 start.requires.1,
     )
 
 pub clear-next-spec : {M : Type 1} → statement M

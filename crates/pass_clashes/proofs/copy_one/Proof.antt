@@ -4,7 +4,7 @@ use lib.ListN.{get_or, set, length}
 use lib.IntN.{ℤ, pos}
 use borrow.Author.Rules.{sfits_of, rules}
 use Rattle.literals.proofs.Laws.{at_arg}
-use Rattle.pass_clashes.proofs.Copying.{without-same, without_other}
+use Rattle.pass_clashes.proofs.Copying.{without_same, without_other}
 use Rattle.pass_clashes.proofs.copy_one.Statement.{statement}
 use Rattle.pass_clashes.proofs.copy_one.Tie as tie
 
@@ -20,7 +20,7 @@ same-requires c κs = search rules
 returns : tie.Need-returns
 returns c =
     let start = c.before.before.before in
-    let e = without-same start.args.gone (get_or start.args.work.now start.args.from (pos 0))
+    let e = without_same start.args.gone (get_or start.args.work.now start.args.from (pos 0))
     start.ranges.gone (sfits_of c.before.before.l.given) c.before.same.ensures c.if1.true in
     (rw e (omega arith), rw e refl)
 

@@ -5,7 +5,7 @@ use Prim.Native.Nat.{◌-◌}
 use mir.Syntax.{w32}
 use mir.ValLaws.{to_z-of_z}
 use borrow.Author.Rules.{sfits_of}
-use Rattle.pass_clashes.proofs.Copying.{Copying, copying-start, copying-room, copying-step, copying-end}
+use Rattle.pass_clashes.proofs.Copying.{Copying, copying_start, copying_room, copying_step, copying_end}
 use Rattle.pass_clashes.proofs.copy_without.Statement.{statement}
 use Rattle.pass_clashes.proofs.copy_without.Tie as tie
 
@@ -21,7 +21,7 @@ signed-requires c κs = search rules
 loop-holds : tie.Need-loop-init invariant-loop decreases-loop
 loop-holds c =
     let start = c.before in
-    copying-start start.args.work.now start.args.to start.args.from start.args.n
+    copying_start start.args.work.now start.args.to start.args.from start.args.n
     start.args.is_negative start.args.v
 
 add-copy-one : tie.Need-overflow-add-copy-one invariant-loop decreases-loop
@@ -32,7 +32,7 @@ copy-one-requires c κs =
     let back = c.before.before.before in let signed = back.signed in
     let start = back.before in
     let e = to_z-of_z w32 signed.result (sfits_of signed.type-inv) ∙ signed.ensures in
-    rw e (copying-room c.before.before.loop.invariant c.before.loop-test.true start.requires.0 start.requires.1)
+    rw e (copying_room c.before.before.loop.invariant c.before.loop-test.true start.requires.0 start.requires.1)
 
 add-i : tie.Need-overflow-add-i invariant-loop decreases-loop
 add-i c = search rules
@@ -48,14 +48,14 @@ loop-again c =
     let back = back.before in let signed = back.signed in
     let start = back.before in
     let e = to_z-of_z w32 signed.result (sfits_of signed.type-inv) ∙ signed.ensures in
-    copying-step loop.invariant loop-test.true start.requires.0 start.requires.1 (rw e at copy-one.ensures.0)
+    copying_step loop.invariant loop-test.true start.requires.0 start.requires.1 (rw e at copy-one.ensures.0)
     (rw e at copy-one.ensures.1)
 
 same_length : tie.Need-same-length invariant-loop decreases-loop
 same_length c = c.before.loop.invariant.size
 
 returns : tie.Need-returns invariant-loop decreases-loop
-returns c = copying-end c.before.loop.invariant c.loop-test.false
+returns c = copying_end c.before.loop.invariant c.loop-test.false
 
 pub copy-without-spec : {M : Type 1} → statement M
 copy-without-spec =

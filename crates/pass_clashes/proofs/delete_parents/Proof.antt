@@ -3,10 +3,10 @@ use native.Mathlib.Omega.{arith}
 use mathlib.Core.Path.{◌∙◌}
 use mathlib.Core.Bool.{true, false}
 use borrow.Author.Rules.{sfits_of}
-use Rattle.literals.proofs.Laws.{signed-small}
+use Rattle.literals.proofs.Laws.{signed_small}
 use mir.Syntax.{w32}
 use mir.ValLaws.{to_z-of_z}
-use Rattle.pass_clashes.proofs.Parents.{second-standing, parents-room, parents-gone}
+use Rattle.pass_clashes.proofs.Parents.{second_standing, parents_room, parents_gone}
 use borrow.Author.Rules.{rules}
 use Rattle.pass_clashes.proofs.delete_parents.Statement.{statement}
 use Rattle.pass_clashes.proofs.delete_parents.Tie as tie
@@ -29,10 +29,10 @@ delete-first-requires-2 c κs =
     let v = start.args.v in
     let e = to_z-of_z w32 signed.result (sfits_of signed.type-inv)
     ∙ signed.ensures
-    ∙ signed-small false v (omega (arith, p.small)) in
-    let s = second-standing p in (
+    ∙ signed_small false v (omega (arith, p.small)) in
+    let s = second_standing p in (
       rw delete-first.ensures.1.1 (s.inside, s.place.rest),
-      parents-room p _ e start.requires.1 delete-first.ensures.0,
+      parents_room p _ e start.requires.1 delete-first.ensures.0,
     )
 
 same_length : tie.Need-same-length
@@ -52,11 +52,11 @@ returns c =
     let v = start.args.v in
     let e = to_z-of_z w32 signed.result (sfits_of signed.type-inv)
     ∙ signed.ensures
-    ∙ signed-small false v (omega (arith, p.small)) in
+    ∙ signed_small false v (omega (arith, p.small)) in
     let f = to_z-of_z w32 signed2.result (sfits_of signed2.type-inv)
     ∙ signed2.ensures
-    ∙ signed-small true v (omega (arith, p.small)) in
-    parents-gone p _ _ e f delete-first.ensures.0 delete-first.ensures.1.0 delete-first.ensures.1.1
+    ∙ signed_small true v (omega (arith, p.small)) in
+    parents_gone p _ _ e f delete-first.ensures.0 delete-first.ensures.1.0 delete-first.ensures.1.1
     delete-first2.ensures.0 delete-first2.ensures.1.0 delete-first2.ensures.1.1
 
 pub delete-parents-spec : {M : Type 1} → statement M

@@ -9,11 +9,11 @@ use mir.Syntax.{w32}
 use mir.ValLaws.{to_z-of_z}
 use borrow.Author.Rules.{sfits_of}
 use Rattle.definition.specs.Clearing.{times}
-use Rattle.theory_base.proofs.Members.{natAbs-neg}
-use Rattle.literals.proofs.Laws.{signed-small}
+use Rattle.theory_base.proofs.Members.{natAbs_neg}
+use Rattle.literals.proofs.Laws.{signed_small}
 use Rattle.store.specs.Store.{stored}
-use Rattle.index.specs.Reading.{Found-with}
-use Rattle.pass_clashes.proofs.Finding.{found-clashing}
+use Rattle.index.specs.Reading.{FoundWith}
+use Rattle.pass_clashes.proofs.Finding.{found_clashing}
 use borrow.Author.Rules.{rules}
 use Rattle.pass_clashes.proofs.find_clash.Statement.{statement}
 use Rattle.pass_clashes.proofs.find_clash.Tie as tie
@@ -27,7 +27,7 @@ place-with-requires c κs =
     let v = start.args.v in
     let e = to_z-of_z w32 c.signed.result (sfits_of c.signed.type-inv)
     ∙ c.signed.ensures
-    ∙ signed-small false v (omega (arith, start.requires.1)) in
+    ∙ signed_small false v (omega (arith, start.requires.1)) in
     (start.requires.0, omega (arith, start.requires.1, ap nat_abs e))
 
 signed-requires-2 : tie.Need-signed-requires-2
@@ -39,8 +39,8 @@ place-with-requires-2 c κs =
     let v = start.args.v in
     let e = to_z-of_z w32 c.signed2.result (sfits_of c.signed2.type-inv)
     ∙ c.signed2.ensures
-    ∙ signed-small true v (omega (arith, start.requires.1)) in
-    (start.requires.0, omega (arith, start.requires.1, ap nat_abs e ∙ natAbs-neg (pos v)))
+    ∙ signed_small true v (omega (arith, start.requires.1)) in
+    (start.requires.0, omega (arith, start.requires.1, ap nat_abs e ∙ natAbs_neg (pos v)))
 
 returns : tie.Need-returns
 returns c =
@@ -52,13 +52,13 @@ returns c =
     let v = start.args.v in
     let e = to_z-of_z w32 signed.result (sfits_of signed.type-inv)
     ∙ signed.ensures
-    ∙ signed-small false v (omega (arith, start.requires.1)) in
+    ∙ signed_small false v (omega (arith, start.requires.1)) in
     let f = to_z-of_z w32 signed2.result (sfits_of signed2.type-inv)
     ∙ signed2.ensures
-    ∙ signed-small true v (omega (arith, start.requires.1)) in
-    found-clashing
-    (subst (λ (z : ℤ). 1 ≤ times z (stored s) → Found-with z s place-with.result) e place-with.ensures)
-    (subst (λ (z : ℤ). 1 ≤ times z (stored s) → Found-with z s c.place-with2.result) f c.place-with2.ensures)
+    ∙ signed_small true v (omega (arith, start.requires.1)) in
+    found_clashing
+    (subst (λ (z : ℤ). 1 ≤ times z (stored s) → FoundWith z s place-with.result) e place-with.ensures)
+    (subst (λ (z : ℤ). 1 ≤ times z (stored s) → FoundWith z s c.place-with2.result) f c.place-with2.ensures)
 
 pub find-clash-spec : {M : Type 1} → statement M
 find-clash-spec =

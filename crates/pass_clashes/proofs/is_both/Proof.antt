@@ -1,4 +1,4 @@
-use Rattle.pass_clashes.proofs.Marking.{both_first, both-none}
+use Rattle.pass_clashes.proofs.Marking.{both_first, both_none}
 use borrow.Author.Rules.{rules}
 use Rattle.pass_clashes.proofs.is_both.Statement.{statement}
 use Rattle.pass_clashes.proofs.is_both.Tie as tie
@@ -18,7 +18,7 @@ returns c =
 returns-2 : tie.Need-returns-2
 returns-2 c =
     let start = c.before.before.before in
-    both-none start.args.table.now start.args.v c.before.is-in.ensures c.if1.false
+    both_none start.args.table.now start.args.v c.before.is-in.ensures c.if1.false
 
 pub is-both-spec : {M : Type 1} → statement M
 is-both-spec = tie.close (tie.spec is-in-requires is-in-requires-2 returns returns-2)

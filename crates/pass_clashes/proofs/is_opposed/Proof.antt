@@ -7,10 +7,10 @@ use mir.Syntax.{w32}
 use mir.Val.{of_z, to_z}
 use lib.ListN.{replicate}
 use Rattle.definition.specs.Lists.{any}
-use Rattle.tables.specs.Sizes.{input-size}
+use Rattle.tables.specs.Sizes.{input_size}
 use Rattle.tables.specs.Entries.{tallied, with_entries}
 use Rattle.tables.proofs.Counting.{uncounted}
-use Rattle.pass_clashes.specs.Resolving.{opposite-in}
+use Rattle.pass_clashes.specs.Resolving.{opposite_in}
 use borrow.Author.Rules.{sfits_of}
 use mir.ValLaws.{to_z-of_z}
 use borrow.Author.Rules.{rules}
@@ -42,10 +42,10 @@ returns c =
     let other = start.args.other.now in
     let e = count-clause.ensures ∙ ap (λ (t : List ℕ). tallied t one) start.requires in (
       any-opposite.ensures
-          ∙ ap (λ (t : List ℕ). any (opposite-in t (to_z w32 (of_z w32 signed.result))) other) e
-          ∙ ap (λ (z : ℤ). any (opposite-in (tallied (replicate {A = ℕ} input-size 0) one) z) other)
+          ∙ ap (λ (t : List ℕ). any (opposite_in t (to_z w32 (of_z w32 signed.result))) other) e
+          ∙ ap (λ (z : ℤ). any (opposite_in (tallied (replicate {A = ℕ} input_size 0) one) z) other)
           (to_z-of_z w32 signed.result (sfits_of signed.type-inv) ∙ signed.ensures),
-      c.before.before.set-entries.ensures ∙ ap (λ (t : List ℕ). with_entries t one 0) e ∙ uncounted input-size one,
+      c.before.before.set-entries.ensures ∙ ap (λ (t : List ℕ). with_entries t one 0) e ∙ uncounted input_size one,
     )
 
 pub is-opposed-spec : {M : Type 1} → statement M

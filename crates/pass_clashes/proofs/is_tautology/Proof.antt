@@ -1,6 +1,6 @@
 -- The parts past the headers are the two clauses (Opposed).
 use native.Mathlib.Omega.{arith}
-use Rattle.pass_clashes.proofs.Opposed.{parts-opposed, parts-inside}
+use Rattle.pass_clashes.proofs.Opposed.{parts_opposed, parts_inside}
 use borrow.Author.Rules.{rules}
 use Rattle.pass_clashes.proofs.is_tautology.Statement.{statement}
 use Rattle.pass_clashes.proofs.is_tautology.Tie as tie
@@ -29,7 +29,7 @@ part-is-opposed-start c = search rules
 part-is-opposed-end : tie.Need-slice-bounds-is-opposed-end
 part-is-opposed-end c =
     let start = c.before.before.before.before in
-    omega (arith, parts-inside start.requires.0 c.before.before.next-at.ensures c.before.next-at2.ensures)
+    omega (arith, parts_inside start.requires.0 c.before.before.next-at.ensures c.before.next-at2.ensures)
 
 mul-is-opposed-2 : tie.Need-overflow-mul-is-opposed-2
 mul-is-opposed-2 c = search rules
@@ -44,7 +44,7 @@ part-is-opposed-end-2 : tie.Need-slice-bounds-is-opposed-end-2
 part-is-opposed-end-2 c =
     let back = c.before.before.before in let next-at = back.next-at in
     let start = back.before.before in
-    omega (arith, parts-inside start.requires.0 next-at.ensures c.before.before.next-at2.ensures)
+    omega (arith, parts_inside start.requires.0 next-at.ensures c.before.before.next-at2.ensures)
 
 is-opposed-requires : tie.Need-is-opposed-requires
 is-opposed-requires c κs = search rules
@@ -58,7 +58,7 @@ returns c =
     let back = back.before.before.before.before in let next-at2 = back.next-at2 in
     let back = back.before in let next-at = back.next-at in
     let start = back.before.before in (
-      parts-opposed start.requires.0 next-at.ensures next-at2.ensures is-opposed.ensures.0,
+      parts_opposed start.requires.0 next-at.ensures next-at2.ensures is-opposed.ensures.0,
       is-opposed.ensures.1,
     )
 

@@ -3,7 +3,7 @@ use mathlib.Core.Path.{◌≡◌, refl, ◌∙◌}
 use native.Mathlib.Omega.{arith}
 use Prim.Native.Nat.{◌-◌}
 use lib.ListN.{length}
-use Rattle.pass_clashes.proofs.Marking.{Marking, marking-start, part-fits, marking-next, marking-end}
+use Rattle.pass_clashes.proofs.Marking.{Marking, marking_start, part_fits, marking_next, marking_end}
 use Rattle.pass_clashes.proofs.mark_all.Statement.{statement}
 use Rattle.pass_clashes.proofs.mark_all.Tie as tie
 
@@ -16,7 +16,7 @@ decreases-loop marks₀ table₀ counts store at₀ marks table at = length stor
 loop-holds : tie.Need-loop-init invariant-loop decreases-loop
 loop-holds c =
     let start = c.before.before.before in
-    (refl, refl, marking-start start.requires.0.0.formed start.requires.1.0 start.requires.1.1)
+    (refl, refl, marking_start start.requires.0.0.formed start.requires.1.0 start.requires.1.1)
 
 mark-entry-requires : tie.Need-mark-entry-requires invariant-loop decreases-loop
 mark-entry-requires c κs =
@@ -24,7 +24,7 @@ mark-entry-requires c κs =
     let back = back.before in let loop = back.loop in
     let start = back.before.before.before.before in (
       (loop-test.true, loop.invariant.2.place.rest),
-      (part-fits start.requires.0.0 loop.invariant.2 loop-test.true, loop.invariant.2.marks-size),
+      (part_fits start.requires.0.0 loop.invariant.2 loop-test.true, loop.invariant.2.marks_size),
     )
 
 next-at-requires : tie.Need-next-at-requires invariant-loop decreases-loop
@@ -46,7 +46,7 @@ loop-again c =
     rw c.next-at.ensures (
       mark-entry.auto.0 ∙ loop.invariant.0,
       mark-entry.auto.1.0 ∙ loop.invariant.1,
-      marking-next start.requires.0.0 loop.invariant.2 loop-test.true mark-entry.ensures.0
+      marking_next start.requires.0.0 loop.invariant.2 loop-test.true mark-entry.ensures.0
           mark-entry.ensures.1 mark-entry.auto.0,
     )
 
@@ -59,7 +59,7 @@ same-length-2 c = c.before.loop.invariant.1
 returns : tie.Need-returns invariant-loop decreases-loop
 returns c =
     let start = c.before.before.before.before.before in
-    marking-end c.before.loop.invariant.2 c.loop-test.false start.requires.0.1
+    marking_end c.before.loop.invariant.2 c.loop-test.false start.requires.0.1
 
 pub mark-all-spec : {M : Type 1} → statement M
 mark-all-spec =

@@ -1,6 +1,6 @@
 use mathlib.Core.Path.{refl, sym}
 use lib.Seq.{length-take-le}
-use Rattle.progress.proofs.Laws.{good-counted}
+use Rattle.progress.proofs.Laws.{good_counted}
 use borrow.Author.Rules.{rules}
 use Rattle.pass_clashes.proofs.mark_clashes.Statement.{statement}
 use Rattle.pass_clashes.proofs.mark_clashes.Tie as tie
@@ -31,7 +31,7 @@ mark-all-requires : tie.Need-mark-all-requires
 mark-all-requires c κs =
     let back = c.before.before.before.before.before in let count-all = back.count-all in
     let start = back.before.before.before.before in
-    ((good-counted start.requires.0 count-all.ensures, start.requires.0.proper), (start.requires.1, refl))
+    ((good_counted start.requires.0 count-all.ensures, start.requires.0.proper), (start.requires.1, refl))
 
 same_length : tie.Need-same-length
 same_length c = search rules

@@ -3,8 +3,8 @@ use borrow.Author.Rules.{sfits_of, rules}
 use Rattle.literals.specs.Literal.{negative}
 use Rattle.literals.proofs.Laws.{answered}
 use Rattle.store.specs.Store.{header_at}
-use Rattle.store.proofs.Laws.{formed-next}
-use Rattle.pass_clashes.proofs.Marking.{part-deleted, part-tested, part_none}
+use Rattle.store.proofs.Laws.{formed_next}
+use Rattle.pass_clashes.proofs.Marking.{part_deleted, part_tested, part_none}
 use Rattle.pass_clashes.proofs.mark_entry.Statement.{statement}
 use Rattle.pass_clashes.proofs.mark_entry.Tie as tie
 
@@ -22,15 +22,15 @@ returns c =
     let start = c.before.before.before.before.before.before in
     let s = start.args.store.now in
     part_none start.args.marks.now start.args.table.now
-    (part-deleted start.args.counts.now s start.args.at
+    (part_deleted start.args.counts.now s start.args.at
     (answered negative (header_at s start.args.at) (sfits_of c.before.before.is-negative-arg.given)
     c.before.is_negative.ensures c.if1.true))
 
 next-at-requires : tie.Need-next-at-requires
 next-at-requires c κs = search rules
 
-add-first : tie.Need-overflow-add-first
-add-first c = search rules
+add_first : tie.Need-overflow-add-first
+add_first c = search rules
 
 mul-is-unique : tie.Need-overflow-mul-is-unique
 mul-is-unique c = search rules
@@ -47,7 +47,7 @@ part-is-unique-end c =
     omega (
       arith,
       c.next-at.ensures,
-      (formed-next start.args.store.now start.args.at start.requires.0.0 start.requires.0.1).0,
+      (formed_next start.args.store.now start.args.at start.requires.0.0 start.requires.0.1).0,
     )
 
 is-unique-requires : tie.Need-is-unique-requires
@@ -69,7 +69,7 @@ part-set-entries-end c =
     omega (
       arith,
       next-at.ensures,
-      (formed-next start.args.store.now start.args.at start.requires.0.0 start.requires.0.1).0,
+      (formed_next start.args.store.now start.args.at start.requires.0.0 start.requires.0.1).0,
     )
 
 set-entries-requires : tie.Need-set-entries-requires
@@ -91,7 +91,7 @@ part-mark-variables-end c =
     omega (
       arith,
       next-at.ensures,
-      (formed-next start.args.store.now start.args.at start.requires.0.0 start.requires.0.1).0,
+      (formed_next start.args.store.now start.args.at start.requires.0.0 start.requires.0.1).0,
     )
 
 mark-variables-requires : tie.Need-mark-variables-requires
@@ -104,7 +104,7 @@ mark-variables-requires c κs =
     let back = back.before in let is-negative-arg = back.is-negative-arg in
     let start = back.before.before.before.before in
     let s = start.args.store.now in
-    let e = part-tested start.args.counts.now s start.args.at
+    let e = part_tested start.args.counts.now s start.args.at
     (answered negative (header_at s start.args.at) (sfits_of is-negative-arg.given) is_negative.ensures
     if1.false) next-at.result next-at.ensures is-unique.ensures if2.true in
     (rw e at start.requires.1.0, start.requires.1.1)
@@ -126,7 +126,7 @@ returns-2 c =
     let back = back.before in let is-negative-arg = back.is-negative-arg in
     let start = back.before.before.before.before in
     let s = start.args.store.now in
-    let e = part-tested start.args.counts.now s start.args.at
+    let e = part_tested start.args.counts.now s start.args.at
     (answered negative (header_at s start.args.at) (sfits_of is-negative-arg.given) is_negative.ensures
     if1.false) next-at.result next-at.ensures is-unique.ensures if2.true in
     rw e (set-entries.ensures, c.before.before.mark-variables.ensures)
@@ -140,7 +140,7 @@ returns-3 c =
     let start = back.before.before.before.before in
     let s = start.args.store.now in
     part_none start.args.marks.now start.args.table.now
-    (part-tested start.args.counts.now s start.args.at
+    (part_tested start.args.counts.now s start.args.at
     (answered negative (header_at s start.args.at) (sfits_of is-negative-arg.given) is_negative.ensures
     if1.false) next-at.result next-at.ensures c.before.is-unique.ensures c.if2.false)
 
@@ -153,7 +153,7 @@ mark-entry-spec =
     is-negative-requires
     returns
     next-at-requires
-    add-first
+    add_first
     mul-is-unique
     sub-is-unique
     part-is-unique-start

@@ -1,7 +1,7 @@
 use native.Mathlib.Omega.{arith}
 use lib.IntN.{nat_abs}
 use Rattle.literals.proofs.Laws.{answer}
-use Rattle.pass_clashes.proofs.Marking.{set_both, not-both}
+use Rattle.pass_clashes.proofs.Marking.{set_both, not_both}
 use borrow.Author.Rules.{rules}
 use Rattle.pass_clashes.proofs.mark_variable.Statement.{statement}
 use Rattle.pass_clashes.proofs.mark_variable.Tie as tie
@@ -35,7 +35,7 @@ returns c =
 returns-2 : tie.Need-returns-2
 returns-2 c =
     let start = c.before.before.before.before.before in
-    not-both start.args.marks.now start.args.table.now start.args.l
+    not_both start.args.marks.now start.args.table.now start.args.l
     (answer nat_abs start.args.l start.ranges.l c.before.before.variable.ensures)
     c.before.is-both.ensures c.if1.false
 

@@ -6,15 +6,15 @@ use Prim.Native.Nat.{◌-◌}
 use lib.IntN.{ℤ, pos, nat_abs}
 use lib.ListN.{length, get_or, take}
 use lib.Seq.{take_all}
-use Rattle.theory_base.proofs.Loops.{getD-mem}
+use Rattle.theory_base.proofs.Loops.{getD_mem}
 use Rattle.literals.proofs.Laws.{at_arg}
-use Rattle.pass_clashes.specs.Marking.{Marked-both}
+use Rattle.pass_clashes.specs.Marking.{MarkedBoth}
 use Rattle.pass_clashes.proofs.Marking.{marked_start, marked_next}
 use Rattle.pass_clashes.proofs.mark_variables.Statement.{statement}
 use Rattle.pass_clashes.proofs.mark_variables.Tie as tie
 
 abbrev invariant-loop : tie.invariant-loop
-invariant-loop marks₀ table clause i₀ marks i = (length marks ≡ length marks₀) × Marked-both marks₀ table (take i clause) marks
+invariant-loop marks₀ table clause i₀ marks i = (length marks ≡ length marks₀) × MarkedBoth marks₀ table (take i clause) marks
 
 abbrev decreases-loop : tie.decreases-loop
 decreases-loop marks₀ table clause i₀ marks i = length clause - i
@@ -37,7 +37,7 @@ mark-variable-requires c κs =
     let s = start.args.clause.now in (
       rw (at_arg nat_abs (get_or s loop.i (pos 0)) (sfits_of c.mark-variable-arg2.given))
           (start.requires.0 (get_or s loop.i (pos 0))
-          (getD-mem s loop.i (pos 0) c.before.before.loop-test.true)).1,
+          (getD_mem s loop.i (pos 0) c.before.before.loop-test.true)).1,
       loop.invariant.0 ∙ start.requires.1,
     )
 
@@ -59,7 +59,7 @@ loop-again c =
       mark-variable.auto.0 ∙ loop.invariant.0,
       marked_next start.args.marks.now loop.marks mark-variable.new.0 t s loop.i loop-test.true
           loop.invariant.1
-          (subst (λ (l : ℤ). Marked-both loop.marks t (l ∷ []) mark-variable.new.0)
+          (subst (λ (l : ℤ). MarkedBoth loop.marks t (l ∷ []) mark-variable.new.0)
           (at_arg (λ (l : ℤ). l) (get_or s loop.i (pos 0)) (sfits_of mark-variable-arg2.given))
           mark-variable.ensures),
     )

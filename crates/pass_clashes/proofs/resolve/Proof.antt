@@ -3,9 +3,9 @@ use native.Mathlib.Omega.{arith}
 use mathlib.Core.Path.{refl, sym}
 use lib.ListN.{take}
 use lib.Seq.{length-take-le}
-use Rattle.pass_clashes.specs.Clashes.{clash-there}
-use Rattle.pass_clashes.proofs.Adding.{parents, opposed-as, none-grown}
-use Rattle.pass_clashes.proofs.Resolved.{end-inside, resolvent-inside, resolvent-there, parents-kept, room-kept, resolved, resolved-indexed, reweighs-dropped, reweighs-added, ended-dropped, ended-added}
+use Rattle.pass_clashes.specs.Clashes.{clash_there}
+use Rattle.pass_clashes.proofs.Adding.{parents, opposed_as, none_grown}
+use Rattle.pass_clashes.proofs.Resolved.{end_inside, resolvent_inside, resolvent_there, parents_kept, room_kept, resolved, resolved_indexed, reweighs_dropped, reweighs_added, ended_dropped, ended_added}
 use borrow.Author.Rules.{rules}
 use Rattle.pass_clashes.proofs.resolve.Statement.{statement}
 use Rattle.pass_clashes.proofs.resolve.Tie as tie
@@ -65,9 +65,9 @@ delete-parents-requires c κs =
     let back = c.before.before.before.before.before.before.before.before.before.before.before.before in let if1 = back.if1 in
     let back = back.before.before.before in let is-tautology = back.is-tautology in
     let start = back.before.before.before.before.before.before.before.before in
-    let d = none-grown start.requires.0 start.args.log.now
-    (opposed-as start.requires.0 is-tautology.ensures.0 if1.true) in
-    (parents-kept start.requires.0 d, room-kept start.requires.0 d)
+    let d = none_grown start.requires.0 start.args.log.now
+    (opposed_as start.requires.0 is-tautology.ensures.0 if1.true) in
+    (parents_kept start.requires.0 d, room_kept start.requires.0 d)
 
 same_length : tie.Need-same-length
 same_length c = search rules
@@ -89,18 +89,18 @@ returns c =
     let back = back.before.before.before in let if1 = back.if1 in
     let back = back.before.before.before in let is-tautology = back.is-tautology in
     let start = back.before.before.before.before.before.before.before.before in
-    let k = clash-there (take start.args.p.end start.args.work.now) start.args.v start.args.x
+    let k = clash_there (take start.args.p.end start.args.work.now) start.args.v start.args.x
     start.args.y in
-    let o = opposed-as start.requires.0 is-tautology.ensures.0 if1.true in
-    let d = none-grown start.requires.0 start.args.log.now o in
+    let o = opposed_as start.requires.0 is-tautology.ensures.0 if1.true in
+    let d = none_grown start.requires.0 start.args.log.now o in
     let g = resolved start.requires.0 d delete-parents.auto.0 refl delete-parents.ensures in (
       g,
       (
-        ended-dropped k start.args.marks.now unmark-entry2.new.0 unmark-entry.new.0 o
+        ended_dropped k start.args.marks.now unmark-entry2.new.0 unmark-entry.new.0 o
             unmark-entry.ensures unmark-entry2.ensures,
         (
-          resolved-indexed start.requires.0 d delete-parents.ensures,
-          (is-tautology.ensures.1, reweighs-dropped start.requires.0 g start.args.weights.now o),
+          resolved_indexed start.requires.0 d delete-parents.ensures,
+          (is-tautology.ensures.1, reweighs_dropped start.requires.0 g start.args.weights.now o),
         ),
       ),
     )
@@ -113,10 +113,10 @@ add-resolvent-requires c κs =
     let back = c.before.before.before.before.before.before.before in let if1 = back.if1 in
     let back = back.before.before.before in let is-tautology = back.is-tautology in
     let start = back.before.before.before.before.before.before.before.before in
-    (start.requires.0, opposed-as start.requires.0 is-tautology.ensures.0 if1.false)
+    (start.requires.0, opposed_as start.requires.0 is-tautology.ensures.0 if1.false)
 
-add-first : tie.Need-overflow-add-first
-add-first c =
+add_first : tie.Need-overflow-add-first
+add_first c =
     let start = c.before.before.before.before.before.before.before.before.before.before.before.before.before.before.before.before.before.before.before.before.before.before.before.before in
     record { fits = omega (arith, start.requires.0.good.inside, start.requires.0.good.small) }
 
@@ -129,8 +129,8 @@ sub-weigh c =
     let back = back.before.before.before.before.before.before.before.before in let if1 = back.if1 in
     let back = back.before.before.before in let is-tautology = back.is-tautology in
     let start = back.before.before.before.before.before.before.before.before in
-    let i = resolvent-inside start.requires.0 add-resolvent.ensures
-    (opposed-as start.requires.0 is-tautology.ensures.0 if1.false) in
+    let i = resolvent_inside start.requires.0 add-resolvent.ensures
+    (opposed_as start.requires.0 is-tautology.ensures.0 if1.false) in
     search (rules, i)
 
 part-weigh-start : tie.Need-slice-bounds-weigh-start
@@ -139,8 +139,8 @@ part-weigh-start c =
     let back = back.before.before.before.before.before.before.before.before in let if1 = back.if1 in
     let back = back.before.before.before in let is-tautology = back.is-tautology in
     let start = back.before.before.before.before.before.before.before.before in
-    let i = resolvent-inside start.requires.0 add-resolvent.ensures
-    (opposed-as start.requires.0 is-tautology.ensures.0 if1.false) in
+    let i = resolvent_inside start.requires.0 add-resolvent.ensures
+    (opposed_as start.requires.0 is-tautology.ensures.0 if1.false) in
     search (rules, i)
 
 part-weigh-end : tie.Need-slice-bounds-weigh-end
@@ -149,8 +149,8 @@ part-weigh-end c =
     let back = back.before.before.before.before.before.before.before.before in let if1 = back.if1 in
     let back = back.before.before.before in let is-tautology = back.is-tautology in
     let start = back.before.before.before.before.before.before.before.before in
-    let i = resolvent-inside start.requires.0 add-resolvent.ensures
-    (opposed-as start.requires.0 is-tautology.ensures.0 if1.false) in
+    let i = resolvent_inside start.requires.0 add-resolvent.ensures
+    (opposed_as start.requires.0 is-tautology.ensures.0 if1.false) in
     search (rules, i)
 
 weigh-requires : tie.Need-weigh-requires
@@ -165,13 +165,13 @@ slice-aggregate-delete-parents-2 : tie.Need-slice-aggregate-delete-parents-2
 slice-aggregate-delete-parents-2 c =
     let back = c.before.before.before.before.before.before.before.before.before.before.before.before in let add-resolvent = back.add-resolvent in
     let start = back.before.before.before.before.before.before.before.before.before.before.before.before.before.before.before.before.before.before.before in
-    sym (length-take-le _ _ (end-inside start.requires.0 add-resolvent.ensures))
+    sym (length-take-le _ _ (end_inside start.requires.0 add-resolvent.ensures))
 
 delete-parents-requires-2 : tie.Need-delete-parents-requires-2
 delete-parents-requires-2 c κs =
     let back = c.before.before.before.before.before.before.before.before.before.before.before.before.before in let add-resolvent = back.add-resolvent in
     let start = back.before.before.before.before.before.before.before.before.before.before.before.before.before.before.before.before.before.before.before in
-    (parents-kept start.requires.0 add-resolvent.ensures, room-kept start.requires.0 add-resolvent.ensures)
+    (parents_kept start.requires.0 add-resolvent.ensures, room_kept start.requires.0 add-resolvent.ensures)
 
 same-length-5 : tie.Need-same-length-5
 same-length-5 c = search rules
@@ -202,20 +202,20 @@ returns-2 c =
     let back = back.before.before in let if1 = back.if1 in
     let back = back.before.before.before in let is-tautology = back.is-tautology in
     let start = back.before.before.before.before.before.before.before.before in
-    let k = clash-there (take start.args.p.end start.args.work.now) start.args.v start.args.x
+    let k = clash_there (take start.args.p.end start.args.work.now) start.args.v start.args.x
     start.args.y in
-    let o = opposed-as start.requires.0 is-tautology.ensures.0 if1.false in
+    let o = opposed_as start.requires.0 is-tautology.ensures.0 if1.false in
     let d = add-resolvent.ensures in
     let g = resolved start.requires.0 d delete-parents2.auto.0 add-resolvent.auto.0 delete-parents2.ensures in (
       g,
       (
-        ended-added k start.args.marks.now clear.new.0 o clear.ensures,
+        ended_added k start.args.marks.now clear.new.0 o clear.ensures,
         (
-          resolved-indexed start.requires.0 d delete-parents2.ensures,
+          resolved_indexed start.requires.0 d delete-parents2.ensures,
           (
             is-tautology.ensures.1,
-            reweighs-added start.requires.0 g start.args.weights.now start.requires.2.size
-                (resolvent-there start.requires.0 d o) weigh.ensures,
+            reweighs_added start.requires.0 g start.args.weights.now start.requires.2.size
+                (resolvent_there start.requires.0 d o) weigh.ensures,
           ),
         ),
       ),
@@ -244,7 +244,7 @@ resolve-spec =
     returns
     clear-requires
     add-resolvent-requires
-    add-first
+    add_first
     mul-weigh
     sub-weigh
     part-weigh-start

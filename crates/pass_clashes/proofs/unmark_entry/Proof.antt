@@ -1,7 +1,7 @@
 use mathlib.Core.Path.{subst}
 use native.Mathlib.Omega.{arith}
 use Rattle.definition.specs.Literals.{Clause}
-use Rattle.store.proofs.Laws.{formed-next, part-there}
+use Rattle.store.proofs.Laws.{formed_next, part_there}
 use Rattle.pass_clashes.specs.Marking.{Unmarked}
 use borrow.Author.Rules.{rules}
 use Rattle.pass_clashes.proofs.unmark_entry.Statement.{statement}
@@ -10,8 +10,8 @@ use Rattle.pass_clashes.proofs.unmark_entry.Tie as tie
 next-at-requires : tie.Need-next-at-requires
 next-at-requires c κs = search rules
 
-add-first : tie.Need-overflow-add-first
-add-first c = search rules
+add_first : tie.Need-overflow-add-first
+add_first c = search rules
 
 mul-unmark-variables : tie.Need-overflow-mul-unmark-variables
 mul-unmark-variables c = search rules
@@ -28,7 +28,7 @@ part-unmark-variables-end c =
     omega (
       arith,
       c.before.next-at.ensures,
-      (formed-next start.args.store.now start.args.at start.requires.0 start.requires.1).0,
+      (formed_next start.args.store.now start.args.at start.requires.0 start.requires.1).0,
     )
 
 unmark-variables-requires : tie.Need-unmark-variables-requires
@@ -43,7 +43,7 @@ returns c =
     let back = back.before.before.before in let next-at = back.next-at in
     let start = back.before.before in
     subst (λ (d : Clause). Unmarked start.args.marks.now d unmark-variables.new.0)
-    (part-there start.args.store.now start.args.at next-at.result next-at.ensures)
+    (part_there start.args.store.now start.args.at next-at.result next-at.ensures)
     unmark-variables.ensures
 
 pub unmark-entry-spec : {M : Type 1} → statement M
@@ -51,7 +51,7 @@ unmark-entry-spec =
     tie.close
     (tie.spec
     next-at-requires
-    add-first
+    add_first
     mul-unmark-variables
     sub-unmark-variables
     part-unmark-variables-start

@@ -6,9 +6,9 @@ use lib.IntN.{pos, nat_abs}
 use lib.ListN.{length, get_or, take}
 use lib.Seq.{take_all}
 use Rattle.literals.proofs.Laws.{answer}
-use Rattle.marks.specs.Marks.{Without-mark}
+use Rattle.marks.specs.Marks.{WithoutMark}
 use Rattle.pass_clashes.specs.Marking.{Unmarked}
-use Rattle.pass_clashes.proofs.Marking.{unmarked-start, unmarked-next}
+use Rattle.pass_clashes.proofs.Marking.{unmarked_start, unmarked_next}
 use Rattle.pass_clashes.proofs.unmark_variables.Statement.{statement}
 use Rattle.pass_clashes.proofs.unmark_variables.Tie as tie
 
@@ -19,7 +19,7 @@ abbrev decreases-loop : tie.decreases-loop
 decreases-loop marks₀ clause i₀ marks i = length clause - i
 
 loop-holds : tie.Need-loop-init invariant-loop decreases-loop
-loop-holds c = (refl, unmarked-start c.before.args.marks.now)
+loop-holds c = (refl, unmarked_start c.before.args.marks.now)
 
 mul-variable : tie.Need-overflow-mul-variable invariant-loop decreases-loop
 mul-variable c = search rules
@@ -49,9 +49,9 @@ loop-again c =
     let start = back.before.before in
     let s = start.args.clause.now in (
       clear.auto.0 ∙ loop.invariant.0,
-      unmarked-next start.args.marks.now loop.marks clear.new.0 s loop.i loop-test.true
+      unmarked_next start.args.marks.now loop.marks clear.new.0 s loop.i loop-test.true
           loop.invariant.1
-          (subst (λ (v : ℕ). Without-mark loop.marks v clear.new.0)
+          (subst (λ (v : ℕ). WithoutMark loop.marks v clear.new.0)
           (answer nat_abs (get_or s loop.i (pos 0)) (sfits_of variable-arg.given) variable.ensures)
           clear.ensures),
     )

@@ -9,7 +9,7 @@ use lib.ListN.{set, get_or}
 use borrow.Author.Rules.{sfits_of, rules}
 use Rattle.literals.proofs.Laws.{answer}
 use Rattle.tables.specs.Entries.{entry_of}
-use Rattle.pass_clashes.proofs.Weighing.{answers-within, answers-given, reweighed-first, reweighed-none}
+use Rattle.pass_clashes.proofs.Weighing.{answers_within, answers_given, reweighed_first, reweighed_none}
 use Rattle.pass_clashes.proofs.weigh.Statement.{statement}
 use Rattle.pass_clashes.proofs.weigh.Tie as tie
 
@@ -38,7 +38,7 @@ add-set-entry-3 c =
       fits = omega (
         arith,
         start.requires,
-        answers-within start.args.weights.now (signed_of false start.args.v) (signed_of true start.args.v)
+        answers_within start.args.weights.now (signed_of false start.args.v) (signed_of true start.args.v)
             (get_or start.args.clause.now 0 (pos 0)) take-weight.ensures.0 take-weight.ensures.1
             take-weight2.ensures.0 take-weight2.ensures.1
             (answer (entry_of take-weight2.new.0) (get_or start.args.clause.now 0 (pos 0))
@@ -70,18 +70,18 @@ returns c =
     let clause = start.args.clause.now in
     let x = get_or clause 0 (pos 0) in
     let u = take-weight2.new.0 in
-    answers-given start.args.weights.now (signed_of false start.args.v) (signed_of true start.args.v)
+    answers_given start.args.weights.now (signed_of false start.args.v) (signed_of true start.args.v)
     (get_or start.args.clause.now 0 (pos 0)) take-weight.ensures.0 take-weight.ensures.1
     take-weight2.ensures.0 take-weight2.ensures.1
     (answer (entry_of u) x (sfits_of entry-of-arg2.given) the-entry-of.ensures)
     (answer (λ (l : ℤ). set u (index_of l) (take-weight.result + take-weight2.result + the-entry-of.result + 1)) x
     (sfits_of set-entry-arg2.given) c.before.before.set-entry.ensures)
-    ∙ reweighed-first start.args.weights.now clause start.args.v if1.true
+    ∙ reweighed_first start.args.weights.now clause start.args.v if1.true
 
 returns-2 : tie.Need-returns-2
 returns-2 c =
     let start = c.before.before in
-    reweighed-none start.args.weights.now start.args.clause.now start.args.v c.if1.false
+    reweighed_none start.args.weights.now start.args.clause.now start.args.v c.if1.false
 
 pub weigh-spec : {M : Type 1} → statement M
 weigh-spec =

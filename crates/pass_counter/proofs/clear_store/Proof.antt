@@ -1,4 +1,4 @@
-use Rattle.pass_counter.proofs.Taking.{first-reached}
+use Rattle.pass_counter.proofs.Taking.{first_reached}
 use borrow.Author.Rules.{rules}
 use Rattle.pass_counter.proofs.clear_store.Statement.{statement}
 use Rattle.pass_counter.proofs.clear_store.Tie as tie
@@ -6,7 +6,7 @@ use Rattle.pass_counter.proofs.clear_store.Tie as tie
 delete-clause-requires : tie.Need-delete-clause-requires
 delete-clause-requires c κs =
     let start = c.before.before.before.before in
-    (start.requires.0.0, start.requires.1.1, first-reached start.requires.1.0 start.requires.1.1)
+    (start.requires.0.0, start.requires.1.1, first_reached start.requires.1.0 start.requires.1.1)
 
 take-pairs-requires : tie.Need-take-pairs-requires
 take-pairs-requires c κs = search rules

@@ -1,7 +1,7 @@
 use mathlib.Core.Path.{refl}
-use Rattle.definition.specs.Counter.{stage-3}
-use Rattle.definition.specs.Events.{choice-of}
-use Rattle.pass_counter.proofs.Links.{counter-parts, first-room, rest-room, two-grown}
+use Rattle.definition.specs.Counter.{stage_3}
+use Rattle.definition.specs.Events.{choice_of}
+use Rattle.pass_counter.proofs.Links.{counter_parts, first_room, rest_room, two_grown}
 use borrow.Author.Rules.{rules}
 use Rattle.pass_counter.proofs.put_counter.Statement.{statement}
 use Rattle.pass_counter.proofs.put_counter.Tie as tie
@@ -10,8 +10,8 @@ put-stage-2-requires : tie.Need-put-stage-2-requires
 put-stage-2-requires c κs =
     let start = c.before.before.before.before.before in (
       (start.requires.0.0, start.requires.0.1),
-      first-room (stage-3 (choice-of start.args.choice.now start.args.below))
-          (counter-parts start.args.choice.now start.args.below) refl start.requires.1,
+      first_room (stage_3 (choice_of start.args.choice.now start.args.below))
+          (counter_parts start.args.choice.now start.args.below) refl start.requires.1,
     )
 
 put-stage-3-requires : tie.Need-put-stage-3-requires
@@ -19,7 +19,7 @@ put-stage-3-requires c κs =
     let back = c.before.before.before.before.before.before.before.before in let put-stage-2 = back.put-stage-2 in
     let start = back.before.before.before.before.before.before in (
       (start.requires.0.0, start.requires.0.1),
-      rest-room (counter-parts start.args.choice.now start.args.below) refl refl start.requires.1
+      rest_room (counter_parts start.args.choice.now start.args.below) refl refl start.requires.1
           put-stage-2.ensures,
     )
 
@@ -37,7 +37,7 @@ returns c =
     let back = c.before.before.before.before.before in let put-stage-3 = back.put-stage-3 in
     let back = back.before.before.before.before.before.before.before.before.before in let put-stage-2 = back.put-stage-2 in
     let start = back.before.before.before.before.before.before in
-    two-grown (counter-parts start.args.choice.now start.args.below) refl refl put-stage-2.ensures
+    two_grown (counter_parts start.args.choice.now start.args.below) refl refl put-stage-2.ensures
     put-stage-3.ensures
 
 pub put-counter-spec : {M : Type 1} → statement M

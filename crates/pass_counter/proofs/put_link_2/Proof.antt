@@ -1,8 +1,8 @@
 use Prim.Native.Nat.{◌-◌}
 use Rattle.literals.specs.Literal.{negation}
 use Rattle.literals.proofs.Laws.{answer}
-use Rattle.pairs.specs.Pairs.{literal-at}
-use Rattle.pass_counter.proofs.Links.{first_made, second-made, third-made, link-2-parts, link-2-more, link-2-last, first-room, second-room, third-room, three-grown}
+use Rattle.pairs.specs.Pairs.{literal_at}
+use Rattle.pass_counter.proofs.Links.{first_made, second_made, third_made, link_2_parts, link_2_more, link_2_last, first_room, second_room, third_room, three_grown}
 use borrow.Author.Rules.{sfits_of, rules}
 use Rattle.pass_counter.proofs.put_link_2.Statement.{statement}
 use Rattle.pass_counter.proofs.put_link_2.Tie as tie
@@ -48,10 +48,10 @@ put-three-requires c κs =
     let start = back.before.before.before.before in
     let a = start.args in
     let g = start.requires in
-    let e = link-2-parts a.choice.now a.below a.i in
+    let e = link_2_parts a.choice.now a.below a.i in
     let d = first_made g.0.0 a.i g.0.1 g.0.2 (sfits_of signed2.type-inv) (sfits_of signed3.type-inv)
     (sfits_of l.given) signed2.ensures signed3.ensures in
-    first-room (link-2-more a.choice.now a.below a.i) e d g.1
+    first_room (link_2_more a.choice.now a.below a.i) e d g.1
 
 put-two-requires : tie.Need-put-two-requires
 put-two-requires c κs =
@@ -64,12 +64,12 @@ put-two-requires c κs =
     let start = back.before.before.before in
     let a = start.args in
     let g = start.requires in
-    let e = link-2-parts a.choice.now a.below a.i in
+    let e = link_2_parts a.choice.now a.below a.i in
     let d = first_made g.0.0 a.i g.0.1 g.0.2 (sfits_of signed2.type-inv) (sfits_of signed3.type-inv)
     (sfits_of l.given) signed2.ensures signed3.ensures in
-    let k = second-made g.0.0 a.i g.0.1 g.0.2 (sfits_of signed.type-inv) (sfits_of signed4.type-inv)
+    let k = second_made g.0.0 a.i g.0.1 g.0.2 (sfits_of signed.type-inv) (sfits_of signed4.type-inv)
     signed.ensures signed4.ensures in
-    second-room (link-2-last a.choice.now a.below a.i) e d k g.1 put_three.ensures
+    second_room (link_2_last a.choice.now a.below a.i) e d k g.1 put_three.ensures
 
 negated-requires : tie.Need-negated-requires
 negated-requires c κs = search rules
@@ -86,15 +86,15 @@ put-two-requires-2 c κs =
     let start = back.before.before.before in
     let a = start.args in
     let g = start.requires in
-    let e = link-2-parts a.choice.now a.below a.i in
+    let e = link_2_parts a.choice.now a.below a.i in
     let d = first_made g.0.0 a.i g.0.1 g.0.2 (sfits_of signed2.type-inv) (sfits_of signed3.type-inv)
     (sfits_of l.given) signed2.ensures signed3.ensures in
-    let k = second-made g.0.0 a.i g.0.1 g.0.2 (sfits_of signed.type-inv) (sfits_of signed4.type-inv)
+    let k = second_made g.0.0 a.i g.0.1 g.0.2 (sfits_of signed.type-inv) (sfits_of signed4.type-inv)
     signed.ensures signed4.ensures in
-    let m = third-made g.0.0 a.i g.0.1 g.0.2 (sfits_of signed.type-inv) (sfits_of c.negated.type-inv)
+    let m = third_made g.0.0 a.i g.0.1 g.0.2 (sfits_of signed.type-inv) (sfits_of c.negated.type-inv)
     signed.ensures
-    (answer negation (literal-at a.choice.now (a.i - 1)) (sfits_of l.given) c.negated.ensures) in
-    third-room e d k m g.1 put_three.ensures put_two.ensures
+    (answer negation (literal_at a.choice.now (a.i - 1)) (sfits_of l.given) c.negated.ensures) in
+    third_room e d k m g.1 put_three.ensures put_two.ensures
 
 same_length : tie.Need-same-length
 same_length c = search rules
@@ -119,15 +119,15 @@ returns c =
     let start = back.before.before.before in
     let a = start.args in
     let g = start.requires in
-    let e = link-2-parts a.choice.now a.below a.i in
+    let e = link_2_parts a.choice.now a.below a.i in
     let d = first_made g.0.0 a.i g.0.1 g.0.2 (sfits_of signed2.type-inv) (sfits_of signed3.type-inv)
     (sfits_of l.given) signed2.ensures signed3.ensures in
-    let k = second-made g.0.0 a.i g.0.1 g.0.2 (sfits_of signed.type-inv) (sfits_of signed4.type-inv)
+    let k = second_made g.0.0 a.i g.0.1 g.0.2 (sfits_of signed.type-inv) (sfits_of signed4.type-inv)
     signed.ensures signed4.ensures in
-    let m = third-made g.0.0 a.i g.0.1 g.0.2 (sfits_of signed.type-inv) (sfits_of negated.type-inv)
+    let m = third_made g.0.0 a.i g.0.1 g.0.2 (sfits_of signed.type-inv) (sfits_of negated.type-inv)
     signed.ensures
-    (answer negation (literal-at a.choice.now (a.i - 1)) (sfits_of l.given) negated.ensures) in
-    three-grown e d k m put_three.ensures put_two.ensures put-two2.ensures
+    (answer negation (literal_at a.choice.now (a.i - 1)) (sfits_of l.given) negated.ensures) in
+    three_grown e d k m put_three.ensures put_two.ensures put-two2.ensures
 
 pub put-link-2-spec : {M : Type 1} → statement M
 put-link-2-spec =

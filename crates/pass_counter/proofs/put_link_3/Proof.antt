@@ -2,8 +2,8 @@ use mathlib.Core.Path.{sym}
 use Prim.Native.Nat.{◌-◌}
 use Rattle.literals.specs.Literal.{negation}
 use Rattle.literals.proofs.Laws.{answer}
-use Rattle.pairs.specs.Pairs.{literal-at}
-use Rattle.pass_counter.proofs.Links.{grow-as, grown-as, link-3-made}
+use Rattle.pairs.specs.Pairs.{literal_at}
+use Rattle.pass_counter.proofs.Links.{grow_as, grown_as, link_3_made}
 use borrow.Author.Rules.{sfits_of, rules}
 use Rattle.pass_counter.proofs.put_link_3.Statement.{statement}
 use Rattle.pass_counter.proofs.put_link_3.Tie as tie
@@ -40,10 +40,10 @@ put-two-requires c κs =
     let start = back.before.before.before in
     let a = start.args in
     let g = start.requires in
-    grow-as g.1
+    grow_as g.1
     (sym
-    (link-3-made g.0.0 a.i g.0.1 g.0.2 (sfits_of negated.type-inv) (sfits_of signed.type-inv)
-    (answer negation (literal-at a.choice.now (a.i - 1)) (sfits_of negated-arg.given) negated.ensures)
+    (link_3_made g.0.0 a.i g.0.1 g.0.2 (sfits_of negated.type-inv) (sfits_of signed.type-inv)
+    (answer negation (literal_at a.choice.now (a.i - 1)) (sfits_of negated-arg.given) negated.ensures)
     signed.ensures))
 
 same_length : tie.Need-same-length
@@ -64,9 +64,9 @@ returns c =
     let start = back.before.before.before in
     let a = start.args in
     let g = start.requires in
-    grown-as put_two.ensures
-    (link-3-made g.0.0 a.i g.0.1 g.0.2 (sfits_of negated.type-inv) (sfits_of signed.type-inv)
-    (answer negation (literal-at a.choice.now (a.i - 1)) (sfits_of negated-arg.given) negated.ensures)
+    grown_as put_two.ensures
+    (link_3_made g.0.0 a.i g.0.1 g.0.2 (sfits_of negated.type-inv) (sfits_of signed.type-inv)
+    (answer negation (literal_at a.choice.now (a.i - 1)) (sfits_of negated-arg.given) negated.ensures)
     signed.ensures)
 
 pub put-link-3-spec : {M : Type 1} → statement M

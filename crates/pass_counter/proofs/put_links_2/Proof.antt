@@ -2,18 +2,18 @@ use mathlib.Core.Path.{◌≡◌, sym, ap, ◌∙◌}
 use Prim.Native.Nat.{ℕ, ◌+◌, ◌-◌, ◌≤◌}
 use native.Mathlib.Omega.{arith}
 use lib.ListN.{length}
-use Rattle.definition.specs.Lists.{for-from}
-use Rattle.progress.proofs.Laws.{written-length}
-use Rattle.definition.specs.Events.{choice-of}
+use Rattle.definition.specs.Lists.{for_from}
+use Rattle.progress.proofs.Laws.{written_length}
+use Rattle.definition.specs.Events.{choice_of}
 use Rattle.progress.specs.Growth.{Grown}
-use Rattle.pass_counter.specs.Links.{link-2}
-use Rattle.progress.proofs.Growing.{grown-start, grow-turn, grown-turn}
-use Rattle.pass_counter.proofs.Links.{grown-as}
+use Rattle.pass_counter.specs.Links.{link_2}
+use Rattle.progress.proofs.Growing.{grown_start, grow_turn, grown_turn}
+use Rattle.pass_counter.proofs.Links.{grown_as}
 use Rattle.pass_counter.proofs.put_links_2.Statement.{statement}
 use Rattle.pass_counter.proofs.put_links_2.Tie as tie
 
 abbrev invariant-loop : tie.invariant-loop
-invariant-loop work₀ newest₀ log₀ choice below q₀ i₀ work newest log q i = (2 ≤ i) × (i ≤ length choice) × Grown (for-from 2 (i - 2) (link-2 (choice-of choice below))) work₀ newest₀ log₀ q₀ work newest log q
+invariant-loop work₀ newest₀ log₀ choice below q₀ i₀ work newest log q i = (2 ≤ i) × (i ≤ length choice) × Grown (for_from 2 (i - 2) (link_2 (choice_of choice below))) work₀ newest₀ log₀ q₀ work newest log q
 
 abbrev decreases-loop : tie.decreases-loop
 decreases-loop work₀ newest₀ log₀ choice below q₀ i₀ work newest log q i = length choice + 1 - i
@@ -23,7 +23,7 @@ loop-holds c =
     let start = c.before.before in (
       omega arith,
       start.requires.0.1,
-      grown-start 2 2 (link-2 (choice-of start.args.choice.now start.args.below)) start.args.work.now
+      grown_start 2 2 (link_2 (choice_of start.args.choice.now start.args.below)) start.args.work.now
           start.args.newest.now start.args.log.now start.args.p start.requires.1.indexed (omega arith),
     )
 
@@ -33,8 +33,8 @@ put-link-2-requires c κs =
     let back = back.before in let loop = back.loop in
     let start = back.before.before.before in (
       (start.requires.0.0, loop.invariant.0, omega (arith, loop-test.true)),
-      grow-turn 2 (length start.args.choice.now - 2) loop.i
-          (link-2 (choice-of start.args.choice.now start.args.below)) loop.invariant.0
+      grow_turn 2 (length start.args.choice.now - 2) loop.i
+          (link_2 (choice_of start.args.choice.now start.args.below)) loop.invariant.0
           (omega (arith, start.requires.0.1, loop.invariant.0, loop-test.true)) start.requires.1 loop.invariant.2,
     )
 
@@ -57,7 +57,7 @@ loop-again c =
     let start = back.before.before.before in (
       omega (arith, loop.invariant.0),
       omega (arith, loop-test.true),
-      grown-turn 2 loop.i (link-2 (choice-of start.args.choice.now start.args.below)) loop.invariant.0
+      grown_turn 2 loop.i (link_2 (choice_of start.args.choice.now start.args.below)) loop.invariant.0
           loop.invariant.2 put-link-2.ensures,
     )
 
@@ -70,7 +70,7 @@ same-length-2 c =
     c.before.loop.invariant.2.indexed.size ∙ sym start.requires.1.indexed.size
 
 same-length-3 : tie.Need-same-length-3 invariant-loop decreases-loop
-same-length-3 c = written-length c.before.loop.invariant.2.written
+same-length-3 c = written_length c.before.loop.invariant.2.written
 
 returns : tie.Need-returns invariant-loop decreases-loop
 returns c =
@@ -78,8 +78,8 @@ returns c =
     let start = back.before.before.before in
     let e : loop.i ≡ length start.args.choice.now = omega (arith, loop.invariant.0, loop.invariant.1, c.loop-test.false)
     in
-    grown-as loop.invariant.2
-    (ap (λ (k : ℕ). for-from 2 (k - 2) (link-2 (choice-of start.args.choice.now start.args.below))) e)
+    grown_as loop.invariant.2
+    (ap (λ (k : ℕ). for_from 2 (k - 2) (link_2 (choice_of start.args.choice.now start.args.below))) e)
 
 pub put-links-2-spec : {M : Type 1} → statement M
 put-links-2-spec =

@@ -3,8 +3,8 @@ use native.Mathlib.Omega.{arith}
 use Prim.Native.Nat.{◌+◌}
 use Rattle.literals.specs.Literal.{negation}
 use Rattle.literals.proofs.Laws.{answer}
-use Rattle.pairs.specs.Pairs.{literal-at}
-use Rattle.pass_counter.proofs.Links.{two-passed, new_is, new-negated, lit_is, lit-negated, stage-2-parts, stage-2-more, stage-2-last, first-room, second-room, third-room, three-grown}
+use Rattle.pairs.specs.Pairs.{literal_at}
+use Rattle.pass_counter.proofs.Links.{two_passed, new_is, new_negated, lit_is, lit_negated, stage_2_parts, stage_2_more, stage_2_last, first_room, second_room, third_room, three_grown}
 use borrow.Author.Rules.{sfits_of, rules}
 use Rattle.pass_counter.proofs.put_stage_2.Statement.{statement}
 use Rattle.pass_counter.proofs.put_stage_2.Tie as tie
@@ -22,10 +22,10 @@ put-two-requires : tie.Need-put-two-requires
 put-two-requires c κs =
     let back = c.before.before.before.before in let l = back.l in
     let start = back.before.before.before in
-    first-room (stage-2-more start.args.choice.now start.args.below)
-    (stage-2-parts start.args.choice.now start.args.below)
-    (two-passed (sfits_of c.signed.type-inv) (sfits_of l.given)
-    (c.signed.ensures ∙ new-negated start.requires.0.0 1 (start.args.below + 1) refl (omega arith))
+    first_room (stage_2_more start.args.choice.now start.args.below)
+    (stage_2_parts start.args.choice.now start.args.below)
+    (two_passed (sfits_of c.signed.type-inv) (sfits_of l.given)
+    (c.signed.ensures ∙ new_negated start.requires.0.0 1 (start.args.below + 1) refl (omega arith))
     (lit_is start.args.choice.now start.args.below 1)) start.requires.1
 
 signed-requires-2 : tie.Need-signed-requires-2
@@ -41,15 +41,15 @@ put-two-requires-2 c κs =
     let back = back.before in let signed = back.signed in
     let back = back.before.before.before.before in let l = back.l in
     let start = back.before.before.before in
-    second-room (stage-2-last start.args.choice.now start.args.below)
-    (stage-2-parts start.args.choice.now start.args.below)
-    (two-passed (sfits_of signed.type-inv) (sfits_of l.given)
-    (signed.ensures ∙ new-negated start.requires.0.0 1 (start.args.below + 1) refl (omega arith))
+    second_room (stage_2_last start.args.choice.now start.args.below)
+    (stage_2_parts start.args.choice.now start.args.below)
+    (two_passed (sfits_of signed.type-inv) (sfits_of l.given)
+    (signed.ensures ∙ new_negated start.requires.0.0 1 (start.args.below + 1) refl (omega arith))
     (lit_is start.args.choice.now start.args.below 1))
-    (two-passed (sfits_of signed2.type-inv) (sfits_of c.negated.type-inv)
+    (two_passed (sfits_of signed2.type-inv) (sfits_of c.negated.type-inv)
     (signed2.ensures ∙ new_is start.requires.0.0 1 (start.args.below + 1) refl (omega arith))
-    (answer negation (literal-at start.args.choice.now 0) (sfits_of l.given) c.negated.ensures
-    ∙ lit-negated start.requires.0.0 1 (omega arith) (omega (arith, start.requires.0.1)))) start.requires.1
+    (answer negation (literal_at start.args.choice.now 0) (sfits_of l.given) c.negated.ensures
+    ∙ lit_negated start.requires.0.0 1 (omega arith) (omega (arith, start.requires.0.1)))) start.requires.1
     put_two.ensures
 
 put-links-2-requires : tie.Need-put-links-2-requires
@@ -62,14 +62,14 @@ put-links-2-requires c κs =
     let back = back.before.before.before.before in let l = back.l in
     let start = back.before.before.before in (
       (start.requires.0.0, start.requires.0.1),
-      third-room (stage-2-parts start.args.choice.now start.args.below)
-          (two-passed (sfits_of signed.type-inv) (sfits_of l.given)
-          (signed.ensures ∙ new-negated start.requires.0.0 1 (start.args.below + 1) refl (omega arith))
+      third_room (stage_2_parts start.args.choice.now start.args.below)
+          (two_passed (sfits_of signed.type-inv) (sfits_of l.given)
+          (signed.ensures ∙ new_negated start.requires.0.0 1 (start.args.below + 1) refl (omega arith))
           (lit_is start.args.choice.now start.args.below 1))
-          (two-passed (sfits_of signed2.type-inv) (sfits_of negated.type-inv)
+          (two_passed (sfits_of signed2.type-inv) (sfits_of negated.type-inv)
           (signed2.ensures ∙ new_is start.requires.0.0 1 (start.args.below + 1) refl (omega arith))
-          (answer negation (literal-at start.args.choice.now 0) (sfits_of l.given) negated.ensures
-          ∙ lit-negated start.requires.0.0 1 (omega arith) (omega (arith, start.requires.0.1)))) refl start.requires.1
+          (answer negation (literal_at start.args.choice.now 0) (sfits_of l.given) negated.ensures
+          ∙ lit_negated start.requires.0.0 1 (omega arith) (omega (arith, start.requires.0.1)))) refl start.requires.1
           put_two.ensures put-two2.ensures,
     )
 
@@ -92,14 +92,14 @@ returns c =
     let back = back.before in let signed = back.signed in
     let back = back.before.before.before.before in let l = back.l in
     let start = back.before.before.before in
-    three-grown (stage-2-parts start.args.choice.now start.args.below)
-    (two-passed (sfits_of signed.type-inv) (sfits_of l.given)
-    (signed.ensures ∙ new-negated start.requires.0.0 1 (start.args.below + 1) refl (omega arith))
+    three_grown (stage_2_parts start.args.choice.now start.args.below)
+    (two_passed (sfits_of signed.type-inv) (sfits_of l.given)
+    (signed.ensures ∙ new_negated start.requires.0.0 1 (start.args.below + 1) refl (omega arith))
     (lit_is start.args.choice.now start.args.below 1))
-    (two-passed (sfits_of signed2.type-inv) (sfits_of negated.type-inv)
+    (two_passed (sfits_of signed2.type-inv) (sfits_of negated.type-inv)
     (signed2.ensures ∙ new_is start.requires.0.0 1 (start.args.below + 1) refl (omega arith))
-    (answer negation (literal-at start.args.choice.now 0) (sfits_of l.given) negated.ensures
-    ∙ lit-negated start.requires.0.0 1 (omega arith) (omega (arith, start.requires.0.1)))) refl put_two.ensures
+    (answer negation (literal_at start.args.choice.now 0) (sfits_of l.given) negated.ensures
+    ∙ lit_negated start.requires.0.0 1 (omega arith) (omega (arith, start.requires.0.1)))) refl put_two.ensures
     put-two2.ensures put-links-2.ensures
 
 pub put-stage-2-spec : {M : Type 1} → statement M

@@ -2,7 +2,7 @@ use mathlib.Core.Path.{refl, ◌∙◌}
 use native.Mathlib.Omega.{arith}
 use Prim.Native.Nat.{◌+◌, ◌-◌}
 use lib.ListN.{length}
-use Rattle.pass_counter.proofs.Links.{two-passed, new_is, lit_is, stage-3-parts, stage-3-first, stage-3-last, first-room, rest-room, two-grown}
+use Rattle.pass_counter.proofs.Links.{two_passed, new_is, lit_is, stage_3_parts, stage_3_first, stage_3_last, first_room, rest_room, two_grown}
 use borrow.Author.Rules.{sfits_of, rules}
 use Rattle.pass_counter.proofs.put_stage_3.Statement.{statement}
 use Rattle.pass_counter.proofs.put_stage_3.Tie as tie
@@ -20,8 +20,8 @@ put-links-3-requires : tie.Need-put-links-3-requires
 put-links-3-requires c κs =
     let start = c.before.before.before.before.before in (
       (start.requires.0.0, start.requires.0.1),
-      first-room (stage-3-last start.args.choice.now start.args.below)
-          (stage-3-parts start.args.choice.now start.args.below) refl start.requires.1,
+      first_room (stage_3_last start.args.choice.now start.args.below)
+          (stage_3_parts start.args.choice.now start.args.below) refl start.requires.1,
     )
 
 signed-requires : tie.Need-signed-requires
@@ -38,8 +38,8 @@ put-two-requires c κs =
     let back = c.before in let signed = back.signed in
     let back = back.before.before.before.before.before.before.before.before.before in let put-links-3 = back.put-links-3 in
     let start = back.before.before.before.before.before.before in
-    rest-room {f = stage-3-first start.args.choice.now start.args.below} (stage-3-parts start.args.choice.now start.args.below) refl
-    (two-passed (sfits_of signed.type-inv) (sfits_of c.put-two-arg4.given)
+    rest_room {f = stage_3_first start.args.choice.now start.args.below} (stage_3_parts start.args.choice.now start.args.below) refl
+    (two_passed (sfits_of signed.type-inv) (sfits_of c.put-two-arg4.given)
     (signed.ensures
     ∙ new_is start.requires.0.0 (length start.args.choice.now - 1)
     (start.args.below + (length start.args.choice.now - 1)) refl (omega (arith, start.requires.0.0.few)))
@@ -62,8 +62,8 @@ returns c =
     let back = back.before in let signed = back.signed in
     let back = back.before.before.before.before.before.before.before.before.before in let put-links-3 = back.put-links-3 in
     let start = back.before.before.before.before.before.before in
-    two-grown {f = stage-3-first start.args.choice.now start.args.below} (stage-3-parts start.args.choice.now start.args.below) refl
-    (two-passed (sfits_of signed.type-inv) (sfits_of put-two-arg4.given)
+    two_grown {f = stage_3_first start.args.choice.now start.args.below} (stage_3_parts start.args.choice.now start.args.below) refl
+    (two_passed (sfits_of signed.type-inv) (sfits_of put-two-arg4.given)
     (signed.ensures
     ∙ new_is start.requires.0.0 (length start.args.choice.now - 1)
     (start.args.below + (length start.args.choice.now - 1)) refl (omega (arith, start.requires.0.0.few)))

@@ -1,5 +1,5 @@
 use mathlib.Core.Path.{refl, sym}
-use Rattle.pass_counter.proofs.Links.{three-passed, grow-as, grown-as}
+use Rattle.pass_counter.proofs.Links.{three_passed, grow_as, grown_as}
 use borrow.Author.Rules.{rules}
 use Rattle.pass_counter.proofs.put_three.Statement.{statement}
 use Rattle.pass_counter.proofs.put_three.Tie as tie
@@ -11,7 +11,7 @@ add-clause-requires : tie.Need-add-clause-requires
 add-clause-requires c κs =
     let start = c.before.before.before.before.before.before in (
       search rules,
-      grow-as start.requires (sym (three-passed start.ranges.a start.ranges.b start.ranges.c refl refl refl)),
+      grow_as start.requires (sym (three_passed start.ranges.a start.ranges.b start.ranges.c refl refl refl)),
     )
 
 same_length : tie.Need-same-length
@@ -27,7 +27,7 @@ returns : tie.Need-returns
 returns c =
     let back = c.before.before.before.before.before in let add-clause = back.add-clause in
     let start = back.before.before.before.before.before.before.before in
-    grown-as add-clause.ensures (three-passed start.ranges.a start.ranges.b start.ranges.c refl refl refl)
+    grown_as add-clause.ensures (three_passed start.ranges.a start.ranges.b start.ranges.c refl refl refl)
 
 pub put-three-spec : {M : Type 1} → statement M
 put-three-spec =

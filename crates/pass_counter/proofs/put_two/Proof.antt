@@ -1,5 +1,5 @@
 use mathlib.Core.Path.{refl, sym}
-use Rattle.pass_counter.proofs.Links.{two-passed, grow-as, grown-as}
+use Rattle.pass_counter.proofs.Links.{two_passed, grow_as, grown_as}
 use borrow.Author.Rules.{rules}
 use Rattle.pass_counter.proofs.put_two.Statement.{statement}
 use Rattle.pass_counter.proofs.put_two.Tie as tie
@@ -10,7 +10,7 @@ slice-aggregate-add-clause c = search rules
 add-clause-requires : tie.Need-add-clause-requires
 add-clause-requires c κs =
     let start = c.before.before.before.before.before.before in
-    (search rules, grow-as start.requires (sym (two-passed start.ranges.a start.ranges.b refl refl)))
+    (search rules, grow_as start.requires (sym (two_passed start.ranges.a start.ranges.b refl refl)))
 
 same_length : tie.Need-same-length
 same_length c = search rules
@@ -25,7 +25,7 @@ returns : tie.Need-returns
 returns c =
     let back = c.before.before.before.before.before in let add-clause = back.add-clause in
     let start = back.before.before.before.before.before.before.before in
-    grown-as add-clause.ensures (two-passed start.ranges.a start.ranges.b refl refl)
+    grown_as add-clause.ensures (two_passed start.ranges.a start.ranges.b refl refl)
 
 pub put-two-spec : {M : Type 1} → statement M
 put-two-spec =

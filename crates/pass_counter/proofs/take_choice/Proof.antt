@@ -3,8 +3,8 @@ use Prim.Native.Nat.{ℕ}
 use native.Mathlib.Omega.{arith}
 use lib.ListN.{length, length-replicate}
 use Rattle.pairs.specs.Pairs.{slots}
-use Rattle.pairs.proofs.Clearing.{pair-counts}
-use Rattle.pass_counter.proofs.Taking.{counter-room, line-room, last-room, choice-taken}
+use Rattle.pairs.proofs.Clearing.{pair_counts}
+use Rattle.pass_counter.proofs.Taking.{counter_room, line_room, last_room, choice_taken}
 use borrow.Author.Rules.{rules}
 use Rattle.pass_counter.proofs.take_choice.Statement.{statement}
 use Rattle.pass_counter.proofs.take_choice.Tie as tie
@@ -21,7 +21,7 @@ put-counter-requires c κs =
     let back = c.before.before.before.before.before.before in let clear-store = back.clear-store in
     let start = back.before.before.before.before.before.before.before.before in (
       (start.requires.0.small, start.requires.0.ready.long),
-      counter-room start.requires.0 start.requires.1 clear-store.ensures.1 clear-store.auto.0
+      counter_room start.requires.0 start.requires.1 clear-store.ensures.1 clear-store.auto.0
           clear-store.ensures.0,
     )
 
@@ -30,7 +30,7 @@ record-line-requires c κs =
     let back = c.before.before.before.before.before.before in let put-counter = back.put-counter in
     let back = back.before.before.before.before.before.before.before in let clear-store = back.clear-store in
     let start = back.before.before.before.before.before.before.before.before in
-    line-room start.requires.0 start.requires.1 clear-store.ensures.1 clear-store.auto.0 clear-store.ensures.0
+    line_room start.requires.0 start.requires.1 clear-store.ensures.1 clear-store.auto.0 clear-store.ensures.0
     put-counter.ensures
 
 record-pairs-requires : tie.Need-record-pairs-requires
@@ -40,7 +40,7 @@ record-pairs-requires c κs =
     let back = back.before.before.before.before.before.before.before in let clear-store = back.clear-store in
     let start = back.before.before.before.before.before.before.before.before in (
       start.requires.0.small.few,
-      last-room start.requires.0 start.requires.1 clear-store.ensures.1 clear-store.auto.0
+      last_room start.requires.0 start.requires.1 clear-store.ensures.1 clear-store.auto.0
           clear-store.ensures.0 put-counter.ensures record-line.ensures.0,
     )
 
@@ -48,7 +48,7 @@ clear-counts-requires : tie.Need-clear-counts-requires
 clear-counts-requires c κs =
     let back = c.before.before.before.before.before.before.before.before.before.before.before.before.before.before.before.before.before.before.before.before.before.before in let clear-store = back.clear-store in
     let start = back.before.before.before.before.before.before.before.before in (
-      pair-counts start.requires.1 start.requires.0.small.few clear-store.ensures.0
+      pair_counts start.requires.1 start.requires.0.small.few clear-store.ensures.0
           (clear-store.auto.1.1.1.1.1.0 ∙ ap length start.requires.2 ∙ length-replicate {A = ℕ} slots 0),
       start.requires.0.small.few,
     )
@@ -78,7 +78,7 @@ returns c =
     let back = back.before.before.before.before.before.before.before in let put-counter = back.put-counter in
     let back = back.before.before.before.before.before.before.before in let clear-store = back.clear-store in
     let start = back.before.before.before.before.before.before.before.before in (
-      choice-taken start.requires.0 start.requires.1 clear-store.ensures.1 clear-store.auto.0
+      choice_taken start.requires.0 start.requires.1 clear-store.ensures.1 clear-store.auto.0
           clear-store.ensures.0 put-counter.ensures record-line.ensures.0 record-pairs.ensures.0
           record-line.ensures.1 record-pairs.ensures.1,
       clear-counts.ensures,

@@ -3,7 +3,7 @@ use native.Mathlib.Omega.{arith}
 use native.Mathlib.Nat.{mod-lt}
 use borrow.Author.Rules.{rules}
 use Rattle.definition.specs.Counter.{below_new}
-use Rattle.theory_counter.proofs.NewVariables.{below-new-most}
+use Rattle.theory_counter.proofs.NewVariables.{below_new_most}
 use Rattle.pass_number.proofs.next_below.Statement.{statement}
 use Rattle.pass_number.proofs.next_below.Tie as tie
 
@@ -18,7 +18,7 @@ rem-result-2 c = search rules
 
 add-result : tie.Need-overflow-add-result
 unfolding below_new
-add-result c = omega (arith, below-new-most c.args.g c.args.highest, c.requires.1)
+add-result c = omega (arith, below_new_most c.args.g c.args.highest, c.requires.1)
 
 returns : tie.Need-returns
 unfolding below_new

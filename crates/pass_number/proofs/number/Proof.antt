@@ -1,8 +1,8 @@
 use native.Mathlib.Omega.{arith}
 use Prim.Native.Nat.{◌-◌}
 use lib.ListN.{length}
-use Rattle.pass_number.proofs.Numbering.{numbered-length}
-use Rattle.pass_number.proofs.Turns.{Turns, turns-start, at_ready, turns_next, turns-end}
+use Rattle.pass_number.proofs.Numbering.{numbered_length}
+use Rattle.pass_number.proofs.Turns.{Turns, turns_start, at_ready, turns_next, turns_end}
 use Rattle.pass_number.proofs.number.Statement.{statement}
 use Rattle.pass_number.proofs.number.Tie as tie
 
@@ -13,7 +13,7 @@ abbrev decreases-loop : tie.decreases-loop
 decreases-loop chosen weights rows₀ highest g m₀ at₀ rows m at = length chosen - at
 
 loop-holds : tie.Need-loop-init invariant-loop decreases-loop
-loop-holds c = turns-start c.before.before.requires
+loop-holds c = turns_start c.before.before.requires
 
 number-at-requires : tie.Need-number-at-requires invariant-loop decreases-loop
 number-at-requires c κs = at_ready c.before.before.loop.invariant c.before.loop-test.true
@@ -36,10 +36,10 @@ loop-again c =
     rw c.next-at.ensures (turns_next loop.invariant loop-test.true number_at.ensures)
 
 same_length : tie.Need-same-length invariant-loop decreases-loop
-same_length c = numbered-length c.before.loop.invariant.done
+same_length c = numbered_length c.before.loop.invariant.done
 
 returns : tie.Need-returns invariant-loop decreases-loop
-returns c = turns-end c.before.loop.invariant c.loop-test.false
+returns c = turns_end c.before.loop.invariant c.loop-test.false
 
 pub number-spec : {M : Type 1} → statement M
 number-spec =

@@ -3,8 +3,8 @@ use borrow.Author.Rules.{rules, sfits_of}
 use Rattle.literals.specs.Literal.{negative}
 use Rattle.literals.proofs.Laws.{answered}
 use Rattle.store.specs.Store.{header_at}
-use Rattle.store.proofs.Laws.{formed-next}
-use Rattle.pass_number.proofs.Turns.{none-there, one-ready, one-there}
+use Rattle.store.proofs.Laws.{formed_next}
+use Rattle.pass_number.proofs.Turns.{none_there, one_ready, one_there}
 use Rattle.pass_number.proofs.number_at.Statement.{statement}
 use Rattle.pass_number.proofs.number_at.Tie as tie
 
@@ -20,15 +20,15 @@ is-negative-requires c κs = search rules
 returns : tie.Need-returns
 returns c =
     let start = c.before.before.before.before.before in
-    none-there start.requires
+    none_there start.requires
     (answered negative (header_at start.args.chosen.now start.args.at)
     (sfits_of c.before.before.is-negative-arg.given) c.before.is_negative.ensures c.if1.true)
 
 next-at-requires : tie.Need-next-at-requires
 next-at-requires c κs = search rules
 
-add-first : tie.Need-overflow-add-first
-add-first c = search rules
+add_first : tie.Need-overflow-add-first
+add_first c = search rules
 
 mul-number-one : tie.Need-overflow-mul-number-one
 mul-number-one c = search rules
@@ -45,7 +45,7 @@ part-number-one-end c =
     omega (
       arith,
       c.next-at.ensures,
-      (formed-next start.args.chosen.now start.args.at start.requires.inside start.requires.rest).0,
+      (formed_next start.args.chosen.now start.args.at start.requires.inside start.requires.rest).0,
     )
 
 number-one-requires : tie.Need-number-one-requires
@@ -55,7 +55,7 @@ number-one-requires c κs =
     let back = back.before in let is_negative = back.is_negative in
     let back = back.before in let is-negative-arg = back.is-negative-arg in
     let start = back.before.before.before in
-    one-ready start.requires next-at.result
+    one_ready start.requires next-at.result
     (answered negative (header_at start.args.chosen.now start.args.at) (sfits_of is-negative-arg.given)
     is_negative.ensures if1.false) next-at.ensures
 
@@ -69,7 +69,7 @@ returns-2 c =
     let back = back.before in let is_negative = back.is_negative in
     let back = back.before in let is-negative-arg = back.is-negative-arg in
     let start = back.before.before.before in
-    one-there start.requires next-at.result
+    one_there start.requires next-at.result
     (answered negative (header_at start.args.chosen.now start.args.at) (sfits_of is-negative-arg.given)
     is_negative.ensures if1.false) next-at.ensures c.before.before.number-one.ensures
 
@@ -82,7 +82,7 @@ number-at-spec =
     is-negative-requires
     returns
     next-at-requires
-    add-first
+    add_first
     mul-number-one
     sub-number-one
     part-number-one-start

@@ -1,4 +1,4 @@
-use Rattle.pass_order.proofs.Steps.{opposed-there, none-added, entry-room, added-ready, result-added}
+use Rattle.pass_order.proofs.Steps.{opposed_there, none_added, entry_room, added_ready, result_added}
 use borrow.Author.Rules.{rules}
 use Rattle.pass_order.proofs.add_result.Statement.{statement}
 use Rattle.pass_order.proofs.add_result.Tie as tie
@@ -27,18 +27,18 @@ same_length c = search rules
 returns : tie.Need-returns
 returns c =
     let start = c.before.before.before.before.before.before.before in
-    none-added start.requires.0.0 start.args.work.now start.args.from start.args.n start.requires.0.2
+    none_added start.requires.0.0 start.args.work.now start.args.from start.args.n start.requires.0.2
     start.requires.1 start.args.log.now
-    (opposed-there start.requires.0.0 start.args.work.now start.args.from start.args.n start.requires.0.2
+    (opposed_there start.requires.0.0 start.args.work.now start.args.from start.args.n start.requires.0.2
     start.requires.1 c.before.is-opposed.ensures c.if1.true)
 
 append-replaced-requires : tie.Need-append-replaced-requires
 append-replaced-requires c κs =
     let start = c.before.before.before.before.before.before.before.before in (
       (start.requires.0.1, start.requires.0.0.places, start.requires.0.0.small),
-      entry-room start.requires.0.0 start.args.work.now start.args.from start.args.n start.requires.0.2
+      entry_room start.requires.0.0 start.args.work.now start.args.from start.args.n start.requires.0.2
           start.requires.1
-          (opposed-there start.requires.0.0 start.args.work.now start.args.from start.args.n
+          (opposed_there start.requires.0.0 start.args.work.now start.args.from start.args.n
           start.requires.0.2 start.requires.1 c.before.before.is-opposed.ensures c.before.if1.false),
     )
 
@@ -48,9 +48,9 @@ record-added-requires c κs =
     let back = back.before.before in let if1 = back.if1 in
     let back = back.before in let is-opposed = back.is-opposed in
     let start = back.before.before.before.before.before.before in
-    added-ready start.requires.0.0 start.args.work.now start.args.from start.args.n start.requires.0.2
+    added_ready start.requires.0.0 start.args.work.now start.args.from start.args.n start.requires.0.2
     start.requires.1
-    (opposed-there start.requires.0.0 start.args.work.now start.args.from start.args.n
+    (opposed_there start.requires.0.0 start.args.work.now start.args.from start.args.n
     start.requires.0.2 start.requires.1 is-opposed.ensures if1.false) append-replaced.ensures.0
     append-replaced.ensures.1
 
@@ -70,9 +70,9 @@ returns-2 c =
     let back = back.before.before in let if1 = back.if1 in
     let back = back.before in let is-opposed = back.is-opposed in
     let start = back.before.before.before.before.before.before in
-    result-added start.requires.0.0 start.args.work.now start.args.from start.args.n start.requires.0.2
+    result_added start.requires.0.0 start.args.work.now start.args.from start.args.n start.requires.0.2
     start.requires.1
-    (opposed-there start.requires.0.0 start.args.work.now start.args.from start.args.n start.requires.0.2
+    (opposed_there start.requires.0.0 start.args.work.now start.args.from start.args.n start.requires.0.2
     start.requires.1 is-opposed.ensures if1.false) append-replaced.ensures.0 append-replaced.ensures.1
     record-added.ensures
 

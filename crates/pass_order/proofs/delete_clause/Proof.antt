@@ -1,4 +1,4 @@
-use Rattle.pass_order.proofs.Deleting.{deletes-one}
+use Rattle.pass_order.proofs.Deleting.{deletes_one}
 use borrow.Author.Rules.{rules}
 use Rattle.pass_order.proofs.delete_clause.Statement.{statement}
 use Rattle.pass_order.proofs.delete_clause.Tie as tie
@@ -22,7 +22,7 @@ returns c =
     let back = c.before.before in let record-line = back.record-line in
     let back = back.before.before.before in let delete-clause = back.delete-clause in
     let start = back.before.before.before.before in
-    deletes-one start.args.clause.now delete-clause.ensures record-line.ensures.1 record-line.ensures.0
+    deletes_one start.args.clause.now delete-clause.ensures record-line.ensures.1 record-line.ensures.0
 
 pub delete-clause-spec : {M : Type 1} → statement M
 delete-clause-spec =

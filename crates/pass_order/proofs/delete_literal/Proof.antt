@@ -5,7 +5,7 @@ use Prim.Native.Nat.{◌-◌}
 use borrow.Author.Rules.{sfits_of, rules}
 use Rattle.literals.specs.Literal.{negation}
 use Rattle.literals.proofs.Laws.{answer}
-use Rattle.pass_order.proofs.Deleting.{literal-reach, negated-reach, first-deletable, second-deletable, third-deletable, literal-deletes}
+use Rattle.pass_order.proofs.Deleting.{literal_reach, negated_reach, first_deletable, second_deletable, third_deletable, literal_deletes}
 use Rattle.pass_order.proofs.delete_literal.Statement.{statement}
 use Rattle.pass_order.proofs.delete_literal.Tie as tie
 
@@ -30,10 +30,10 @@ delete-positive-requires c κs =
         start.requires.0.1,
         start.requires.0.2.few,
         omega (arith, start.requires.0.2.new),
-        literal-reach start.args.choice.now start.args.below start.args.i start.requires.0.0
+        literal_reach start.args.choice.now start.args.below start.args.i start.requires.0.0
             start.requires.0.1 start.requires.0.2 (sfits_of l.given) start.requires.1,
       ),
-      first-deletable start.args.choice.now start.args.below start.args.i start.requires.0.0
+      first_deletable start.args.choice.now start.args.below start.args.i start.requires.0.0
           start.requires.0.1 start.requires.0.2 (sfits_of l.given) start.requires.1,
     )
 
@@ -54,11 +54,11 @@ delete-pair-if-requires c κs =
     let back = back.before.before.before in let l = back.l in
     let start = back.before.before.before in
     let x = get_or start.args.choice.now (start.args.i - 1) (pos 0) in (
-      negated-reach start.args.choice.now start.args.below start.args.i start.requires.0.0
+      negated_reach start.args.choice.now start.args.below start.args.i start.requires.0.0
           start.requires.0.1 start.requires.0.2 (sfits_of l.given) start.requires.1 delete-positive.ensures
           negated.result signed.result (sfits_of negated.type-inv) (sfits_of signed.type-inv)
           (answer negation x (sfits_of l.given) negated.ensures) signed.ensures,
-      second-deletable start.args.choice.now start.args.below start.args.i start.requires.0.0
+      second_deletable start.args.choice.now start.args.below start.args.i start.requires.0.0
           start.requires.0.1 start.requires.0.2 (sfits_of l.given) start.requires.1 delete-positive.ensures
           negated.result signed.result (sfits_of negated.type-inv) (sfits_of signed.type-inv)
           (answer negation x (sfits_of l.given) negated.ensures) signed.ensures,
@@ -85,11 +85,11 @@ delete-pair-if-requires-2 c κs =
     let back = back.before.before.before in let l = back.l in
     let start = back.before.before.before in
     let x = get_or start.args.choice.now (start.args.i - 1) (pos 0) in (
-      negated-reach start.args.choice.now start.args.below start.args.i start.requires.0.0
+      negated_reach start.args.choice.now start.args.below start.args.i start.requires.0.0
           start.requires.0.1 start.requires.0.2 (sfits_of l.given) start.requires.1 delete-positive.ensures
           negated.result signed.result (sfits_of negated.type-inv) (sfits_of signed.type-inv)
           (answer negation x (sfits_of l.given) negated.ensures) signed.ensures,
-      third-deletable start.args.choice.now start.args.below start.args.i start.requires.0.0
+      third_deletable start.args.choice.now start.args.below start.args.i start.requires.0.0
           start.requires.0.1 start.requires.0.2 (sfits_of l.given) start.requires.1 delete-positive.ensures
           negated.result signed.result (sfits_of negated.type-inv) (sfits_of signed.type-inv)
           (answer negation x (sfits_of l.given) negated.ensures) signed.ensures delete-pair-if.ensures
@@ -113,7 +113,7 @@ returns c =
     let back = back.before.before.before in let l = back.l in
     let start = back.before.before.before in
     let x = get_or start.args.choice.now (start.args.i - 1) (pos 0) in
-    literal-deletes start.args.choice.now start.args.below start.args.i start.requires.0.0
+    literal_deletes start.args.choice.now start.args.below start.args.i start.requires.0.0
     start.requires.0.1 start.requires.0.2 (sfits_of l.given) start.requires.1 delete-positive.ensures
     negated.result signed.result (sfits_of negated.type-inv) (sfits_of signed.type-inv)
     (answer negation x (sfits_of l.given) negated.ensures) signed.ensures delete-pair-if.ensures

@@ -6,10 +6,10 @@ use lib.IntN.{ℤ, nat_abs}
 use mir.Syntax.{w32}
 use mir.ValLaws.{to_z-of_z}
 use Rattle.definition.specs.Literals.{Clause}
-use Rattle.tables.specs.Sizes.{log-reach}
+use Rattle.tables.specs.Sizes.{log_reach}
 use Rattle.pass_order.specs.Order.{Deletable, Deletes}
 use Rattle.replacement.proofs.Writing.{unwanted}
-use Rattle.pass_order.proofs.Deleting.{pair-wanted, deletes-none}
+use Rattle.pass_order.proofs.Deleting.{pair_wanted, deletes_none}
 use borrow.Author.Rules.{rules}
 use Rattle.pass_order.proofs.delete_pair_if.Statement.{statement}
 use Rattle.pass_order.proofs.delete_pair_if.Tie as tie
@@ -24,10 +24,10 @@ delete-clause-requires c κs =
       (
         omega arith,
         omega arith,
-        subst (λ (z : ℤ). nat_abs z ≤ log-reach) (sym (to_z-of_z w32 start.args.a start.ranges.a)) start.requires.0,
+        subst (λ (z : ℤ). nat_abs z ≤ log_reach) (sym (to_z-of_z w32 start.args.a start.ranges.a)) start.requires.0,
       ),
       subst (λ (D : List Clause). Deletable D start.args.work.now start.args.newest.now start.args.p)
-          (pair-wanted start.args.wanted start.args.a start.args.b if1.true start.ranges.a
+          (pair_wanted start.args.wanted start.args.a start.args.b if1.true start.ranges.a
           start.ranges.b) start.requires.1,
     )
 
@@ -46,14 +46,14 @@ returns c =
     (λ (D : List Clause). Deletes D start.args.work.now start.args.newest.now start.args.log.now
     start.args.p delete-clause.new.0 delete-clause.new.1.1.0 delete-clause.result)
     (sym
-    (pair-wanted start.args.wanted start.args.a start.args.b if1.true start.ranges.a start.ranges.b))
+    (pair_wanted start.args.wanted start.args.a start.args.b if1.true start.ranges.a start.ranges.b))
     delete-clause.ensures
 
 returns-2 : tie.Need-returns-2
 returns-2 c =
     let start = c.before.before.before in
     rw (unwanted start.args.wanted ((start.args.a ∷ start.args.b ∷ []) ∷ []) c.if1.false)
-    (deletes-none start.args.log.now start.args.p start.requires.1.indexed)
+    (deletes_none start.args.log.now start.args.p start.requires.1.indexed)
 
 pub delete-pair-if-spec : {M : Type 1} → statement M
 delete-pair-if-spec =

@@ -8,7 +8,7 @@ use borrow.Author.Rules.{sfits_of, rules}
 use lib.Seq.{length-take-le}
 use Rattle.definition.specs.Literals.{Clause}
 use Rattle.pass_order.specs.Order.{Deletable, Deletes}
-use Rattle.pass_order.proofs.Deleting.{positive-is, positive-first, first_fits, second_fits, clause-fits}
+use Rattle.pass_order.proofs.Deleting.{positive_is, positive_first, first_fits, second_fits, clause_fits}
 use Rattle.pass_order.proofs.delete_positive.Statement.{statement}
 use Rattle.pass_order.proofs.delete_positive.Tie as tie
 
@@ -53,7 +53,7 @@ array-share-prefix-clause c =
     let back = back.before.before in let put_if = back.put_if in
     let back = back.before.before in let signed = back.signed in
     let start = back.before.before.before in
-    (clause-fits (ltb start.args.i start.args.size) (ltb 1 start.args.i) (to_z w32 (of_z w32 signed.result))
+    (clause_fits (ltb start.args.i start.args.size) (ltb 1 start.args.i) (to_z w32 (of_z w32 signed.result))
     (to_z w32 (of_z w32 signed2.result)) put_if.ensures.0 put_if.auto.0 put-if2.ensures.0
     put-if2.auto.0).0
 
@@ -66,7 +66,7 @@ slice-aggregate-delete-clause c =
     let start = back.before.before.before in
     sym
     (length-take-le put-if2.result put-if2.new.0
-    (clause-fits (ltb start.args.i start.args.size) (ltb 1 start.args.i)
+    (clause_fits (ltb start.args.i start.args.size) (ltb 1 start.args.i)
     (to_z w32 (of_z w32 signed.result)) (to_z w32 (of_z w32 signed2.result)) put_if.ensures.0 put_if.auto.0
     put-if2.ensures.0 put-if2.auto.0).0)
 
@@ -77,14 +77,14 @@ delete-clause-requires c κs =
     let back = back.before.before in let put_if = back.put_if in
     let back = back.before.before in let signed = back.signed in
     let start = back.before.before.before in
-    let r = clause-fits (ltb start.args.i start.args.size) (ltb 1 start.args.i)
+    let r = clause_fits (ltb start.args.i start.args.size) (ltb 1 start.args.i)
     (to_z w32 (of_z w32 signed.result)) (to_z w32 (of_z w32 signed2.result)) put_if.ensures.0 put_if.auto.0
     put-if2.ensures.0 put-if2.auto.0 in
-    let e = positive-is start.args.l start.args.i start.args.size start.args.below start.ranges.l
+    let e = positive_is start.args.l start.args.i start.args.size start.args.below start.ranges.l
     (omega (arith, start.requires.0.1, start.requires.0.2)) start.requires.0.3 signed.result signed2.result
     (sfits_of signed.type-inv) (sfits_of signed2.type-inv) signed.ensures signed2.ensures put_if.ensures.0
     put_if.ensures.1 put-if2.ensures.0 put-if2.ensures.1 in
-    let first = positive-first start.args.l start.args.i start.args.size start.args.below e
+    let first = positive_first start.args.l start.args.i start.args.size start.args.below e
     start.requires.0.4 in (
       (first.0, omega (arith, length-take-le put-if2.result put-if2.new.0 r.0, r.1), first.1),
       subst (λ (d : Clause). Deletable (d ∷ []) start.args.work.now start.args.newest.now start.args.p)
@@ -105,7 +105,7 @@ returns c =
     let back = back.before.before in let put_if = back.put_if in
     let back = back.before.before in let signed = back.signed in
     let start = back.before.before.before in
-    let e = positive-is start.args.l start.args.i start.args.size start.args.below start.ranges.l
+    let e = positive_is start.args.l start.args.i start.args.size start.args.below start.ranges.l
     (omega (arith, start.requires.0.1, start.requires.0.2)) start.requires.0.3 signed.result signed2.result
     (sfits_of signed.type-inv) (sfits_of signed2.type-inv) signed.ensures signed2.ensures put_if.ensures.0
     put_if.ensures.1 put-if2.ensures.0 put-if2.ensures.1 in

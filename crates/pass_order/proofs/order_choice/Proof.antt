@@ -1,5 +1,5 @@
 use Rattle.definition.specs.Counter.{size}
-use Rattle.pass_order.proofs.Ordered.{order-deletable, order-runs}
+use Rattle.pass_order.proofs.Ordered.{order_deletable, order_runs}
 use borrow.Author.Rules.{rules}
 use Rattle.pass_order.proofs.order_choice.Statement.{statement}
 use Rattle.pass_order.proofs.order_choice.Tie as tie
@@ -12,7 +12,7 @@ unfolding size
 delete-literals-requires c κs =
     let back = c.before.before.before.before.before.before.before.before.before.before in let replace-all = back.replace-all in
     let start = back.before.before.before.before.before.before.before.before.before in
-    (start.requires.0.small, order-deletable start.requires.0 replace-all.ensures)
+    (start.requires.0.small, order_deletable start.requires.0 replace-all.ensures)
 
 same_length : tie.Need-same-length
 same_length c = search rules
@@ -32,7 +32,7 @@ returns c =
     let back = c.before.before.before in let delete-literals = back.delete-literals in
     let back = back.before.before.before.before.before.before.before.before.before.before.before in let replace-all = back.replace-all in
     let start = back.before.before.before.before.before.before.before.before.before in
-    (order-runs start.requires.0 replace-all.ensures delete-literals.ensures, delete-literals.ensures.indexed)
+    (order_runs start.requires.0 replace-all.ensures delete-literals.ensures, delete-literals.ensures.indexed)
 
 pub order-choice-spec : {M : Type 1} → statement M
 order-choice-spec =

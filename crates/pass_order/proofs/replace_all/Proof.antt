@@ -3,17 +3,17 @@ use mathlib.Core.Path.{sym, ◌∙◌}
 use Prim.Native.Nat.{◌-◌}
 use lib.ListN.{length, take, drop}
 use borrow.Author.Rules.{rules}
-use Rattle.definition.specs.Events.{choice-of}
-use Rattle.theory_base.proofs.Slices.{drop-step, drop-end}
-use Rattle.progress.proofs.Laws.{written-length}
+use Rattle.definition.specs.Events.{choice_of}
+use Rattle.theory_base.proofs.Slices.{drop_step, drop_end}
+use Rattle.progress.proofs.Laws.{written_length}
 use Rattle.pass_order.specs.Order.{front}
-use Rattle.pass_order.proofs.Passing.{Turning, turning-start, turning-place, turning-inside, turning-replaceable, turning-replaced, turning-end}
-use Rattle.pass_order.proofs.Ordered.{starts, front-formed, front-proper, table, pass-room, gatherable}
+use Rattle.pass_order.proofs.Passing.{Turning, turning_start, turning_place, turning_inside, turning_replaceable, turning_replaced, turning_end}
+use Rattle.pass_order.proofs.Ordered.{starts, front_formed, front_proper, table, pass_room, gatherable}
 use Rattle.pass_order.proofs.replace_all.Statement.{statement}
 use Rattle.pass_order.proofs.replace_all.Tie as tie
 
 abbrev invariant-loop : tie.invariant-loop
-invariant-loop work₀ newest₀ log₀ start choice below places list end from q₀ j₀ work newest log q j = Turning (choice-of choice below) (front work₀ start) (drop start (take q₀.end work₀)) start work₀ log₀ q₀ (drop j list) work newest log q
+invariant-loop work₀ newest₀ log₀ start choice below places list end from q₀ j₀ work newest log q j = Turning (choice_of choice below) (front work₀ start) (drop start (take q₀.end work₀)) start work₀ log₀ q₀ (drop j list) work newest log q
 
 abbrev decreases-loop : tie.decreases-loop
 decreases-loop work₀ newest₀ log₀ start choice below places list end from q₀ j₀ work newest log q j = length list - j
@@ -26,9 +26,9 @@ gather-requires c κs =
 loop-holds : tie.Need-loop-init invariant-loop decreases-loop
 loop-holds c =
     let start = c.before.before.before.before.before.before.before.before.before.before in
-    turning-start (choice-of start.args.choice.now start.args.below) start.args.work.now
+    turning_start (choice_of start.args.choice.now start.args.below) start.args.work.now
     start.args.newest.now start.args.start start.args.log.now start.args.p (starts start.requires.0)
-    start.requires.0.indexed (front-formed start.requires.0) start.requires.0.space c.before.before.gather.ensures
+    start.requires.0.indexed (front_formed start.requires.0) start.requires.0.space c.before.before.gather.ensures
 
 mul_at : tie.Need-overflow-mul-at invariant-loop decreases-loop
 mul_at c = search rules
@@ -45,14 +45,14 @@ replace-at-requires c κs =
     let back = back.before in let loop = back.loop in
     let back = back.before.before.before in let gather = back.gather in
     let start = back.before.before.before.before.before.before.before.before in
-    let e = drop-step gather.new.1.1.1.1.1.0 loop.j 0 loop-test.true in
+    let e = drop_step gather.new.1.1.1.1.1.0 loop.j 0 loop-test.true in
     record {
       table = table start.requires.0 start.requires.1;
       indexed = loop.invariant.passing.indexed;
-      place = turning-place loop.invariant e;
-      inside = turning-inside loop.invariant e;
-      replaceable = turning-replaceable loop.invariant e start.requires.0.before (front-proper start.requires.0)
-          (pass-room start.requires.0);
+      place = turning_place loop.invariant e;
+      inside = turning_inside loop.invariant e;
+      replaceable = turning_replaceable loop.invariant e start.requires.0.before (front_proper start.requires.0)
+          (pass_room start.requires.0);
     }
 
 add-j : tie.Need-overflow-add-j invariant-loop decreases-loop
@@ -60,7 +60,7 @@ add-j c =
     let back = c.before.before.before.before.before.before.before.before.before.before in let loop-test = back.loop-test in
     let back = back.before.before.before.before in let gather = back.gather in
     let start = back.before.before.before.before.before.before.before.before in
-    omega (arith, loop-test.true, gather.auto.1.1.1.1.1.0, start.well-formed.1.1.1.1.1.1.1.1.0)
+    omega (arith, loop-test.true, gather.auto.1.1.1.1.1.0, start.well_formed.1.1.1.1.1.1.1.1.0)
 
 loop-less : tie.Need-loop-smaller invariant-loop decreases-loop
 loop-less c =
@@ -73,7 +73,7 @@ loop-again c =
     let back = back.before.before.before.before.before in let loop-test = back.loop-test in
     let back = back.before in let loop = back.loop in
     let gather = back.before.before.before.gather in
-    turning-replaced loop.invariant (drop-step gather.new.1.1.1.1.1.0 loop.j 0 loop-test.true)
+    turning_replaced loop.invariant (drop_step gather.new.1.1.1.1.1.0 loop.j 0 loop-test.true)
     replace-at.ensures
 
 same_length : tie.Need-same-length invariant-loop decreases-loop
@@ -85,7 +85,7 @@ same-length-2 c =
     c.before.loop.invariant.passing.indexed.size ∙ sym start.requires.0.indexed.size
 
 same-length-3 : tie.Need-same-length-3 invariant-loop decreases-loop
-same-length-3 c = written-length c.before.loop.invariant.passing.written
+same-length-3 c = written_length c.before.loop.invariant.passing.written
 
 same-length-4 : tie.Need-same-length-4 invariant-loop decreases-loop
 same-length-4 c = search rules
@@ -94,7 +94,7 @@ returns : tie.Need-returns invariant-loop decreases-loop
 returns c =
     let back = c.before in let loop = back.loop in
     let gather = back.before.before.before.gather in
-    turning-end loop.invariant (drop-end gather.new.1.1.1.1.1.0 loop.j c.loop-test.false)
+    turning_end loop.invariant (drop_end gather.new.1.1.1.1.1.0 loop.j c.loop-test.false)
 
 pub replace-all-spec : {M : Type 1} → statement M
 replace-all-spec =

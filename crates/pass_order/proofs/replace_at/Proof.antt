@@ -1,5 +1,5 @@
 use native.Mathlib.Omega.{arith}
-use Rattle.pass_order.proofs.Steps.{clause-inside, step-replaceable, deletion-room, step-replaced}
+use Rattle.pass_order.proofs.Steps.{clause_inside, step_replaceable, deletion_room, step_replaced}
 use borrow.Author.Rules.{rules}
 use Rattle.pass_order.proofs.replace_at.Statement.{statement}
 use Rattle.pass_order.proofs.replace_at.Tie as tie
@@ -7,8 +7,8 @@ use Rattle.pass_order.proofs.replace_at.Tie as tie
 next-at-requires : tie.Need-next-at-requires
 next-at-requires c κs = search rules
 
-add-first : tie.Need-overflow-add-first
-add-first c = search rules
+add_first : tie.Need-overflow-add-first
+add_first c = search rules
 
 sub-n : tie.Need-overflow-sub-n
 sub-n c = search rules
@@ -19,10 +19,10 @@ add-result-requires c κs =
     let start = back.before.before.before.before.before in (
       (
         start.requires.table,
-        clause-inside start.args.work.now start.args.at start.requires next-at.ensures,
+        clause_inside start.args.work.now start.args.at start.requires next-at.ensures,
         start.requires.indexed,
       ),
-      step-replaceable start.args.work.now start.args.at start.requires next-at.ensures,
+      step_replaceable start.args.work.now start.args.at start.requires next-at.ensures,
     )
 
 mul-record-line : tie.Need-overflow-mul-record-line
@@ -41,7 +41,7 @@ part-record-line-end c =
     let start = back.before.before.before.before.before in
     omega (
       arith,
-      clause-inside start.args.work.now start.args.at start.requires next-at.ensures,
+      clause_inside start.args.work.now start.args.at start.requires next-at.ensures,
       start.requires.indexed.room,
       add-result.auto.0,
     )
@@ -51,7 +51,7 @@ record-line-requires c κs =
     let back = c.before.before.before.before.before.before.before.before in let add-result = back.add-result in
     let back = back.before.before.before.before in let next-at = back.next-at in
     let start = back.before.before.before.before.before in
-    deletion-room start.args.work.now start.args.at start.requires next-at.ensures add-result.ensures
+    deletion_room start.args.work.now start.args.at start.requires next-at.ensures add-result.ensures
 
 mark-deleted-requires : tie.Need-mark-deleted-requires
 mark-deleted-requires c κs = search rules
@@ -71,7 +71,7 @@ returns c =
     let back = back.before.before.before.before.before.before.before.before.before in let add-result = back.add-result in
     let back = back.before.before.before.before in let next-at = back.next-at in
     let start = back.before.before.before.before.before in
-    step-replaced start.args.work.now start.args.at start.requires next-at.ensures add-result.ensures
+    step_replaced start.args.work.now start.args.at start.requires next-at.ensures add-result.ensures
     record-line.ensures.0 record-line.ensures.1 c.before.mark-deleted.ensures
 
 pub replace-at-spec : {M : Type 1} → statement M
@@ -79,7 +79,7 @@ replace-at-spec =
     tie.close
     (tie.spec
     next-at-requires
-    add-first
+    add_first
     sub-n
     add-result-requires
     mul-record-line

@@ -3,16 +3,16 @@ use native.Mathlib.Omega.{arith}
 use Prim.Native.Nat.{◌-◌}
 use lib.ListN.{length}
 use lib.Seq.{take_all}
-use Rattle.index.specs.Index.{Same-entries}
-use Rattle.index.proofs.Walk.{same_refl, same-trans}
+use Rattle.index.specs.Index.{SameEntries}
+use Rattle.index.proofs.Walk.{same_refl, same_trans}
 use Rattle.progress.specs.Progress.{standing}
-use Rattle.progress.proofs.Laws.{written-length}
-use Rattle.pass_pure.proofs.Pass.{Passing, passing-start, passing_step, step_same, passing-end, passing-room, standing-all}
+use Rattle.progress.proofs.Laws.{written_length}
+use Rattle.pass_pure.proofs.Pass.{Passing, passing_start, passing_step, step_same, passing_end, passing_room, standing_all}
 use Rattle.pass_pure.proofs.delete_all.Statement.{statement}
 use Rattle.pass_pure.proofs.delete_all.Tie as tie
 
 abbrev invariant-loop : tie.invariant-loop
-invariant-loop work₀ counts log₀ q₀ at₀ work log q at = Same-entries work₀ work × Passing (standing work₀ q₀) log₀ q₀ work at log q
+invariant-loop work₀ counts log₀ q₀ at₀ work log q at = SameEntries work₀ work × Passing (standing work₀ q₀) log₀ q₀ work at log q
 
 abbrev decreases-loop : tie.decreases-loop
 decreases-loop work₀ counts log₀ q₀ at₀ work log q at = length work - at
@@ -21,8 +21,8 @@ loop-holds : tie.Need-loop-init invariant-loop decreases-loop
 loop-holds c =
     let start = c.before.before in (
       same_refl start.args.work.now,
-      passing-start start.args.work.now start.args.log.now start.args.p
-          (standing-all start.args.work.now start.args.p start.requires.whole)
+      passing_start start.args.work.now start.args.log.now start.args.p
+          (standing_all start.args.work.now start.args.p start.requires.whole)
           (rw (take_all start.args.p.end start.args.work.now (omega (arith, start.requires.whole))) at start.requires.good.formed)
           start.requires.free,
     )
@@ -35,7 +35,7 @@ delete-at-requires c κs =
     let back = c.before.before.before.before in let loop-test = back.loop-test in
     let back = back.before in let loop = back.loop in
     let start = back.before.before.before in
-    let r = passing-room start.requires.good.room loop.invariant.1 in
+    let r = passing_room start.requires.good.room loop.invariant.1 in
     ((loop-test.true, loop.invariant.1.place.rest), (omega (arith, r.0), omega (arith, r.1)))
 
 loop-less : tie.Need-loop-smaller invariant-loop decreases-loop
@@ -53,7 +53,7 @@ loop-again c =
     let back = back.before in let loop = back.loop in
     let start = back.before.before.before in
     rw next-at.ensures (
-      same-trans loop.invariant.0 (step_same loop.invariant.1 loop-test.true start.args.counts.now _ _ _ delete-at.ensures),
+      same_trans loop.invariant.0 (step_same loop.invariant.1 loop-test.true start.args.counts.now _ _ _ delete-at.ensures),
       passing_step loop.invariant.1 loop-test.true start.args.counts.now start.requires.good.fits start.requires.table
           _ _ _ delete-at.ensures,
     )
@@ -62,13 +62,13 @@ same_length : tie.Need-same-length invariant-loop decreases-loop
 same_length c = c.before.loop.invariant.0.size
 
 same-length-2 : tie.Need-same-length-2 invariant-loop decreases-loop
-same-length-2 c = written-length c.before.loop.invariant.1.written
+same-length-2 c = written_length c.before.loop.invariant.1.written
 
 returns : tie.Need-returns invariant-loop decreases-loop
 returns c =
     let loop = c.before.loop in
     let start = c.before.before.before.before in
-    (passing-end start.args.work.now loop.invariant.1 start.requires.whole loop.invariant.0.size c.loop-test.false, (loop.invariant.0, loop.invariant.1.kept))
+    (passing_end start.args.work.now loop.invariant.1 start.requires.whole loop.invariant.0.size c.loop-test.false, (loop.invariant.0, loop.invariant.1.kept))
 
 pub delete-all-spec : {M : Type 1} → statement M
 delete-all-spec =

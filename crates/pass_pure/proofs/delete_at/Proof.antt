@@ -7,8 +7,8 @@ use borrow.Author.Rules.{sfits_of}
 use Rattle.literals.specs.Literal.{negative}
 use Rattle.literals.proofs.Laws.{answered, at_arg}
 use Rattle.store.specs.Store.{header_at}
-use Rattle.store.proofs.Laws.{formed-next}
-use Rattle.pass_pure.proofs.Pass.{at-deleted, at-nothing, at_literal}
+use Rattle.store.proofs.Laws.{formed_next}
+use Rattle.pass_pure.proofs.Pass.{at_deleted, at_nothing, at_literal}
 use Rattle.pass_pure.specs.declared.Pure.{Pure}
 use borrow.Author.Rules.{rules}
 use Rattle.pass_pure.proofs.delete_at.Statement.{statement}
@@ -27,15 +27,15 @@ returns : tie.Need-returns
 returns c =
     let start = c.before.before.before.before.before in
     let s = start.args.work.now in
-    at-deleted start.args.counts.now s start.args.at start.args.log.now start.args.p
+    at_deleted start.args.counts.now s start.args.at start.args.log.now start.args.p
     (answered negative (header_at s start.args.at) (sfits_of c.before.before.is-negative-arg.given)
     c.before.is_negative.ensures c.if1.true)
 
 next-at-requires : tie.Need-next-at-requires
 next-at-requires c κs = search rules
 
-add-first : tie.Need-overflow-add-first
-add-first c = search rules
+add_first : tie.Need-overflow-add-first
+add_first c = search rules
 
 mul-pure-literal : tie.Need-overflow-mul-pure-literal
 mul-pure-literal c = search rules
@@ -52,7 +52,7 @@ part-pure-literal-end c =
     omega (
       arith,
       c.before.next-at.ensures,
-      (formed-next start.args.work.now start.args.at start.requires.0.0 start.requires.0.1).0,
+      (formed_next start.args.work.now start.args.at start.requires.0.0 start.requires.0.1).0,
     )
 
 pure-literal-requires : tie.Need-pure-literal-requires
@@ -78,7 +78,7 @@ returns-2 c =
     let back = c.before.before.before in let delete-first = back.delete-first in
     let back = back.before.before.before in let known-told = back.known-told in
     let back = back.before in let l = back.l in
-    let back = back.before.before in let pure-literal = back.pure-literal in
+    let back = back.before.before in let pure_literal = back.pure_literal in
     let back = back.before.before.before in let next-at = back.next-at in
     let back = back.before.before in let if1 = back.if1 in
     let back = back.before in let is_negative = back.is_negative in
@@ -88,7 +88,7 @@ returns-2 c =
     let x = l.given.0.0 in
     at_literal start.args.counts.now s start.args.at next-at.result next-at.ensures
     (answered negative (header_at s start.args.at) (sfits_of is-negative-arg.given) is_negative.ensures
-    if1.false) (to_z w32 (of_z w32 x)) pure-literal.ensures
+    if1.false) (to_z w32 (of_z w32 x)) pure_literal.ensures
     (l.given.1 ∙ sym (at_arg (λ (z : ℤ). Pure.Literal z) x (search (rules, known-told))))
     delete-first.ensures.1.1 delete-first.ensures.0 delete-first.ensures.1.0
 
@@ -103,9 +103,9 @@ returns-3 c =
     let back = back.before in let is-negative-arg = back.is-negative-arg in
     let start = back.before.before.before in
     let s = start.args.work.now in
-    at-nothing start.args.counts.now s start.args.at next-at.result next-at.ensures
+    at_nothing start.args.counts.now s start.args.at next-at.result next-at.ensures
     (answered negative (header_at s start.args.at) (sfits_of is-negative-arg.given) is_negative.ensures
-    if1.false) start.args.log.now start.args.p c.before.before.pure-literal.ensures
+    if1.false) start.args.log.now start.args.p c.before.before.pure_literal.ensures
     c.enum_told.given.1
 
 pub delete-at-spec : {M : Type 1} → statement M
@@ -117,7 +117,7 @@ delete-at-spec =
     is-negative-requires
     returns
     next-at-requires
-    add-first
+    add_first
     mul-pure-literal
     sub-pure-literal
     part-pure-literal-start

@@ -1,8 +1,8 @@
 -- A pass over the store's own part of the workspace is one over the workspace (progress, runs-part).
 use mathlib.Core.Path.{sym}
 use lib.Seq.{length-take-le}
-use Rattle.progress.proofs.Laws.{standing-part, runs-part}
-use Rattle.pass_pure.proofs.Pass.{passable, part-keeps-index}
+use Rattle.progress.proofs.Laws.{standing_part, runs_part}
+use Rattle.pass_pure.proofs.Pass.{passable, part_keeps_index}
 use borrow.Author.Rules.{rules}
 use Rattle.pass_pure.proofs.delete_pure.Statement.{statement}
 use Rattle.pass_pure.proofs.delete_pure.Tie as tie
@@ -48,9 +48,9 @@ returns : tie.Need-returns
 returns c =
     let back = c.before.before.before in let delete-all = back.delete-all in
     let start = back.before.before.before.before.before.before.before.before.before in (
-      rw (standing-part start.args.work.now start.args.p) at
-          (runs-part start.args.work.now delete-all.new.0 start.requires.0.inside delete-all.ensures.0),
-      part-keeps-index start.args.work.now delete-all.new.0 start.args.p.end delete-all.ensures.1.1 delete-all.ensures.1.0,
+      rw (standing_part start.args.work.now start.args.p) at
+          (runs_part start.args.work.now delete-all.new.0 start.requires.0.inside delete-all.ensures.0),
+      part_keeps_index start.args.work.now delete-all.new.0 start.args.p.end delete-all.ensures.1.1 delete-all.ensures.1.0,
     )
 
 pub delete-pure-spec : {M : Type 1} → statement M

@@ -5,15 +5,15 @@ use lib.ListN.{length, get_or, drop}
 use lib.IntN.{ℤ, pos}
 use Rattle.literals.proofs.Laws.{answered, at_arg}
 use Rattle.definition.specs.Lists.{first}
-use Rattle.pass_pure.proofs.Tests.{first-hit, first-miss, first-end}
-use Rattle.tables.specs.Counts.{pure-in}
-use Rattle.pass_pure.specs.Pass.{as-pure}
+use Rattle.pass_pure.proofs.Tests.{first_hit, first_miss, first_end}
+use Rattle.tables.specs.Counts.{pure_in}
+use Rattle.pass_pure.specs.Pass.{as_pure}
 use Rattle.pass_pure.specs.declared.Pure.{Pure}
 use Rattle.pass_pure.proofs.first_pure.Statement.{statement}
 use Rattle.pass_pure.proofs.first_pure.Tie as tie
 
 abbrev invariant-loop : tie.invariant-loop
-invariant-loop counts clause i₀ i = (i ≤ length clause) × (as-pure (first (pure-in counts) (drop i clause)) ≡ as-pure (first (pure-in counts) clause))
+invariant-loop counts clause i₀ i = (i ≤ length clause) × (as_pure (first (pure_in counts) (drop i clause)) ≡ as_pure (first (pure_in counts) clause))
 
 abbrev decreases-loop : tie.decreases-loop
 decreases-loop counts clause i₀ i = length clause - i
@@ -37,10 +37,10 @@ returns c =
     let start = back.before.before in
     let s = start.args.clause.now in
     let t = start.args.counts.now in
-    let e = answered (pure-in t) (get_or s loop.i (pos 0)) (sfits_of l.given) c.before.is-pure.ensures
+    let e = answered (pure_in t) (get_or s loop.i (pos 0)) (sfits_of l.given) c.before.is-pure.ensures
     c.if1.true in
     at_arg (λ (z : ℤ). Pure.Literal z) (get_or s loop.i (pos 0)) (sfits_of l.given)
-    ∙ first-hit t s loop.i (search rules) e
+    ∙ first_hit t s loop.i (search rules) e
     ∙ loop.invariant.1
 
 add-i : tie.Need-overflow-add-i invariant-loop decreases-loop
@@ -55,15 +55,15 @@ loop-again c =
     let start = back.before.before in
     let s = start.args.clause.now in
     let t = start.args.counts.now in
-    let e = answered (pure-in t) (get_or s loop.i (pos 0)) (sfits_of c.before.before.l.given)
+    let e = answered (pure_in t) (get_or s loop.i (pos 0)) (sfits_of c.before.before.l.given)
     c.before.is-pure.ensures c.if1.false in
-    (search rules, first-miss t s loop.i (search rules) e ∙ loop.invariant.1)
+    (search rules, first_miss t s loop.i (search rules) e ∙ loop.invariant.1)
 
 returns-2 : tie.Need-returns-2 invariant-loop decreases-loop
 returns-2 c =
     let back = c.before in let loop = back.loop in
     let start = back.before.before in
-    first-end start.args.counts.now start.args.clause.now loop.i (search rules) ∙ loop.invariant.1
+    first_end start.args.counts.now start.args.clause.now loop.i (search rules) ∙ loop.invariant.1
 
 pub first-pure-spec : {M : Type 1} → statement M
 first-pure-spec =

@@ -1,5 +1,5 @@
 use mathlib.Core.Path.{sym, ◌∙◌}
-use Rattle.progress.proofs.Growing.{put-there, never-full, grown-put}
+use Rattle.progress.proofs.Growing.{put_there, never_full, grown_put}
 use borrow.Author.Rules.{rules}
 use Rattle.progress.proofs.add_clause.Statement.{statement}
 use Rattle.progress.proofs.add_clause.Tie as tie
@@ -15,7 +15,7 @@ record-added-requires c κs =
     let back = c.before.before.before.before in let end = back.end in
     let back = back.before.before.before in let append-clause = back.append-clause in
     let start = back.before.before.before.before in
-    let t = put-there _ start.requires.0 start.requires.1 (sym append-clause.ensures.0 ∙ end.given.1)
+    let t = put_there _ start.requires.0 start.requires.1 (sym append-clause.ensures.0 ∙ end.given.1)
     append-clause.ensures.1 in
     ((t.indexed, t.there), (t.space, search (rules)))
 
@@ -37,8 +37,8 @@ returns c =
     let back = back.before.before.before.before.before in let end = back.end in
     let back = back.before.before.before in let append-clause = back.append-clause in
     let start = back.before.before.before.before in
-    grown-put
-    (put-there _ start.requires.0 start.requires.1 (sym append-clause.ensures.0 ∙ end.given.1)
+    grown_put
+    (put_there _ start.requires.0 start.requires.1 (sym append-clause.ensures.0 ∙ end.given.1)
     append-clause.ensures.1) record-added.ensures
 
 same-length-4 : tie.Need-same-length-4
@@ -48,7 +48,7 @@ returns-2 : tie.Need-returns-2
 returns-2 c =
     let back = c.before.before.before in let append-clause = back.append-clause in
     let start = back.before.before.before.before in
-    never-full _ start.requires.0 start.requires.1 (sym append-clause.ensures.0 ∙ c.enum_told.given.1)
+    never_full _ start.requires.0 start.requires.1 (sym append-clause.ensures.0 ∙ c.enum_told.given.1)
 
 pub add-clause-spec : {M : Type 1} → statement M
 add-clause-spec =

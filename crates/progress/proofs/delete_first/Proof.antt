@@ -2,11 +2,11 @@ use native.Mathlib.Omega.{arith}
 use Prim.Native.Nat.{◌+◌}
 use mathlib.Core.Path.{◌≡◌}
 use borrow.Author.Rules.{sfits_of, rules}
-use Rattle.literals.specs.Literal.{header-literals}
+use Rattle.literals.specs.Literal.{header_literals}
 use Rattle.literals.proofs.Laws.{answer}
 use Rattle.store.specs.Store.{header_at, past}
-use Rattle.store.proofs.Laws.{formed-next}
-use Rattle.progress.proofs.Writing.{clause-written, clause-short}
+use Rattle.store.proofs.Laws.{formed_next}
+use Rattle.progress.proofs.Writing.{clause_written, clause_short}
 use Rattle.progress.proofs.delete_first.Statement.{statement}
 use Rattle.progress.proofs.delete_first.Tie as tie
 
@@ -19,17 +19,17 @@ slice-copy-out-header-length c = search rules
 header-length-requires : tie.Need-header-length-requires
 header-length-requires c κs = search rules
 
-add-first : tie.Need-overflow-add-first
-add-first c = search rules
+add_first : tie.Need-overflow-add-first
+add_first c = search rules
 
 add-next : tie.Need-overflow-add-next
 add-next c =
     let start = c.before.before.before in
     let s = start.args.work.now in
     let at = start.args.at in
-    let k = answer header-literals (header_at s at) (sfits_of c.before.header-length-arg.given)
+    let k = answer header_literals (header_at s at) (sfits_of c.before.header-length-arg.given)
     c.header-length.ensures in
-    omega (arith, k, (formed-next s at start.requires.0.0 start.requires.0.1).0)
+    omega (arith, k, (formed_next s at start.requires.0.0 start.requires.0.1).0)
 
 mul-record-first : tie.Need-overflow-mul-record-first
 mul-record-first c = search rules
@@ -46,9 +46,9 @@ part-record-first-end c =
     let start = back.before.before in
     let s = start.args.work.now in
     let at = start.args.at in
-    let k = answer header-literals (header_at s at) (sfits_of header-length-arg.given)
+    let k = answer header_literals (header_at s at) (sfits_of header-length-arg.given)
     c.before.before.header-length.ensures in
-    omega (arith, k, (formed-next s at start.requires.0.0 start.requires.0.1).0)
+    omega (arith, k, (formed_next s at start.requires.0.0 start.requires.0.1).0)
 
 record-first-requires : tie.Need-record-first-requires
 record-first-requires c κs =
@@ -57,12 +57,12 @@ record-first-requires c κs =
     let start = back.before.before in
     let s = start.args.work.now in
     let at = start.args.at in
-    let k = answer header-literals (header_at s at) (sfits_of header-length-arg.given) header-length.ensures in
+    let k = answer header_literals (header_at s at) (sfits_of header-length-arg.given) header-length.ensures in
     let e : at + 1 + header-length.result ≡ past s at = omega (arith, k) in (
       omega (
         arith,
         start.requires.1.0,
-        clause-short s at (at + 1 + header-length.result) (sfits_of header-length-arg.given) e,
+        clause_short s at (at + 1 + header-length.result) (sfits_of header-length-arg.given) e,
       ),
       omega (arith, start.requires.1.1),
     )
@@ -84,9 +84,9 @@ returns c =
     let start = back.before.before in
     let s = start.args.work.now in
     let at = start.args.at in
-    let k = answer header-literals (header_at s at) (sfits_of header-length-arg.given) header-length.ensures in
+    let k = answer header_literals (header_at s at) (sfits_of header-length-arg.given) header-length.ensures in
     let e : at + 1 + header-length.result ≡ past s at = omega (arith, k) in (
-      clause-written start.args.l s at (at + 1 + header-length.result) start.ranges.l e record-first.ensures.0,
+      clause_written start.args.l s at (at + 1 + header-length.result) start.ranges.l e record-first.ensures.0,
       (record-first.ensures.1, c.before.mark-deleted.ensures),
     )
 
@@ -97,7 +97,7 @@ delete-first-spec =
     mul-header-length
     slice-copy-out-header-length
     header-length-requires
-    add-first
+    add_first
     add-next
     mul-record-first
     sub-record-first

@@ -1,5 +1,5 @@
 use mathlib.Core.Path.{refl}
-use Rattle.progress.proofs.Laws.{made-runs}
+use Rattle.progress.proofs.Laws.{made_runs}
 use borrow.Author.Rules.{rules}
 use Rattle.progress.proofs.make_room.Statement.{statement}
 use Rattle.progress.proofs.make_room.Tie as tie
@@ -18,7 +18,7 @@ same-length-2 c = search rules
 returns : tie.Need-returns
 returns c =
     let make-room = c.before.before.before.make-room in
-    (made-runs refl make-room.ensures refl refl, (make-room.ensures.indexed, make-room.ensures.roomy))
+    (made_runs refl make-room.ensures refl refl, (make-room.ensures.indexed, make-room.ensures.roomy))
 
 pub make-room-spec : {M : Type 1} → statement M
 make-room-spec = tie.close (tie.spec make-room-requires same_length same-length-2 returns)

@@ -1,4 +1,4 @@
-use Rattle.progress.proofs.Writing.{first-put}
+use Rattle.progress.proofs.Writing.{first_put}
 use native.Mathlib.Omega.{arith}
 use borrow.Author.Rules.{rules}
 use Rattle.progress.proofs.put_first.Statement.{statement}
@@ -22,7 +22,7 @@ returns c =
     let back = back.before.before.before.before in let put-byte2 = back.put-byte2 in
     let back = back.before.before.before.before in let put_byte = back.put_byte in
     let start = back.before.before.before in (
-      first-put start.args.first start.ranges.first put_byte.ensures put-byte2.ensures
+      first_put start.args.first start.ranges.first put_byte.ensures put-byte2.ensures
           put_item.ensures.0,
       omega (arith, put_byte.ensures.next, put-byte2.ensures.next, put_item.ensures.1),
     )

@@ -1,4 +1,4 @@
-use Rattle.progress.proofs.Writing.{skipped, one-other}
+use Rattle.progress.proofs.Writing.{skipped, one_other}
 use borrow.Author.Rules.{rules}
 use Rattle.progress.proofs.put_other.Statement.{statement}
 use Rattle.progress.proofs.put_other.Tie as tie
@@ -25,7 +25,7 @@ returns-2 c =
     let back = c.before.before.before.before in let if1 = back.if1 in
     let back = back.before in let same = back.same in
     let start = back.before.before in (
-      one-other start.args.first start.args.l start.ranges.first start.ranges.l same.ensures if1.false
+      one_other start.args.first start.args.l start.ranges.first start.ranges.l same.ensures if1.false
           c.before.before.put_item.ensures.0,
       search rules,
     )

@@ -1,5 +1,5 @@
 use borrow.Author.Rules.{rules, sfits_of}
-use Rattle.progress.proofs.Writing.{Others, others-start, others-step, others-end}
+use Rattle.progress.proofs.Writing.{Others, others_start, others_step, others_end}
 use native.Mathlib.Omega.{arith}
 use Prim.Native.Nat.{◌-◌}
 use lib.ListN.{length}
@@ -17,7 +17,7 @@ decreases-loop log₀ at first clause end₀ i₀ log end i = length clause - i
 loop-holds : tie.Need-loop-init invariant-loop decreases-loop
 loop-holds c =
     let start = c.before in
-    others-start start.args.log.now start.args.at (to_z w32 (of_z w32 start.args.first))
+    others_start start.args.log.now start.args.at (to_z w32 (of_z w32 start.args.first))
     start.args.clause.now
 
 mul-put-other : tie.Need-overflow-mul-put-other invariant-loop decreases-loop
@@ -42,7 +42,7 @@ loop-again c =
     let back = c.before.before in let put_other = back.put_other in
     let back = back.before in let put-other-arg2 = back.put-other-arg2 in
     let loop = back.before.before.before.loop in
-    others-step loop.invariant (search rules) (sfits_of put-other-arg2.given) put_other.ensures.0
+    others_step loop.invariant (search rules) (sfits_of put-other-arg2.given) put_other.ensures.0
     put_other.ensures.1
 
 same_length : tie.Need-same-length invariant-loop decreases-loop
@@ -51,7 +51,7 @@ same_length c = c.before.loop.invariant.size
 returns : tie.Need-returns invariant-loop decreases-loop
 returns c =
     let start = c.before.before.before in
-    others-end start.ranges.first c.before.loop.invariant c.loop-test.false
+    others_end start.ranges.first c.before.loop.invariant c.loop-test.false
 
 pub put-others-spec : {M : Type 1} → statement M
 put-others-spec =

@@ -1,16 +1,16 @@
 use mathlib.Core.Path.{refl}
-use Rattle.progress.proofs.Growing.{there-past, entered-grown}
+use Rattle.progress.proofs.Growing.{there_past, entered_grown}
 use borrow.Author.Rules.{rules}
 use Rattle.progress.proofs.record_added.Statement.{statement}
 use Rattle.progress.proofs.record_added.Tie as tie
 
-add-first : tie.Need-overflow-add-first
-add-first c = search rules
+add_first : tie.Need-overflow-add-first
+add_first c = search rules
 
 enter-requires : tie.Need-enter-requires
 enter-requires c κs =
     let start = c.before.before.before.before in
-    ((start.requires.0.0, there-past _ _ start.requires.0.0 start.requires.0.1 start.requires.1.0), start.requires.1.0)
+    ((start.requires.0.0, there_past _ _ start.requires.0.0 start.requires.0.1 start.requires.1.0), start.requires.1.0)
 
 mul-record-line : tie.Need-overflow-mul-record-line
 mul-record-line c = search rules
@@ -40,14 +40,14 @@ returns : tie.Need-returns
 returns c =
     let back = c.before.before.before.before.before.before.before.before.before in let enter = back.enter in
     let start = back.before.before.before.before.before in
-    entered-grown _ _ start.requires.0.0 start.requires.0.1 start.requires.1.0 refl enter.auto.0 enter.ensures.0
+    entered_grown _ _ start.requires.0.0 start.requires.0.1 start.requires.1.0 refl enter.auto.0 enter.ensures.0
     enter.ensures.1.0 enter.ensures.1.1.0 c.before.before.record-line.ensures.0
 
 pub record-added-spec : {M : Type 1} → statement M
 record-added-spec =
     tie.close
     (tie.spec
-    add-first
+    add_first
     enter-requires
     mul-record-line
     sub-record-line

@@ -1,5 +1,5 @@
 use Rattle.progress.proofs.Laws.{written_one}
-use Rattle.progress.proofs.Writing.{line-put}
+use Rattle.progress.proofs.Writing.{line_put}
 use mathlib.Core.Path.{refl}
 use borrow.Author.Rules.{rules}
 use Rattle.progress.proofs.record_first.Statement.{statement}
@@ -31,7 +31,7 @@ returns c =
     let back = back.before.before.before.before in let put_first = back.put_first in
     let start = back.before.before.before in (
       written_one _
-          (line-put start.args.first start.args.clause.now start.ranges.first put_first.ensures.0
+          (line_put start.args.first start.args.clause.now start.ranges.first put_first.ensures.0
           put-others.ensures.0 put_byte.ensures put-byte2.ensures) refl,
       refl,
     )

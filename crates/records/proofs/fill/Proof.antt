@@ -48,8 +48,8 @@ use denote.Exit.{yes}
 use Rattle.records.specs.declared.ChoiceRecord.{ChoiceRecord}
 use Rattle.records.specs.Rows.{row_of}
 use Rattle.records.proofs.Again.{LentAgain, lends_again, comes_back}
-use Rattle.records.proofs.Filling.{filled-from, none_filled, length-filled, next-filled}
-use Rattle.records.proofs.Called.{mach, RowAt, to_row, asks-row, gives_row, PutRecord, to-put, asks-put, gives-put}
+use Rattle.records.proofs.Filling.{filled_from, none_filled, length_filled, next_filled}
+use Rattle.records.proofs.Called.{mach, RowAt, to_row, asks_row, gives_row, PutRecord, to_put, asks_put, gives_put}
 use Rattle.records.proofs.Walking.{under, frees_all, holds, fails}
 use Rattle.records.specs.contracts.ChoiceRecord as T
 use Rattle.records.proofs.ChoiceRecord.TheLaws as T'
@@ -86,7 +86,7 @@ abbrev lent-ty : Ty
 lent-ty = slice_ty lent-ptr-ty
 
 module _ {M : Type 1} {𝓤 : Ura M} (𝓛 : Logic 𝓤) (mem : Memory → SProp 𝓤) (run : Routine → Fun 𝓤)
-    (κ κ₁ : Lft) (q q₁ : Share) (x : Bor (List ChoiceRecord)) (y : Bor (List ℕ)) (n : ℕ) (n-fits : n < 2 ^ 64) (room : Room T.the_row (length x.now)) (room₁ : Room u32 (length y.now)) (within : n ≤ length x.now) where
+    (κ κ₁ : Lft) (q q₁ : Share) (x : Bor (List ChoiceRecord)) (y : Bor (List ℕ)) (n : ℕ) (n_fits : n < 2 ^ 64) (room : Room T.the_row (length x.now)) (room₁ : Room u32 (length y.now)) (within : n ≤ length x.now) where
   open 𝓛 use {H}
 
   abbrev ys : List ChoiceRecord
@@ -113,7 +113,7 @@ module _ {M : Type 1} {𝓤 : Ura M} (𝓛 : Logic 𝓤) (mem : Memory → SProp
 
   -- the table's list where i records are put, and the table then
   abbrev filled : ℕ → List ChoiceRecord
-  filled i = filled-from xs 0 i ys
+  filled i = filled_from xs 0 i ys
 
   abbrev so_far : ℕ → MutBor (List ChoiceRecord)
   so_far i = at_last x (filled i)
@@ -131,10 +131,10 @@ module _ {M : Type 1} {𝓤 : Ura M} (𝓛 : Logic 𝓤) (mem : Memory → SProp
   exits : ent 𝓤 (⋆ 𝓛 (‵ (Table (filled n)) ∷ ‵ (flft κ q) ∷ ‵ (flft κ₁ q₁) ∷ ‵ Rows ∷ [])) (Post vunit)
   exits =
       qed 𝓛 (‵ (Table (filled n)) ∷ ‵ (flft κ q) ∷ ‵ (flft κ₁ q₁) ∷ ‵ Rows ∷ []) ∵
-      suffices ! _ (ends_at 𝓛 fill.ended stayed (fill.clauses 𝓛 mem run) (((κ, (κ₁, tt)), (q, (q₁, tt)), tt, a, vals), tt) vunit tt (filled n, (tt, (tt, tt))) (length-filled xs 0 n ys within, (tt, (tt, tt)))) $ says ! refl $
+      suffices ! _ (ends_at 𝓛 fill.ended stayed (fill.clauses 𝓛 mem run) (((κ, (κ₁, tt)), (q, (q₁, tt)), tt, a, vals), tt) vunit tt (filled n, (tt, (tt, tt))) (length_filled xs 0 n ys within, (tt, (tt, tt)))) $ says ! refl $
       nothing ! $ move ! (3 ∷ 0 ∷ []) $ join ! $ move ! (2 ∷ 0 ∷ []) $ join ! $ frame ! $
       -- [the table; the rows]
-      nothing ! $ owned ! usize (Is usize) (uint_Makes 𝓛 w64) n _ (refl, n-fits) $ fjoin ! $ move ! (2 ∷ 0 ∷ []) $ fjoin ! $ move ! (1 ∷ 0 ∷ []) $ fjoin ! $
+      nothing ! $ owned ! usize (Is usize) (uint_Makes 𝓛 w64) n _ (refl, n_fits) $ fjoin ! $ move ! (2 ∷ 0 ∷ []) $ fjoin ! $ move ! (1 ∷ 0 ∷ []) $ fjoin ! $
       feq_i ! (List Val) (vunit ∷ []) (vunit ∷ []) refl $ move ! (1 ∷ 0 ∷ []) $ done !
 
   module _ (𝓣 : Tables 𝓤 H) (fm : FmC 𝓤 H 𝓛.laws 𝓣.C) (known-row : Triple 𝓤 (𝓣.C #records·row-at) (RowAt 𝓛 mem run)) (known-put : Triple 𝓤 (𝓣.C #records·put-record) (PutRecord 𝓛 mem run)) where
@@ -168,7 +168,7 @@ module _ {M : Type 1} {𝓤 : Ura M} (𝓛 : Logic 𝓤) (mem : Memory → SProp
           stays ! (load ! (from ! (stop !)) (look ! 7 refl)) $
           -- `row_at` gets a copy of the rows
           move ! (3 ∷ []) $ use1 𝓛 (‵ Rows ⊛ ‵ Rows) ((shr_slice_copy 𝓛 (named 0) κ₁ u32).twice y (s₁ ∷ [])) $ split ! $
-          move ! (4 ∷ 0 ∷ []) $ use2 𝓛 (raw ((RowAt 𝓛 mem run).pre (to_row 𝓛 mem run κ₁ q₁ y i))) (asks-row 𝓛 mem run κ₁ q₁ y i i-fits) $
+          move ! (4 ∷ 0 ∷ []) $ use2 𝓛 (raw ((RowAt 𝓛 mem run).pre (to_row 𝓛 mem run κ₁ q₁ y i))) (asks_row 𝓛 mem run κ₁ q₁ y i i_fits) $
           calls_at ! fm (RowAt 𝓛 mem run) known-row (to_row 𝓛 mem run κ₁ q₁ y i) (and_then ! (load ! (from ! (stop !)) (look ! 11 refl)) (and_then ! (load ! (from ! (stop !)) (look ! 9 refl)) (no_more !))) (λ w.
           use1 𝓛 (later (given ((w ≡ mach r) × Is T.the_row r (mach r ∷ [])) (‵ (flft κ₁ q₁)))) (gives_row 𝓛 mem run κ₁ q₁ y i w) $ await ! tt $ learn ! (λ e.
           land ! (from ! (stop !)) (init ! 8 refl (subst (λ (v : Val). Holds (has_ty T'.mir v) × WT v) (sym e.0) (typed e.1))) $
@@ -178,9 +178,9 @@ module _ {M : Type 1} {𝓤 : Ura M} (𝓛 : Logic 𝓤) (mem : Memory → SProp
           assigns ! (agg ! (and_then ! (load ! (from ! (stop !)) (look ! 5 refl)) (and_then ! (load ! (from ! (fld ! refl (stop !))) (look_in ! 12 (sub ! 1 refl (whole !)))) (no_more !)))) (from ! (stop !)) (init ! 4 refl (tt, (tt, (record { fits = room.0 }, tt)))) $
           lft_new ! tt (λ ν. move ! (3 ∷ 4 ∷ []) $
           use2 𝓛 (later (some (λ (δ : GName). ‵ ((MutSlice (named 0) (ν ∷ []) T.the_row).own_val (under δ (so_far i)) (s ∷ [])) ⊛ ‵ (LentAgain T.the_row κ (ν ∷ []) q (so_far i) δ)))) (lends_again T.the_row κ (ν ∷ []) q (so_far i) 𝓛 (named 0) (named 0) (length ys)) $ await ! tt $ pick ! (λ δ. split ! $
-          move ! (2 ∷ 0 ∷ []) $ use2 𝓛 (raw ((PutRecord 𝓛 mem run).pre (to-put 𝓛 mem run (ν ∷ []) full_share (under δ (so_far i)) (length ys) i r))) (asks-put 𝓛 mem run (ν ∷ []) full_share (under δ (so_far i)) (length ys) i r in_table i-fits e.1) $
-          calls_at ! fm (PutRecord 𝓛 mem run) known-put (to-put 𝓛 mem run (ν ∷ []) full_share (under δ (so_far i)) (length ys) i r) (and_then ! (load ! (from ! (stop !)) (look ! 4 refl)) (and_then ! (load ! (from ! (stop !)) (look ! 9 refl)) (and_then ! (load ! (from ! (stop !)) (look ! 8 refl)) (no_more !)))) (λ u.
-          use1 𝓛 (later (given (u ≡ vunit) (‵ (flft (ν ∷ []) full_share) ⊛ ‵ (finally T.the_row δ (set (filled i) i r))))) (gives-put 𝓛 mem run (ν ∷ []) full_share (under δ (so_far i)) (length ys) i r u) $ await ! tt $ learn ! (λ e'. split ! $
+          move ! (2 ∷ 0 ∷ []) $ use2 𝓛 (raw ((PutRecord 𝓛 mem run).pre (to_put 𝓛 mem run (ν ∷ []) full_share (under δ (so_far i)) (length ys) i r))) (asks_put 𝓛 mem run (ν ∷ []) full_share (under δ (so_far i)) (length ys) i r in_table i_fits e.1) $
+          calls_at ! fm (PutRecord 𝓛 mem run) known-put (to_put 𝓛 mem run (ν ∷ []) full_share (under δ (so_far i)) (length ys) i r) (and_then ! (load ! (from ! (stop !)) (look ! 4 refl)) (and_then ! (load ! (from ! (stop !)) (look ! 9 refl)) (and_then ! (load ! (from ! (stop !)) (look ! 8 refl)) (no_more !)))) (λ u.
+          use1 𝓛 (later (given (u ≡ vunit) (‵ (flft (ν ∷ []) full_share) ⊛ ‵ (finally T.the_row δ (set (filled i) i r))))) (gives_put 𝓛 mem run (ν ∷ []) full_share (under δ (so_far i)) (length ys) i r u) $ await ! tt $ learn ! (λ e'. split ! $
           land ! (from ! (stop !)) (init ! 7 refl (subst (λ (v : Val). Holds (has_ty ty_unit v) × WT v) (sym e') (tt, tt))) $
           -- the lifetime is ended, and the table comes back
           lft_end ! tt $ move ! (0 ∷ 2 ∷ 1 ∷ []) $
@@ -195,14 +195,14 @@ module _ {M : Type 1} {𝓤 : Ura M} (𝓛 : Logic 𝓤) (mem : Memory → SProp
           typed : Is T.the_row (row_of xs i) (mach (row_of xs i) ∷ []) → Holds (has_ty T'.mir (mach (row_of xs i))) × WT (mach (row_of xs i))
           typed is = ((LL.lawful T.the_type T'.the_laws 𝓛).typed (row_of xs i) _ is).0
 
-          i-fits : i < 2 ^ 64
-          i-fits = omega (arith, small, n-fits)
+          i_fits : i < 2 ^ 64
+          i_fits = omega (arith, small, n_fits)
 
           next_fits : i + 1 < 2 ^ 64
-          next_fits = omega (arith, small, n-fits)
+          next_fits = omega (arith, small, n_fits)
 
           long : length (filled i) ≡ length ys
-          long = length-filled xs 0 i ys (omega (arith, small, within))
+          long = length_filled xs 0 i ys (omega (arith, small, within))
 
           in_table : i < length (filled i)
           in_table = omega (arith, long, small, within)
@@ -210,7 +210,7 @@ module _ {M : Type 1} {𝓤 : Ura M} (𝓛 : Logic 𝓤) (mem : Memory → SProp
           next : set (filled i) i (row_of xs i) ≡ filled (i + 1)
           next =
               let behind : i + 1 ≡ suc i = omega arith in
-              ap (λ (k : ℕ). set (filled i) i (row_of xs k)) (sym (zero-add i)) ∙ next-filled xs 0 i ys (omega (arith, small, within)) ∙ ap filled (sym behind)
+              ap (λ (k : ℕ). set (filled i) i (row_of xs k)) (sym (zero-add i)) ∙ next_filled xs 0 i ys (omega (arith, small, within)) ∙ ap filled (sym behind)
 
       -- the turn that leaves the loop, and the rest of the body
       ends : (X : SProp 𝓤) → ent 𝓤 (⋆ 𝓛 (At n)) (Wp 𝓤 H C Λ En pieces.turn-1 (after_turn 𝓤 H X Left))
@@ -253,7 +253,7 @@ module _ {M : Type 1} {𝓤 : Ura M} (𝓛 : Logic 𝓤) (mem : Memory → SProp
     walk =
         qed 𝓛 ((‵ (flft κ q) ⊛ (‵ (flft κ₁ q₁) ⊛ ‵ ftrue)) ∷ ‵ (owns (MutSlice (named 0) κ T.the_row ∷ ShrSlice (named 1) κ₁ u32 ∷ usize ∷ []) a vals) ∷ []) ∵ enter ! C Λ code.function (s ∷ s₁ ∷ vint w64 n ∷ []) _ $
         alloc1 ! (λ l₀. alloc1 ! (λ l₁. alloc1 ! (λ l₂. alloc1 ! (λ l₃. alloc1 ! (λ l₄. alloc1 ! (λ l₅. alloc1 ! (λ l₆. alloc1 ! (λ l₇. alloc1 ! (λ l₈. alloc1 ! (λ l₉. alloc0 ! $ params1 ! $
-        pass1 ! (init ! 16 refl (tt, (tt, (record { fits = room.0 }, tt)))) $ pass1 ! (init ! 14 refl (tt, (tt, (record { fits = room₁.0 }, tt)))) $ pass1 ! (init ! 12 refl (tt, record { fits = n-fits })) $ pass0 ! $
+        pass1 ! (init ! 16 refl (tt, (tt, (record { fits = room.0 }, tt)))) $ pass1 ! (init ! 14 refl (tt, (tt, (record { fits = room₁.0 }, tt)))) $ pass1 ! (init ! 12 refl (tt, record { fits = n_fits })) $ pass0 ! $
         assigns ! (of_opd ! (lit ! tt)) (from ! (stop !)) (init ! 10 refl (tt, record { fits = lit< tt })) $
         -- [_9; …; _0; …; the tokens; what the table, the rows and the number own]
         move ! (21 ∷ []) $ fsplit ! $ rewrite ! 0 (λ (l : List ChoiceRecord). ‵ (Table l)) (sym (none_filled xs 0 ys)) refl $ move ! (1 ∷ []) $ fsplit ! $ move ! (23 ∷ []) $ split ! $ move ! (1 ∷ []) $ split ! $

@@ -53,7 +53,7 @@ use Rattle.records.proofs.put_record.Code as code
 abbrev stayed : Stays (put_record.ended).signature.params (put_record.ended).kept
 stayed = (stay_slice (0 ∷ []) tt (plain (λ _. T.the_row)), (stay_none (λ _. usize) yes, (stay_none (λ _. T.the_row) yes, tt)))
 
-module _ {M : Type 1} {𝓤 : Ura M} (𝓛 : Logic 𝓤) (mem : Memory → SProp 𝓤) (run : Routine → Fun 𝓤) (κ : Lft) (q : Share) (x : MutBor (List ChoiceRecord)) (n : ℕ) (r : ChoiceRecord) (n-fits : n < 2 ^ 64) (r-is : Is T.the_row r (mach r ∷ [])) where
+module _ {M : Type 1} {𝓤 : Ura M} (𝓛 : Logic 𝓤) (mem : Memory → SProp 𝓤) (run : Routine → Fun 𝓤) (κ : Lft) (q : Share) (x : MutBor (List ChoiceRecord)) (n : ℕ) (r : ChoiceRecord) (n_fits : n < 2 ^ 64) (r_is : Is T.the_row r (mach r ∷ [])) where
   open 𝓛 use {H}
 
   abbrev b : ℕ
@@ -98,15 +98,15 @@ module _ {M : Type 1} {𝓤 : Ura M} (𝓛 : Logic 𝓤) (mem : Memory → SProp
       nothing ! $ move ! (3 ∷ 0 ∷ []) $ join ! $ frame ! $
       -- [obs; the borrow]: with the fact on the machine value it is what the table owns
       fjoin ! $ pure_i ! (mut_slice_at T.the_row (at_last x zs) (s ∷ [])) (tt, (tt, tt)) (ap (λ (k : ℕ). slice_val x.ptr k ∷ []) (sym (length-set ys n r)), subst (Room T.the_row) (sym (length-set ys n r)) room) $ fjoin ! $
-      nothing ! $ owned ! T.the_row (Is T.the_row) (LL.makes T.the_type T'.the_plain 𝓛) r _ r-is $ fjoin ! $
-      owned ! usize (Is usize) (uint_Makes 𝓛 w64) n _ (refl, n-fits) $ fjoin ! $ move ! (1 ∷ 0 ∷ []) $ fjoin ! $ feq_i ! (List Val) (vunit ∷ []) (vunit ∷ []) refl $ move ! (1 ∷ 0 ∷ []) $ done !
+      nothing ! $ owned ! T.the_row (Is T.the_row) (LL.makes T.the_type T'.the_plain 𝓛) r _ r_is $ fjoin ! $
+      owned ! usize (Is usize) (uint_Makes 𝓛 w64) n _ (refl, n_fits) $ fjoin ! $ move ! (1 ∷ 0 ∷ []) $ fjoin ! $ feq_i ! (List Val) (vunit ∷ []) (vunit ∷ []) refl $ move ! (1 ∷ 0 ∷ []) $ done !
 
   module _ (C : Calls 𝓤 H) (Λ : Loops 𝓤 H) where
     walk : Room T.the_row (length ys) → n < length ys → ent 𝓤 (on_entry 𝓛 put_record.signature (κ, tt) (q, tt) a vals) (WpFn 𝓤 H C Λ code.function (s ∷ vint w64 n ∷ m ∷ []) Post)
     walk room within =
         qed 𝓛 ((‵ (flft κ q) ⊛ ‵ ftrue) ∷ ‵ (owns (MutSlice (named 0) κ T.the_row ∷ usize ∷ T.the_row ∷ []) a vals) ∷ []) ∵ enter ! C Λ code.function (s ∷ vint w64 n ∷ m ∷ []) _ $
         alloc1 ! (λ l₀. alloc1 ! (λ l₁. alloc1 ! (λ l₂. alloc1 ! (λ l₃. alloc1 ! (λ l₄. alloc1 ! (λ l₅. alloc0 ! $ params1 ! $
-        pass1 ! (init ! 8 refl (tt, (tt, (record { fits = room.0 }, tt)))) $ pass1 ! (init ! 6 refl (tt, record { fits = n-fits })) $ pass1 ! (init ! 4 refl r-typed) $ pass0 ! $
+        pass1 ! (init ! 8 refl (tt, (tt, (record { fits = room.0 }, tt)))) $ pass1 ! (init ! 6 refl (tt, record { fits = n_fits })) $ pass1 ! (init ! 4 refl r-typed) $ pass0 ! $
         -- [_5; …; _4; …; _3; …; _2; …; _1; …; room for _0; …; the token; what the table, the place and the record own]
         assigns ! (bin ! (load ! (from ! (stop !)) (look ! 6 refl)) (lit ! tt) (record { fits = bytes_fit })) (from ! (stop !)) (init ! 2 refl (tt, record { fits = bytes_fit })) $
         assigns ! (bin ! (load ! (from ! (fld ! refl (stop !))) (look_in ! 8 (sub ! 0 refl (whole !)))) (load ! (from ! (stop !)) (look ! 2 refl)) tt) (from ! (stop !)) (init ! 0 refl (tt, tt)) $
@@ -116,14 +116,14 @@ module _ {M : Type 1} {𝓤 : Ura M} (𝓛 : Logic 𝓤) (mem : Memory → SProp
         opens_slice ! tt T.the_row ys b o $ elem_out ! T.the_row (Is T.the_row) (shows 𝓛 T.the_row) (LL.vals T.the_type T'.the_laws) (LL.tells T.the_type T'.the_laws) full_share ys n no_record b o within (λ _.
         -- [table[at]; what it owns; the others; the open borrow; obs; auth; true; the table's fact; the others' facts; _5; …; _4; …; _3; …; _2; …; _1; …; room for _0; …]
         assigns ! (of_opd ! (load ! (from ! (stop !)) (look ! 13 refl))) (from ! (hop ! (look ! 9 refl) (stop !))) (store_raw ! 0 refl r-typed) $
-        move ! (1 ∷ []) $ drop ! $ owned ! T.the_row (Is T.the_row) (LL.makes T.the_type T'.the_plain 𝓛) r _ r-is $ move ! (1 ∷ 0 ∷ []) $ elem_put ! T.the_row full_share ys n r (m ∷ []) b o within $
+        move ! (1 ∷ []) $ drop ! $ owned ! T.the_row (Is T.the_row) (LL.makes T.the_type T'.the_plain 𝓛) r _ r_is $ move ! (1 ∷ 0 ∷ []) $ elem_put ! T.the_row full_share ys n r (m ∷ []) b o within $
         closes_slice ! tt T.the_row ys zs (length-set ys n r) b o $
         assigns ! (of_opd ! (unit_lit !)) (from ! (stop !)) (init ! 16 refl (tt, tt)) $
         returns ! (look ! 16 refl) $ forget ! 6 refl $ forget ! 8 refl $ forget ! 10 refl $ forget ! 12 refl $ forget ! 14 refl $ forget ! 16 refl $
         move ! (16 ∷ 17 ∷ 14 ∷ 15 ∷ 12 ∷ 13 ∷ 10 ∷ 11 ∷ 8 ∷ 9 ∷ 6 ∷ 7 ∷ []) $ frees_all ! $ keep ! (0 ∷ 1 ∷ 2 ∷ []) $ by ! (exits room))))))))
       where
         r-typed : Holds (has_ty T'.mir m) × WT m
-        r-typed = ((LL.lawful T.the_type T'.the_laws 𝓛).typed r _ r-is).0
+        r-typed = ((LL.lawful T.the_type T'.the_laws 𝓛).typed r _ r_is).0
 
         bytes_fit : n * 12 < 2 ^ 64
         bytes_fit = omega (arith, room.1, within)

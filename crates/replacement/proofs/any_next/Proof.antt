@@ -4,14 +4,14 @@ use Prim.Native.Nat.{◌-◌, ◌≤◌}
 use lib.ListN.{length, get_or, drop}
 use lib.IntN.{pos}
 use Rattle.definition.specs.Lists.{any}
-use Rattle.theory_base.proofs.Slices.{any-hit, any-miss, any-end}
+use Rattle.theory_base.proofs.Slices.{any_hit, any_miss, any_end}
 use Rattle.literals.proofs.Laws.{answered}
-use Rattle.replacement.specs.Replaced.{next-in}
+use Rattle.replacement.specs.Replaced.{next_in}
 use Rattle.replacement.proofs.any_next.Statement.{statement}
 use Rattle.replacement.proofs.any_next.Tie as tie
 
 abbrev invariant-loop : tie.invariant-loop
-invariant-loop marks places clause i₀ i = (i ≤ length clause) × (any (next-in places marks) (drop i clause) ≡ any (next-in places marks) clause)
+invariant-loop marks places clause i₀ i = (i ≤ length clause) × (any (next_in places marks) (drop i clause) ≡ any (next_in places marks) clause)
 
 abbrev decreases-loop : tie.decreases-loop
 decreases-loop marks places clause i₀ i = length clause - i
@@ -33,9 +33,9 @@ returns c =
     let back = c.before.before.before in let loop-test = back.loop-test in
     let back = back.before in let loop = back.loop in
     let start = back.before.before.before in
-    let g = next-in start.args.places.now start.args.marks.now in
+    let g = next_in start.args.places.now start.args.marks.now in
     let s = start.args.clause.now in
-    any-hit g s loop.i (pos 0) loop-test.true
+    any_hit g s loop.i (pos 0) loop-test.true
     (answered g (get_or s loop.i (pos 0)) (sfits_of c.before.before.has-next-arg.given)
     c.before.has-next.ensures c.if1.true)
     ∙ loop.invariant.1
@@ -51,10 +51,10 @@ loop-again c =
     let back = c.before.before.before in let loop-test = back.loop-test in
     let back = back.before in let loop = back.loop in
     let start = back.before.before.before in
-    let g = next-in start.args.places.now start.args.marks.now in
+    let g = next_in start.args.places.now start.args.marks.now in
     let s = start.args.clause.now in (
       search rules,
-      any-miss g s loop.i (pos 0) loop-test.true
+      any_miss g s loop.i (pos 0) loop-test.true
           (answered g (get_or s loop.i (pos 0)) (sfits_of c.before.before.has-next-arg.given)
           c.before.has-next.ensures c.if1.false)
           ∙ loop.invariant.1,
@@ -64,7 +64,7 @@ returns-2 : tie.Need-returns-2 invariant-loop decreases-loop
 returns-2 c =
     let back = c.before in let loop = back.loop in
     let start = back.before.before.before in
-    any-end (next-in start.args.places.now start.args.marks.now) start.args.clause.now loop.i
+    any_end (next_in start.args.places.now start.args.marks.now) start.args.clause.now loop.i
     c.loop-test.false
     ∙ loop.invariant.1
 

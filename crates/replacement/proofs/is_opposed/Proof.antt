@@ -2,8 +2,8 @@ use mathlib.Core.Path.{ap, ◌∙◌}
 use mathlib.Core.List.{List}
 use Prim.Native.Nat.{ℕ}
 use Rattle.definition.specs.Lists.{any}
-use Rattle.replacement.specs.Replaced.{next-in}
-use Rattle.replacement.proofs.Replaced.{opposed-is}
+use Rattle.replacement.specs.Replaced.{next_in}
+use Rattle.replacement.proofs.Replaced.{opposed_is}
 use borrow.Author.Rules.{rules}
 use Rattle.replacement.proofs.is_opposed.Statement.{statement}
 use Rattle.replacement.proofs.is_opposed.Tie as tie
@@ -25,9 +25,9 @@ returns c =
     let back = c.before.before.before in let mark-places = back.mark-places in
     let start = back.before.before.before in
     λ k v u b a f. c.any_next.ensures
-    ∙ ap (λ (w : List ℕ). any (next-in start.args.places.now w) start.args.clause.now)
+    ∙ ap (λ (w : List ℕ). any (next_in start.args.places.now w) start.args.clause.now)
     mark-places.ensures
-    ∙ opposed-is k v u b start.args.clause.now a f
+    ∙ opposed_is k v u b start.args.clause.now a f
 
 pub is-opposed-spec : {M : Type 1} → statement M
 is-opposed-spec =

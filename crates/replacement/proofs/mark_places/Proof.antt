@@ -7,13 +7,13 @@ use lib.IntN.{pos}
 use borrow.Author.Rules.{rules, sfits_of}
 use Rattle.literals.proofs.Laws.{answer}
 use Rattle.tables.specs.Places.{place_in}
-use Rattle.replacement.specs.Replaced.{with-place-marks}
-use Rattle.replacement.proofs.Marks.{place-marks-step, place-marks-end}
+use Rattle.replacement.specs.Replaced.{with_place_marks}
+use Rattle.replacement.proofs.Marks.{place_marks_step, place_marks_end}
 use Rattle.replacement.proofs.mark_places.Statement.{statement}
 use Rattle.replacement.proofs.mark_places.Tie as tie
 
 abbrev invariant-loop : tie.invariant-loop
-invariant-loop marks₀ places clause i₀ marks i = (i ≤ length clause) × (length marks ≡ length marks₀) × (with-place-marks places marks (drop i clause) ≡ with-place-marks places marks₀ clause)
+invariant-loop marks₀ places clause i₀ marks i = (i ≤ length clause) × (length marks ≡ length marks₀) × (with_place_marks places marks (drop i clause) ≡ with_place_marks places marks₀ clause)
 
 abbrev decreases-loop : tie.decreases-loop
 decreases-loop marks₀ places clause i₀ marks i = length clause - i
@@ -53,13 +53,13 @@ loop-again c =
       search rules,
       set_at.auto.0 ∙ loop.invariant.1,
       ap
-          (λ (w : List ℕ). with-place-marks start.args.places.now w
+          (λ (w : List ℕ). with_place_marks start.args.places.now w
           (drop (loop.i + 1) start.args.clause.now))
           (set_at.ensures
           ∙ ap (λ (k : ℕ). set loop.marks k 1)
           (answer (place_in start.args.places.now) (get_or start.args.clause.now loop.i (pos 0))
           (sfits_of place-of-arg.given) place_of.ensures))
-          ∙ place-marks-step start.args.places.now loop.marks start.args.clause.now loop.i
+          ∙ place_marks_step start.args.places.now loop.marks start.args.clause.now loop.i
           loop-test.true
           ∙ loop.invariant.2,
     )
@@ -71,7 +71,7 @@ returns : tie.Need-returns invariant-loop decreases-loop
 returns c =
     let back = c.before in let loop = back.loop in
     let start = back.before.before.before in
-    place-marks-end start.args.places.now _ start.args.clause.now loop.i c.loop-test.false
+    place_marks_end start.args.places.now _ start.args.clause.now loop.i c.loop-test.false
     ∙ loop.invariant.2
 
 pub mark-places-spec : {M : Type 1} → statement M

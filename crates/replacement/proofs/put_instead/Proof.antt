@@ -1,13 +1,13 @@
 use lib.ListN.{length}
 use borrow.Author.Rules.{sfits_of, rules}
-use Rattle.replacement.proofs.Writing.{none-room, none-put, some-room, last-room, some-put}
+use Rattle.replacement.proofs.Writing.{none_room, none_put, some_room, last_room, some_put}
 use Rattle.replacement.proofs.put_instead.Statement.{statement}
 use Rattle.replacement.proofs.put_instead.Tie as tie
 
 put-if-requires : tie.Need-put-if-requires
 put-if-requires c κs =
     let start = c.before.before in
-    none-room start.args.size start.args.below start.args.place start.args.l start.ranges.l
+    none_room start.args.size start.args.below start.args.place start.args.l start.ranges.l
     c.before.if1.true start.args.to (length start.args.work.now) start.requires.1
 
 same_length : tie.Need-same-length
@@ -18,7 +18,7 @@ returns c =
     let back = c.before in let put_if = back.put_if in
     let back = back.before.before in let if1 = back.if1 in
     let start = back.before in
-    none-put start.args.size start.args.below start.args.place start.args.l start.ranges.l
+    none_put start.args.size start.args.below start.args.place start.args.l start.ranges.l
     if1.true start.args.work.now start.args.to put_if.ensures.0 put_if.ensures.1
 
 sub-signed : tie.Need-overflow-sub-signed
@@ -34,7 +34,7 @@ put-if-requires-2 : tie.Need-put-if-requires-2
 put-if-requires-2 c κs =
     let back = c.before in let signed = back.signed in
     let start = back.before.before in
-    some-room start.args.size start.args.below start.args.place start.args.l
+    some_room start.args.size start.args.below start.args.place start.args.l
     c.before.before.if1.false start.requires.0.0 start.requires.0.1 signed.result (sfits_of signed.type-inv)
     signed.ensures start.args.to (length start.args.work.now) start.requires.1
 
@@ -51,7 +51,7 @@ put-if-requires-3 c κs =
     let back = back.before.before in let signed = back.signed in
     let back = back.before in let if1 = back.if1 in
     let start = back.before in
-    last-room start.args.size start.args.below start.args.place start.args.l if1.false
+    last_room start.args.size start.args.below start.args.place start.args.l if1.false
     start.requires.0.0 start.requires.0.1 signed.result (sfits_of signed.type-inv) signed.ensures
     start.args.work.now start.args.to put-if2.ensures.0 put-if2.ensures.1 signed2.result
     (sfits_of signed2.type-inv) signed2.ensures start.requires.1
@@ -67,7 +67,7 @@ returns-2 c =
     let back = back.before.before in let signed = back.signed in
     let back = back.before in let if1 = back.if1 in
     let start = back.before in
-    some-put start.args.size start.args.below start.args.place start.args.l if1.false
+    some_put start.args.size start.args.below start.args.place start.args.l if1.false
     start.requires.0.0 start.requires.0.1 signed.result (sfits_of signed.type-inv) signed.ensures
     start.args.work.now start.args.to put-if2.ensures.0 put-if2.ensures.1 signed2.result
     (sfits_of signed2.type-inv) signed2.ensures put-if3.ensures.0 put-if3.ensures.1

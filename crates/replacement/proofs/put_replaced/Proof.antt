@@ -4,17 +4,17 @@ use native.Mathlib.Omega.{arith}
 use lib.IntN.{pos}
 use lib.ListN.{get_or, take, drop}
 use borrow.Author.Rules.{sfits_of, rules}
-use Rattle.definition.specs.Events.{choice-of}
+use Rattle.definition.specs.Events.{choice_of}
 use Rattle.literals.proofs.Laws.{answer}
 use Rattle.tables.specs.Places.{place_in}
-use Rattle.tables.proofs.Places.{place-within}
-use Rattle.replacement.proofs.Replaced.{instead, replaced-each}
-use Rattle.replacement.proofs.Writing.{instead-arg, Writing, writing_start, writing-room, writing_step, writing-end}
+use Rattle.tables.proofs.Places.{place_within}
+use Rattle.replacement.proofs.Replaced.{instead, replaced_each}
+use Rattle.replacement.proofs.Writing.{instead_arg, Writing, writing_start, writing_room, writing_step, writing_end}
 use Rattle.replacement.proofs.put_replaced.Statement.{statement}
 use Rattle.replacement.proofs.put_replaced.Tie as tie
 
 abbrev invariant-loop : tie.invariant-loop
-invariant-loop work₀ to from n places choice below size end₀ i₀ work end i = Writing (instead (choice-of choice below)) work₀ to from n i end work
+invariant-loop work₀ to from n places choice below size end₀ i₀ work end i = Writing (instead (choice_of choice below)) work₀ to from n i end work
 
 abbrev decreases-loop : tie.decreases-loop
 decreases-loop work₀ to from n places choice below size end₀ i₀ work end i = n - i
@@ -25,7 +25,7 @@ cast-size c = search rules
 loop-holds : tie.Need-loop-init invariant-loop decreases-loop
 loop-holds c =
     let start = c.before in
-    writing_start (instead (choice-of start.args.choice.now start.args.below)) start.args.work.now
+    writing_start (instead (choice_of start.args.choice.now start.args.below)) start.args.work.now
     start.args.to start.args.from start.args.n
 
 add-l : tie.Need-overflow-add-l invariant-loop decreases-loop
@@ -46,20 +46,20 @@ put-instead-requires c κs =
     let back = back.before in let loop-test = back.loop-test in
     let back = back.before in let loop = back.loop in
     let start = back.before.before in
-    let k = choice-of start.args.choice.now start.args.below in
+    let k = choice_of start.args.choice.now start.args.below in
     let x = get_or loop.work (start.args.from + loop.i) (pos 0) in
-    let e = instead-arg k start.requires.0.1 x c.place_of.result (sfits_of l.given) c.place_of.ensures in (
+    let e = instead_arg k start.requires.0.1 x c.place_of.result (sfits_of l.given) c.place_of.ensures in (
       (
         omega (
           arith,
           answer (place_in start.args.places.now) x (sfits_of l.given) c.place_of.ensures,
-          place-within start.requires.0.1 x,
+          place_within start.requires.0.1 x,
           start.requires.0.2.few,
         ),
         omega (arith, start.requires.0.2.new),
       ),
-      writing-room loop.invariant loop-test.true start.requires.0.0 (omega (arith, start.requires.1)) e
-          (rw (replaced-each k (take start.args.n (drop start.args.from start.args.work.now)))
+      writing_room loop.invariant loop-test.true start.requires.0.0 (omega (arith, start.requires.1)) e
+          (rw (replaced_each k (take start.args.n (drop start.args.from start.args.work.now)))
           start.requires.1),
     )
 
@@ -77,9 +77,9 @@ loop-again c =
     let back = back.before in let loop-test = back.loop-test in
     let back = back.before in let loop = back.loop in
     let start = back.before.before in
-    let k = choice-of start.args.choice.now start.args.below in
+    let k = choice_of start.args.choice.now start.args.below in
     let x = get_or loop.work (start.args.from + loop.i) (pos 0) in
-    let e = instead-arg k start.requires.0.1 x place_of.result (sfits_of l.given) place_of.ensures in
+    let e = instead_arg k start.requires.0.1 x place_of.result (sfits_of l.given) place_of.ensures in
     writing_step loop.invariant loop-test.true start.requires.0.0 (omega (arith, start.requires.1)) e
     put-instead.ensures.0 put-instead.ensures.1
 
@@ -90,9 +90,9 @@ returns : tie.Need-returns invariant-loop decreases-loop
 returns c =
     let start = c.before.before.before in
     rw
-    (replaced-each (choice-of start.args.choice.now start.args.below)
+    (replaced_each (choice_of start.args.choice.now start.args.below)
     (take start.args.n (drop start.args.from start.args.work.now))) at
-    (writing-end c.before.loop.invariant c.loop-test.false)
+    (writing_end c.before.loop.invariant c.loop-test.false)
 
 pub put-replaced-spec : {M : Type 1} → statement M
 put-replaced-spec =

@@ -3,7 +3,7 @@ use native.Mathlib.Omega.{arith}
 use Prim.Native.Nat.{◌+◌}
 use lib.ListN.{length, take, drop, length-drop}
 use lib.Seq.{length-take-le}
-use Rattle.replay.proofs.Indexing.{part-rest, part-link, clause-added, linked-added}
+use Rattle.replay.proofs.Indexing.{part_rest, part_link, clause_added, linked_added}
 use borrow.Author.Rules.{rules}
 use Rattle.replay.proofs.add_part.Statement.{statement}
 use Rattle.replay.proofs.add_part.Tie as tie
@@ -26,11 +26,11 @@ index-entry-requires c κs =
     let x : append-part.result ≡ start.args.end + (length d + 1) = omega (arith, append-part.ensures.0, m) in (
       omega (arith, x, l.order),
       omega (arith, x, m, start.requires.1),
-      part-link w append-part.new.0 w start.args.heads.now start.args.heads.now start.args.store
+      part_link w append-part.new.0 w start.args.heads.now start.args.heads.now start.args.store
           start.args.end start.args.links append-part.result d l (omega (arith, m, start.requires.2)) x
           (omega (arith, x, m, start.requires.1)) append-part.ensures.1,
       l.table,
-      part-rest w append-part.new.0 w start.args.heads.now start.args.heads.now
+      part_rest w append-part.new.0 w start.args.heads.now start.args.heads.now
           start.args.store start.args.end start.args.links append-part.result d l
           (omega (arith, m, start.requires.2)) x (omega (arith, x, m, start.requires.1)) append-part.ensures.1,
     )
@@ -52,11 +52,11 @@ returns c =
     let m : length d ≡ start.args.n = length-take-le start.args.n (drop start.args.first w)
     (omega (arith, start.requires.0, l.order, l.within, l.room, length-drop start.args.first w)) in
     let x : append-part.result ≡ start.args.end + (length d + 1) = omega (arith, append-part.ensures.0, m) in (
-      clause-added w append-part.new.0 _ start.args.heads.now _ start.args.store start.args.end
+      clause_added w append-part.new.0 _ start.args.heads.now _ start.args.store start.args.end
           start.args.links append-part.result d l (omega (arith, m, start.requires.2)) x
           (omega (arith, x, m, start.requires.1)) append-part.ensures.1 index-entry.ensures.0
           index-entry.ensures.1,
-      linked-added w append-part.new.0 _ start.args.heads.now _ start.args.store start.args.end
+      linked_added w append-part.new.0 _ start.args.heads.now _ start.args.store start.args.end
           start.args.links append-part.result d l (omega (arith, m, start.requires.2)) x
           (omega (arith, x, m, start.requires.1)) append-part.ensures.1 index-entry.ensures.0
           index-entry.ensures.1,

@@ -5,7 +5,7 @@ use lib.IntN.{ℤ}
 use lib.ListN.{take, drop, length-drop}
 use lib.Seq.{length-take-le}
 use Rattle.literals.proofs.Laws.{at_arg}
-use Rattle.replay.proofs.Copying.{entry-written}
+use Rattle.replay.proofs.Copying.{entry_written}
 use Rattle.replay.proofs.append_part.Statement.{statement}
 use Rattle.replay.proofs.append_part.Tie as tie
 
@@ -38,7 +38,7 @@ returns c =
     let start = c.before.before.before.before in
     let w = start.args.work.now in (
       refl,
-      entry-written w _ start.args.end start.args.n (take start.args.n (drop start.args.first w)) _
+      entry_written w _ start.args.end start.args.n (take start.args.n (drop start.args.first w)) _
           (length-take-le start.args.n (drop start.args.first w)
           (omega (arith, start.requires.0, start.requires.1, length-drop start.args.first w)))
           c.before.before.copy-up.ensures

@@ -4,7 +4,7 @@ use Prim.Native.Nat.{◌+◌, ◌-◌}
 use lib.IntN.{ℤ, pos}
 use lib.ListN.{get_or}
 use Rattle.literals.proofs.Laws.{at_arg}
-use Rattle.replay.proofs.Copying.{Copying, copying-start, copying-step, copying-end}
+use Rattle.replay.proofs.Copying.{Copying, copying_start, copying_step, copying_end}
 use Rattle.replay.proofs.copy_up.Statement.{statement}
 use Rattle.replay.proofs.copy_up.Tie as tie
 
@@ -15,7 +15,7 @@ abbrev decreases-loop : tie.decreases-loop
 decreases-loop work₀ to from n i₀ work i = n - i
 
 loop-holds : tie.Need-loop-init invariant-loop decreases-loop
-loop-holds c = copying-start c.args.work.now c.args.to c.args.from c.args.n
+loop-holds c = copying_start c.args.work.now c.args.to c.args.from c.args.n
 
 add-x : tie.Need-overflow-add-x invariant-loop decreases-loop
 add-x c = search rules
@@ -49,7 +49,7 @@ loop-again : tie.Need-loop-preserved invariant-loop decreases-loop
 loop-again c =
     let back = c.before.before in let loop = back.loop in
     let start = back.before in
-    copying-step loop.invariant c.before.loop-test.true start.requires.0 (omega (arith, start.requires.1))
+    copying_step loop.invariant c.before.loop-test.true start.requires.0 (omega (arith, start.requires.1))
     (at_arg (λ (z : ℤ). z) (get_or loop.work (start.args.from + loop.i) (pos 0)) (sfits_of c.x.given))
 
 same_length : tie.Need-same-length invariant-loop decreases-loop
@@ -58,7 +58,7 @@ same_length c = c.before.loop.invariant.size
 returns : tie.Need-returns invariant-loop decreases-loop
 returns c =
     let start = c.before.before in
-    copying-end c.before.loop.invariant c.loop-test.false (omega (arith, start.requires.0, start.requires.1))
+    copying_end c.before.loop.invariant c.loop-test.false (omega (arith, start.requires.0, start.requires.1))
 
 pub copy-up-spec : {M : Type 1} → statement M
 copy-up-spec =

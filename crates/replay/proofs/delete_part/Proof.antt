@@ -2,8 +2,8 @@ use mathlib.Core.Path.{refl, ap, ◌∙◌}
 use native.Mathlib.Omega.{arith}
 use lib.ListN.{take, drop}
 use lib.Seq.{take-set-le}
-use Rattle.replay.proofs.Indexing.{linked-deleted}
-use Rattle.replay.proofs.Replaying.{found_inside, deletion-found, deletion-missing}
+use Rattle.replay.proofs.Indexing.{linked_deleted}
+use Rattle.replay.proofs.Replaying.{found_inside, deletion_found, deletion_missing}
 use borrow.Author.Rules.{rules}
 use Rattle.replay.proofs.delete_part.Statement.{statement}
 use Rattle.replay.proofs.delete_part.Tie as tie
@@ -59,11 +59,11 @@ returns c =
     let w = start.args.work.now in
     let l = start.requires.1 in
     let d = take start.args.n (drop start.args.first w) in (
-      deletion-found w start.args.store start.args.end d l.order (omega (arith, l.room, l.within))
+      deletion_found w start.args.store start.args.end d l.order (omega (arith, l.room, l.within))
           l.formed find-clause.result find-clause.ensures _ _ at.given.1 mark-deleted.ensures,
       (
         ap (take start.args.store) mark-deleted.ensures ∙ take-set-le start.args.store w _ _ (omega arith),
-        linked-deleted w _ start.args.heads.now start.args.store start.args.end start.args.links d l
+        linked_deleted w _ start.args.heads.now start.args.store start.args.end start.args.links d l
             find-clause.result find-clause.ensures _ at.given.1 mark-deleted.ensures,
       ),
     )
@@ -77,7 +77,7 @@ returns-2 c =
     let w = start.args.work.now in
     let l = start.requires.1 in
     let find-clause = c.before.before.find-clause in (
-      deletion-missing w start.args.store start.args.end (take start.args.n (drop start.args.first w))
+      deletion_missing w start.args.store start.args.end (take start.args.n (drop start.args.first w))
           l.order (omega (arith, l.room, l.within)) l.formed find-clause.result find-clause.ensures c.enum_told.given.1,
       (refl, tt),
     )

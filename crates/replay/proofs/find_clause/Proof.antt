@@ -2,10 +2,10 @@ use mathlib.Core.Path.{ap, ◌∙◌}
 use mathlib.Core.List.{List}
 use native.Mathlib.Omega.{arith}
 use lib.IntN.{ℤ}
-use Rattle.theory_base.proofs.Slices.{part-is}
+use Rattle.theory_base.proofs.Slices.{part_is}
 use Rattle.store.specs.Store.{place_of}
 use Rattle.theory_base.specs.Slices.{between}
-use Rattle.replay.proofs.Indexing.{links-reach, linked-index}
+use Rattle.replay.proofs.Indexing.{links_reach, linked_index}
 use borrow.Author.Rules.{rules}
 use Rattle.replay.proofs.find_clause.Statement.{statement}
 use Rattle.replay.proofs.find_clause.Tie as tie
@@ -49,7 +49,7 @@ returns c =
     let w = start.args.work.now in
     c.find-same-set.ensures
     ∙ ap (λ (d : List ℤ). place_of d (between start.args.store start.args.end w))
-    (part-is w start.args.first start.args.n)
+    (part_is w start.args.first start.args.n)
 
 mul-find-linked : tie.Need-overflow-mul-find-linked
 mul-find-linked c = search rules
@@ -95,9 +95,9 @@ find-linked-requires c κs =
     let t = start.args.heads.now in
     let l = start.requires.1 in (
       l.formed,
-      links-reach w t start.args.store start.args.end start.args.links l,
+      links_reach w t start.args.store start.args.end start.args.links l,
       l.table,
-      linked-index w t start.args.store start.args.end start.args.links l (omega (arith, if1.false)),
+      linked_index w t start.args.store start.args.end start.args.links l (omega (arith, if1.false)),
     )
 
 returns-2 : tie.Need-returns-2
@@ -106,7 +106,7 @@ returns-2 c =
     let w = start.args.work.now in
     c.find-linked.ensures
     ∙ ap (λ (d : List ℤ). place_of d (between start.args.store start.args.end w))
-    (part-is w start.args.first start.args.n)
+    (part_is w start.args.first start.args.n)
 
 pub find-clause-spec : {M : Type 1} → statement M
 find-clause-spec =

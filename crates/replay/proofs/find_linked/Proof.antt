@@ -3,10 +3,10 @@ use mathlib.Core.Path.{◌≡◌, ap}
 use Prim.Native.Nat.{ℕ, suc, ◌-◌}
 use native.Mathlib.Omega.{arith}
 use lib.ListN.{get_or}
-use Rattle.literals.specs.Literal.{header-literals}
+use Rattle.literals.specs.Literal.{header_literals}
 use Rattle.literals.proofs.Laws.{answer}
 use Rattle.store.specs.Store.{header_at}
-use Rattle.replay.proofs.Index.{key-within, Walking, walking_start, led-inside, led-place, led-back, walking-step, walking-end}
+use Rattle.replay.proofs.Index.{key_within, Walking, walking_start, led_inside, led_place, led_back, walking_step, walking_end}
 use Rattle.replay.proofs.find_linked.Statement.{statement}
 use Rattle.replay.proofs.find_linked.Tie as tie
 
@@ -20,12 +20,12 @@ key-of-requires : tie.Need-key-of-requires invariant-loop decreases-loop
 key-of-requires c κs = search rules
 
 mul-p : tie.Need-overflow-mul-p invariant-loop decreases-loop
-mul-p c = omega (arith, c.key_of.ensures, key-within c.before.before.args.clause.now)
+mul-p c = omega (arith, c.key_of.ensures, key_within c.before.before.args.clause.now)
 
 shared-slice-read-p : tie.Need-shared-slice-read-p invariant-loop decreases-loop
 shared-slice-read-p c =
     let start = c.before.before.before in
-    omega (arith, c.before.key_of.ensures, key-within start.args.clause.now, start.requires.2)
+    omega (arith, c.before.key_of.ensures, key_within start.args.clause.now, start.requires.2)
 
 loop-holds : tie.Need-loop-init invariant-loop decreases-loop
 loop-holds c =
@@ -43,8 +43,8 @@ better-requires c κs =
     let start = back.before.before.before.before in
     let a = loop.p - 1 in
     let e : loop.p ≡ suc a = omega (arith, c.loop-test.true) in (
-      led-inside start.args.clause.now start.args.store.now loop.p loop.best loop.invariant a e,
-      (led-place start.args.clause.now start.args.store.now loop.p loop.best loop.invariant a e).rest,
+      led_inside start.args.clause.now start.args.store.now loop.p loop.best loop.invariant a e,
+      (led_place start.args.clause.now start.args.store.now loop.p loop.best loop.invariant a e).rest,
     )
 
 mul-header-length : tie.Need-overflow-mul-header-length invariant-loop decreases-loop
@@ -56,7 +56,7 @@ mul-header-length c =
     omega (
       arith,
       start.requires.1,
-      led-inside start.args.clause.now start.args.store.now loop.p loop.best loop.invariant a e,
+      led_inside start.args.clause.now start.args.store.now loop.p loop.best loop.invariant a e,
     )
 
 shared-slice-copy-out-header-length : tie.Need-shared-slice-copy-out-header-length invariant-loop decreases-loop
@@ -68,7 +68,7 @@ shared-slice-copy-out-header-length c =
     omega (
       arith,
       start.requires.1,
-      led-inside start.args.clause.now start.args.store.now loop.p loop.best loop.invariant a e,
+      led_inside start.args.clause.now start.args.store.now loop.p loop.best loop.invariant a e,
     )
 
 header-length-requires : tie.Need-header-length-requires invariant-loop decreases-loop
@@ -81,11 +81,11 @@ loop-less c =
     let start = back.before.before.before.before in
     let a = loop.p - 1 in
     let e : loop.p ≡ suc a = omega (arith, loop-test.true) in
-    let n = answer header-literals (header_at start.args.links.now a)
+    let n = answer header_literals (header_at start.args.links.now a)
     (sfits_of c.before.header-length-arg.given) c.header-length.ensures in
     omega (
       arith,
-      led-back start.args.clause.now start.args.store.now loop.p loop.best loop.invariant a e
+      led_back start.args.clause.now start.args.store.now loop.p loop.best loop.invariant a e
           start.args.links.now start.args.heads.now c.header-length.result start.requires.3 n,
     )
 
@@ -97,9 +97,9 @@ loop-again c =
     let start = back.before.before.before.before in
     let a = loop.p - 1 in
     let e : loop.p ≡ suc a = omega (arith, loop-test.true) in
-    let n = answer header-literals (header_at start.args.links.now a)
+    let n = answer header_literals (header_at start.args.links.now a)
     (sfits_of c.before.header-length-arg.given) c.header-length.ensures in
-    walking-step start.args.clause.now start.args.store.now loop.p loop.best loop.invariant a e
+    walking_step start.args.clause.now start.args.store.now loop.p loop.best loop.invariant a e
     start.args.links.now start.args.heads.now c.header-length.result better.result start.requires.3 n
     better.ensures
 
@@ -107,7 +107,7 @@ returns : tie.Need-returns invariant-loop decreases-loop
 returns c =
     let back = c.before in let loop = back.loop in
     let start = back.before.before.before.before in
-    walking-end start.args.clause.now start.args.store.now loop.p loop.best loop.invariant
+    walking_end start.args.clause.now start.args.store.now loop.p loop.best loop.invariant
     (omega (arith, c.loop-test.false))
 
 pub find-linked-spec : {M : Type 1} → statement M

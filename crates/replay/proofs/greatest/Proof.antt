@@ -6,19 +6,19 @@ use lib.IntN.{pos}
 use lib.ListN.{length, get_or, drop}
 use Rattle.literals.specs.Literal.{index_of}
 use Rattle.literals.proofs.Laws.{answer}
-use Rattle.replay.specs.Index.{last-index, greatest-index}
-use Rattle.replay.proofs.Index.{greatest-step, greatest-end}
+use Rattle.replay.specs.Index.{last_index, greatest_index}
+use Rattle.replay.proofs.Index.{greatest_step, greatest_end}
 use Rattle.replay.proofs.greatest.Statement.{statement}
 use Rattle.replay.proofs.greatest.Tie as tie
 
 abbrev invariant-loop : tie.invariant-loop
-invariant-loop clause top₀ i₀ top i = (i ≤ length clause) × (max top (greatest-index (drop i clause)) ≡ greatest-index clause)
+invariant-loop clause top₀ i₀ top i = (i ≤ length clause) × (max top (greatest_index (drop i clause)) ≡ greatest_index clause)
 
 abbrev decreases-loop : tie.decreases-loop
 decreases-loop clause top₀ i₀ top i = length clause - i
 
 loop-holds : tie.Need-loop-init invariant-loop decreases-loop
-loop-holds c = let e : max 0 (greatest-index c.args.clause.now) ≡ greatest-index c.args.clause.now = omega arith in (omega arith, e)
+loop-holds c = let e : max 0 (greatest_index c.args.clause.now) ≡ greatest_index c.args.clause.now = omega arith in (omega arith, e)
 
 mul-literal-index : tie.Need-overflow-mul-literal-index invariant-loop decreases-loop
 mul-literal-index c = search rules
@@ -52,18 +52,18 @@ loop-again c =
     let i = loop.i in
     let e : literal-index.result ≡ index_of (get_or s i (pos 0)) = answer index_of (get_or s i (pos 0))
     (sfits_of literal-index-arg.given) literal-index.ensures in
-    let k : c.higher.result ≡ max loop.top (min last-index (index_of (get_or s i (pos 0)))) = c.higher.ensures
-    ∙ ap (max loop.top) (c.before.lower.ensures ∙ ap (min last-index) e) in (
+    let k : c.higher.result ≡ max loop.top (min last_index (index_of (get_or s i (pos 0)))) = c.higher.ensures
+    ∙ ap (max loop.top) (c.before.lower.ensures ∙ ap (min last_index) e) in (
       search rules,
-      ap (λ (n : ℕ). max n (greatest-index (drop (i + 1) s))) k
-          ∙ greatest-step s i loop.top loop-test.true
+      ap (λ (n : ℕ). max n (greatest_index (drop (i + 1) s))) k
+          ∙ greatest_step s i loop.top loop-test.true
           ∙ loop.invariant.1,
     )
 
 returns : tie.Need-returns invariant-loop decreases-loop
 returns c =
     let loop = c.before.loop in
-    greatest-end c.before.before.args.clause.now loop.i loop.top c.loop-test.false ∙ loop.invariant.1
+    greatest_end c.before.before.args.clause.now loop.i loop.top c.loop-test.false ∙ loop.invariant.1
 
 pub greatest-spec : {M : Type 1} → statement M
 greatest-spec =

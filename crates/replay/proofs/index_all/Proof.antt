@@ -2,7 +2,7 @@ use borrow.Author.Rules.{rules}
 use mathlib.Core.Path.{◌∙◌, sym}
 use Prim.Native.Nat.{◌-◌}
 use native.Mathlib.Omega.{arith}
-use Rattle.replay.proofs.Indexing.{Indexing, indexing-start, entry-rest, link-inside, entry-there, indexing-step, indexing-end}
+use Rattle.replay.proofs.Indexing.{Indexing, indexing_start, entry_rest, link_inside, entry_there, indexing_step, indexing_end}
 use Rattle.replay.proofs.index_all.Statement.{statement}
 use Rattle.replay.proofs.index_all.Tie as tie
 
@@ -18,7 +18,7 @@ sub-n c = c.before.requires.order
 loop-holds : tie.Need-loop-init invariant-loop decreases-loop
 loop-holds c =
     let start = c.before in
-    indexing-start start.args.work.now start.args.heads.now start.args.store start.args.end
+    indexing_start start.args.work.now start.args.heads.now start.args.store start.args.end
     start.args.links start.requires
 
 index-entry-requires : tie.Need-index-entry-requires invariant-loop decreases-loop
@@ -28,10 +28,10 @@ index-entry-requires c κs =
     let start = back.before.before in (
       omega (arith, loop-test.true),
       start.requires.within,
-      link-inside start.args.work.now loop.work start.args.heads.now loop.heads start.args.store
+      link_inside start.args.work.now loop.work start.args.heads.now loop.heads start.args.store
           start.args.end start.args.links loop.at start.requires loop.invariant loop-test.true,
       loop.invariant.table,
-      entry-rest start.args.work.now loop.work start.args.heads.now loop.heads start.args.store
+      entry_rest start.args.work.now loop.work start.args.heads.now loop.heads start.args.store
           start.args.end start.args.links loop.at start.requires loop.invariant loop-test.true,
     )
 
@@ -63,7 +63,7 @@ next-at-requires c κs =
     let back = back.before.before.before in let loop-test = back.loop-test in
     let back = back.before in let loop = back.loop in
     let start = back.before.before in
-    entry-there start.args.work.now loop.work start.args.heads.now loop.heads start.args.store
+    entry_there start.args.work.now loop.work start.args.heads.now loop.heads start.args.store
     start.args.end start.args.links loop.at start.requires loop.invariant loop-test.true _ _
     index-entry.ensures.0 index-entry.ensures.1
 
@@ -76,7 +76,7 @@ loop-again c =
     let back = back.before.before.before in let loop-test = back.loop-test in
     let back = back.before in let loop = back.loop in
     let start = back.before.before in
-    indexing-step start.args.work.now loop.work start.args.heads.now loop.heads start.args.store
+    indexing_step start.args.work.now loop.work start.args.heads.now loop.heads start.args.store
     start.args.end start.args.links loop.at start.requires loop.invariant loop-test.true _ _
     index-entry.ensures.0 index-entry.ensures.1 _ c.next-at.ensures
 
@@ -88,14 +88,14 @@ same-length-2 c =
     let start = c.before.before.before in
     c.before.loop.invariant.table
     ∙ sym
-    (indexing-start start.args.work.now start.args.heads.now start.args.store start.args.end
+    (indexing_start start.args.work.now start.args.heads.now start.args.store start.args.end
     start.args.links start.requires).table
 
 returns : tie.Need-returns invariant-loop decreases-loop
 returns c =
     let back = c.before in let loop = back.loop in
     let start = back.before.before in (
-      indexing-end start.args.work.now loop.work start.args.heads.now loop.heads start.args.store
+      indexing_end start.args.work.now loop.work start.args.heads.now loop.heads start.args.store
           start.args.end start.args.links loop.at start.requires loop.invariant c.loop-test.false,
       loop.invariant.kept,
     )

@@ -6,9 +6,9 @@ use lib.IntN.{ℤ}
 use lib.ListN.{length, get_or, set}
 use Rattle.literals.specs.Literal.{header_of}
 use Rattle.literals.proofs.Laws.{at_arg}
-use Rattle.store.specs.Store.{clause-at}
+use Rattle.store.specs.Store.{clause_at}
 use Rattle.theory_base.specs.Slices.{between}
-use Rattle.replay.proofs.Index.{key-within}
+use Rattle.replay.proofs.Index.{key_within}
 use borrow.Author.Rules.{rules}
 use Rattle.replay.proofs.index_entry.Statement.{statement}
 use Rattle.replay.proofs.index_entry.Tie as tie
@@ -31,11 +31,11 @@ key-at-requires c κs = search rules
 mul-header : tie.Need-overflow-mul-header
 mul-header c =
     let start = c.before.before.before.before in
-    let k : c.key-at.result < length start.args.heads.now = omega (
+    let k : c.key_at.result < length start.args.heads.now = omega (
       arith,
-      c.key-at.ensures,
-      key-within
-          (clause-at (between start.args.store start.args.end start.args.work.now) start.args.at),
+      c.key_at.ensures,
+      key_within
+          (clause_at (between start.args.store start.args.end start.args.work.now) start.args.at),
       start.requires.3,
     ) in
     search rules
@@ -45,9 +45,9 @@ slice-read-header c =
     let start = c.before.before.before.before.before in
     omega (
       arith,
-      c.before.key-at.ensures,
-      key-within
-          (clause-at (between start.args.store start.args.end start.args.work.now) start.args.at),
+      c.before.key_at.ensures,
+      key_within
+          (clause_at (between start.args.store start.args.end start.args.work.now) start.args.at),
       start.requires.3,
     )
 
@@ -68,13 +68,13 @@ add-heads c = search rules
 
 mul-heads : tie.Need-overflow-mul-heads
 mul-heads c =
-    let back = c.before.before in let key-at = back.key-at in
+    let back = c.before.before in let key_at = back.key_at in
     let start = back.before.before.before.before in
-    let k : key-at.result < length start.args.heads.now = omega (
+    let k : key_at.result < length start.args.heads.now = omega (
       arith,
-      key-at.ensures,
-      key-within
-          (clause-at (between start.args.store start.args.end start.args.work.now) start.args.at),
+      key_at.ensures,
+      key_within
+          (clause_at (between start.args.store start.args.end start.args.work.now) start.args.at),
       start.requires.3,
     ) in
     search rules
@@ -84,9 +84,9 @@ slice-write-heads c =
     let start = c.before.before.before.before.before.before in
     omega (
       arith,
-      c.before.before.key-at.ensures,
-      key-within
-          (clause-at (between start.args.store start.args.end start.args.work.now) start.args.at),
+      c.before.before.key_at.ensures,
+      key_within
+          (clause_at (between start.args.store start.args.end start.args.work.now) start.args.at),
       start.requires.3,
     )
 
@@ -98,13 +98,13 @@ same-length-2 c = search rules
 
 returns : tie.Need-returns
 returns c =
-    let back = c.before.before in let key-at = back.key-at in
+    let back = c.before.before in let key_at = back.key_at in
     let start = back.before.before.before.before in (
       ap (set start.args.work.now (start.args.links + start.args.at))
           (at_arg (λ (z : ℤ). z) c.header.result (sfits_of c.header.type-inv)
           ∙ c.header.ensures
-          ∙ ap (λ (k : ℕ). header_of (get_or start.args.heads.now k 0)) key-at.ensures),
-      ap (λ (k : ℕ). set start.args.heads.now k (start.args.at + 1)) key-at.ensures,
+          ∙ ap (λ (k : ℕ). header_of (get_or start.args.heads.now k 0)) key_at.ensures),
+      ap (λ (k : ℕ). set start.args.heads.now k (start.args.at + 1)) key_at.ensures,
     )
 
 pub index-entry-spec : {M : Type 1} → statement M

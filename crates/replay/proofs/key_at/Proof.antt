@@ -2,8 +2,8 @@ use mathlib.Core.Path.{◌≡◌, ap, ◌∙◌}
 use Prim.Native.Nat.{ℕ, ◌+◌, ◌-◌}
 use native.Mathlib.Omega.{arith}
 use lib.ListN.{take, drop}
-use Rattle.store.specs.Store.{size-at}
-use Rattle.store.proofs.Laws.{formed-next}
+use Rattle.store.specs.Store.{size_at}
+use Rattle.store.proofs.Laws.{formed_next}
 use Rattle.replay.specs.Index.{key_of}
 use borrow.Author.Rules.{rules}
 use Rattle.replay.proofs.key_at.Statement.{statement}
@@ -12,8 +12,8 @@ use Rattle.replay.proofs.key_at.Tie as tie
 next-at-requires : tie.Need-next-at-requires
 next-at-requires c κs = search rules
 
-add-first : tie.Need-overflow-add-first
-add-first c = search rules
+add_first : tie.Need-overflow-add-first
+add_first c = search rules
 
 mul-key-of : tie.Need-overflow-mul-key-of
 mul-key-of c = search rules
@@ -30,7 +30,7 @@ part-key-of-end c =
     omega (
       arith,
       c.next-at.ensures,
-      (formed-next start.args.store.now start.args.at start.requires.0 start.requires.1).0,
+      (formed_next start.args.store.now start.args.at start.requires.0 start.requires.1).0,
     )
 
 key-of-requires : tie.Need-key-of-requires
@@ -42,7 +42,7 @@ returns c =
     let start = back.before in
     let s = start.args.store.now in
     let at = start.args.at in
-    let e : next-at.result - (at + 1) ≡ size-at s at = omega (arith, next-at.ensures) in
+    let e : next-at.result - (at + 1) ≡ size_at s at = omega (arith, next-at.ensures) in
     c.key_of.ensures ∙ ap (λ (k : ℕ). key_of (take k (drop (at + 1) s))) e
 
 pub key-at-spec : {M : Type 1} → statement M
@@ -50,7 +50,7 @@ key-at-spec =
     tie.close
     (tie.spec
     next-at-requires
-    add-first
+    add_first
     mul-key-of
     sub-key-of
     part-key-of-start

@@ -1,5 +1,5 @@
 use native.Mathlib.Omega.{arith}
-use Rattle.replay.proofs.Index.{lowest-most, greatest-most, key-is}
+use Rattle.replay.proofs.Index.{lowest_most, greatest_most, key_is}
 use borrow.Author.Rules.{rules}
 use Rattle.replay.proofs.key_of.Statement.{statement}
 use Rattle.replay.proofs.key_of.Tie as tie
@@ -11,7 +11,7 @@ greatest-requires : tie.Need-greatest-requires
 greatest-requires c κs = search rules
 
 mul-result : tie.Need-overflow-mul-result
-mul-result c = omega (arith, c.before.lowest.ensures, lowest-most c.before.before.args.clause.now)
+mul-result c = omega (arith, c.before.lowest.ensures, lowest_most c.before.before.args.clause.now)
 
 add-result : tie.Need-overflow-add-result
 add-result c =
@@ -19,15 +19,15 @@ add-result c =
     omega (
       arith,
       c.before.lowest.ensures,
-      lowest-most start.args.clause.now,
+      lowest_most start.args.clause.now,
       c.greatest.ensures,
-      greatest-most start.args.clause.now,
+      greatest_most start.args.clause.now,
     )
 
 returns : tie.Need-returns
 returns c =
     let lowest = c.before.lowest in
-    key-is c.before.before.args.clause.now lowest.result c.greatest.result lowest.ensures
+    key_is c.before.before.args.clause.now lowest.result c.greatest.result lowest.ensures
     c.greatest.ensures
 
 pub key-of-spec : {M : Type 1} → statement M

@@ -6,13 +6,13 @@ use lib.IntN.{pos}
 use lib.ListN.{length, get_or, drop}
 use Rattle.literals.specs.Literal.{index_of}
 use Rattle.literals.proofs.Laws.{answer}
-use Rattle.replay.specs.Index.{last-index, lowest-index}
-use Rattle.replay.proofs.Index.{lowest_start, lowest_step, lowest-end}
+use Rattle.replay.specs.Index.{last_index, lowest_index}
+use Rattle.replay.proofs.Index.{lowest_start, lowest_step, lowest_end}
 use Rattle.replay.proofs.lowest.Statement.{statement}
 use Rattle.replay.proofs.lowest.Tie as tie
 
 abbrev invariant-loop : tie.invariant-loop
-invariant-loop clause low₀ i₀ low i = (i ≤ length clause) × (low ≤ last-index) × (min low (lowest-index (drop i clause)) ≡ lowest-index clause)
+invariant-loop clause low₀ i₀ low i = (i ≤ length clause) × (low ≤ last_index) × (min low (lowest_index (drop i clause)) ≡ lowest_index clause)
 
 abbrev decreases-loop : tie.decreases-loop
 decreases-loop clause low₀ i₀ low i = length clause - i
@@ -52,7 +52,7 @@ loop-again c =
     ∙ ap (min loop.low) e in (
       search rules,
       omega (arith, k, loop.invariant.1),
-      ap (λ (n : ℕ). min n (lowest-index (drop (i + 1) s))) k
+      ap (λ (n : ℕ). min n (lowest_index (drop (i + 1) s))) k
           ∙ lowest_step s i loop.low loop-test.true
           ∙ loop.invariant.2,
     )
@@ -60,7 +60,7 @@ loop-again c =
 returns : tie.Need-returns invariant-loop decreases-loop
 returns c =
     let loop = c.before.loop in
-    lowest-end c.before.before.args.clause.now loop.i loop.low c.loop-test.false loop.invariant.1
+    lowest_end c.before.before.args.clause.now loop.i loop.low c.loop-test.false loop.invariant.1
     ∙ loop.invariant.2
 
 pub lowest-spec : {M : Type 1} → statement M

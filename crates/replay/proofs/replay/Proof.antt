@@ -1,5 +1,5 @@
 use mathlib.Core.Path.{refl, ◌∙◌}
-use Rattle.replay.proofs.Replaying.{linkable, same-front, still-laid-out, still-room, indexed-replays, copy-front, copy-laid-out, copy-replays}
+use Rattle.replay.proofs.Replaying.{linkable, same_front, still_laid_out, still_room, indexed_replays, copy_front, copy_laid_out, copy_replays}
 use borrow.Author.Rules.{rules}
 use Rattle.replay.proofs.replay.Statement.{statement}
 use Rattle.replay.proofs.replay.Tie as tie
@@ -24,7 +24,7 @@ index-all-requires c κs =
     let back = c.before.before.before in let copy-up = back.copy-up in
     let start = back.before.before in
     linkable _ start.args.n start.args.m _ _
-    (copy-laid-out start.args.work.now _ start.args.n start.args.m start.requires copy-up.ensures) refl _
+    (copy_laid_out start.args.work.now _ start.args.n start.args.m start.requires copy-up.ensures) refl _
     refl
 
 slice-aggregate-replay-lines : tie.Need-slice-aggregate-replay-lines
@@ -38,11 +38,11 @@ replay-lines-requires c κs =
     let back = c.before.before.before.before in let index-all = back.index-all in
     let back = back.before.before.before.before in let copy-up = back.copy-up in
     let start = back.before.before in
-    let p = copy-laid-out start.args.work.now _ start.args.n start.args.m start.requires copy-up.ensures
+    let p = copy_laid_out start.args.work.now _ start.args.n start.args.m start.requires copy-up.ensures
     in (
-      still-laid-out _ start.args.n start.args.m _ _ p refl index-all.new.0 index-all.auto.0
+      still_laid_out _ start.args.n start.args.m _ _ p refl index-all.new.0 index-all.auto.0
           index-all.ensures.1,
-      still-room _ start.args.n start.args.m _ _ p refl index-all.new.0 index-all.auto.0
+      still_room _ start.args.n start.args.m _ _ p refl index-all.new.0 index-all.auto.0
           index-all.ensures.1,
       index-all.ensures.0,
     )
@@ -56,16 +56,16 @@ returns c =
     let back = back.before.before.before.before.before in let index-all = back.index-all in
     let back = back.before.before.before.before in let copy-up = back.copy-up in
     let start = back.before.before in
-    let p = copy-laid-out start.args.work.now _ start.args.n start.args.m start.requires copy-up.ensures
+    let p = copy_laid_out start.args.work.now _ start.args.n start.args.m start.requires copy-up.ensures
     in (
-      copy-replays start.args.work.now _ start.args.n start.args.m start.requires copy-up.ensures
+      copy_replays start.args.work.now _ start.args.n start.args.m start.requires copy-up.ensures
           replay-lines.result _
-          (indexed-replays _ start.args.n start.args.m _ _ p refl index-all.new.0 index-all.auto.0
+          (indexed_replays _ start.args.n start.args.m _ _ p refl index-all.new.0 index-all.auto.0
           index-all.ensures.1 replay-lines.result _ replay-lines.ensures.0),
       replay-lines.ensures.1
-          ∙ same-front _ start.args.n start.args.m _ _ p refl index-all.new.0 index-all.auto.0
+          ∙ same_front _ start.args.n start.args.m _ _ p refl index-all.new.0 index-all.auto.0
           index-all.ensures.1
-          ∙ copy-front start.args.work.now _ start.args.n start.args.m start.requires copy-up.ensures,
+          ∙ copy_front start.args.work.now _ start.args.n start.args.m start.requires copy-up.ensures,
     )
 
 pub replay-spec : {M : Type 1} → statement M

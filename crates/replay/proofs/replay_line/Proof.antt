@@ -5,12 +5,12 @@ use native.Mathlib.Omega.{arith}
 use borrow.Author.Rules.{sfits_of, rules}
 use lib.ListN.{length, drop, length-drop}
 use lib.Seq.{length-take-le}
-use Rattle.literals.specs.Literal.{negative, header-literals}
-use Rattle.literals.proofs.Laws.{answer, answered, literals-within}
-use Rattle.store.specs.Store.{stored, header_at, size-at, clause-at}
+use Rattle.literals.specs.Literal.{negative, header_literals}
+use Rattle.literals.proofs.Laws.{answer, answered, literals_within}
+use Rattle.store.specs.Store.{stored, header_at, size_at, clause_at}
 use Rattle.theory_base.specs.Slices.{between}
-use Rattle.replay.specs.Replayed.{Clause-added}
-use Rattle.replay.proofs.Replaying.{addition-replays, replays-addition, replays-deletion}
+use Rattle.replay.specs.Replayed.{ClauseAdded}
+use Rattle.replay.proofs.Replaying.{addition_replays, replays_addition, replays_deletion}
 use Rattle.replay.proofs.replay_line.Statement.{statement}
 use Rattle.replay.proofs.replay_line.Tie as tie
 
@@ -23,8 +23,8 @@ slice-copy-out-header-length c = search rules
 header-length-requires : tie.Need-header-length-requires
 header-length-requires c κs = search rules
 
-add-first : tie.Need-overflow-add-first
-add-first c = search rules
+add_first : tie.Need-overflow-add-first
+add_first c = search rules
 
 mul-is-negative : tie.Need-overflow-mul-is-negative
 mul-is-negative c = search rules
@@ -41,7 +41,7 @@ delete-part-requires c κs =
     let back = back.before in let header-length-arg = back.header-length-arg in
     let start = back.before.before in
     let w = start.args.work.now in
-    let n : header-length.result ≡ size-at w start.args.at = answer header-literals (header_at w start.args.at)
+    let n : header-length.result ≡ size_at w start.args.at = answer header_literals (header_at w start.args.at)
     (sfits_of header-length-arg.given) header-length.ensures in
     (omega (arith, n, start.requires.0), start.requires.2)
 
@@ -64,9 +64,9 @@ returns c =
     let at = start.args.at in
     let store = start.args.store in
     let end = start.args.end in
-    let n : header-length.result ≡ size-at w at = answer header-literals (header_at w at)
+    let n : header-length.result ≡ size_at w at = answer header_literals (header_at w at)
     (sfits_of header-length-arg.given) header-length.ensures in (
-      replays-deletion (stored (between store end w)) w at store end _ delete-part.result _ (omega arith)
+      replays_deletion (stored (between store end w)) w at store end _ delete-part.result _ (omega arith)
           (answered negative (header_at w at) (sfits_of is-negative-arg.given) is_negative.ensures if1.true)
           (rw n at delete-part.ensures.0),
       delete-part.ensures.1,
@@ -78,11 +78,11 @@ add-part-requires c κs =
     let back = back.before in let header-length-arg = back.header-length-arg in
     let start = back.before.before in
     let w = start.args.work.now in
-    let n : header-length.result ≡ size-at w start.args.at = answer header-literals (header_at w start.args.at)
+    let n : header-length.result ≡ size_at w start.args.at = answer header_literals (header_at w start.args.at)
     (sfits_of header-length-arg.given) header-length.ensures in (
       omega (arith, n, start.requires.0),
       omega (arith, n, start.requires.1),
-      omega (arith, n, literals-within (header_at w start.args.at) (sfits_of header-length-arg.given)),
+      omega (arith, n, literals_within (header_at w start.args.at) (sfits_of header-length-arg.given)),
       start.requires.2,
     )
 
@@ -94,7 +94,7 @@ same-length-4 c = search rules
 
 returns-2 : tie.Need-returns-2
 returns-2 c =
-    let back = c.before.before.before in let add-part = back.add-part in
+    let back = c.before.before.before in let add_part = back.add_part in
     let back = back.before.before.before in let if1 = back.if1 in
     let back = back.before in let is_negative = back.is_negative in
     let back = back.before in let is-negative-arg = back.is-negative-arg in
@@ -106,18 +106,18 @@ returns-2 c =
     let store = start.args.store in
     let end = start.args.end in
     let l = start.requires.2 in
-    let n : header-length.result ≡ size-at w at = answer header-literals (header_at w at)
+    let n : header-length.result ≡ size_at w at = answer header_literals (header_at w at)
     (sfits_of header-length-arg.given) header-length.ensures in
-    let k : length (clause-at w at) ≡ size-at w at = length-take-le (size-at w at) (drop (at + 1) w)
+    let k : length (clause_at w at) ≡ size_at w at = length-take-le (size_at w at) (drop (at + 1) w)
     (omega (arith, start.requires.0, l.order, l.within, l.room, length-drop (at + 1) w)) in
-    let a : Clause-added w store end (clause-at w at) add-part.result add-part.new.0 = rw n at
-    add-part.ensures.0 in (
-      replays-addition (stored (between store end w)) w at store (end + (length (clause-at w at) + 1))
-          (end + (size-at w at + 1)) (Replayed.Standing add-part.result) add-part.new.0 (omega arith)
+    let a : ClauseAdded w store end (clause_at w at) add_part.result add_part.new.0 = rw n at
+    add_part.ensures.0 in (
+      replays_addition (stored (between store end w)) w at store (end + (length (clause_at w at) + 1))
+          (end + (size_at w at + 1)) (Replayed.Standing add_part.result) add_part.new.0 (omega arith)
           (answered negative (header_at w at) (sfits_of is-negative-arg.given) is_negative.ensures if1.false)
-          (addition-replays w add-part.new.0 store end add-part.result (clause-at w at) l.order
-          (omega (arith, k, literals-within (header_at w at) (sfits_of header-length-arg.given))) l.formed a),
-      (a.kept, add-part.ensures.1),
+          (addition_replays w add_part.new.0 store end add_part.result (clause_at w at) l.order
+          (omega (arith, k, literals_within (header_at w at) (sfits_of header-length-arg.given))) l.formed a),
+      (a.kept, add_part.ensures.1),
     )
 
 pub replay-line-spec : {M : Type 1} → statement M
@@ -127,7 +127,7 @@ replay-line-spec =
     mul-header-length
     slice-copy-out-header-length
     header-length-requires
-    add-first
+    add_first
     mul-is-negative
     slice-copy-out-is-negative
     is-negative-requires

@@ -1,5 +1,5 @@
 use lib.ListN.{take}
-use Rattle.run.proofs.Choosing.{listed-returned, aligned-returned}
+use Rattle.run.proofs.Choosing.{listed_returned, aligned_returned}
 use borrow.Author.Rules.{rules}
 use Rattle.run.proofs.arrange.Statement.{statement}
 use Rattle.run.proofs.arrange.Tie as tie
@@ -16,7 +16,7 @@ align-requires c κs = search rules
 returns : tie.Need-returns
 returns c =
     let start = c.before.before.before in
-    listed-returned c.enum_told.given.1 (take start.args.end start.args.work.now)
+    listed_returned c.enum_told.given.1 (take start.args.end start.args.work.now)
     start.args.chosen.now start.requires.2.formed
 
 same_length : tie.Need-same-length
@@ -26,7 +26,7 @@ returns-2 : tie.Need-returns-2
 returns-2 c =
     let back = c.before.before.before in let enum-told2 = back.enum-told2 in
     let start = back.before.before.before in
-    aligned-returned enum-told2.given.1 (take start.args.end start.args.work.now)
+    aligned_returned enum-told2.given.1 (take start.args.end start.args.work.now)
     start.args.chosen.now c.before.align.ensures
 
 pub arrange-spec : {M : Type 1} → statement M

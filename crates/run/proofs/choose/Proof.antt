@@ -1,6 +1,6 @@
 use mathlib.Core.Path.{sym}
 use lib.Seq.{length-take-le}
-use Rattle.run.proofs.Choosing.{store-proper, choices-collected, chosen-arranged}
+use Rattle.run.proofs.Choosing.{store_proper, choices_collected, chosen_arranged}
 use borrow.Author.Rules.{rules}
 use Rattle.run.proofs.choose.Statement.{statement}
 use Rattle.run.proofs.choose.Tie as tie
@@ -20,8 +20,8 @@ arrange-requires : tie.Need-arrange-requires
 arrange-requires c κs =
     let start = c.before.before.before.before.before in (
       start.requires.1,
-      store-proper start.requires.0,
-      choices-collected start.requires.0 c.before.before.collect.ensures,
+      store_proper start.requires.0,
+      choices_collected start.requires.0 c.before.before.collect.ensures,
     )
 
 same_length : tie.Need-same-length
@@ -31,7 +31,7 @@ returns : tie.Need-returns
 returns c =
     let back = c.before.before.before.before in let collect = back.collect in
     let start = back.before.before.before in
-    chosen-arranged start.requires.0 collect.ensures c.before.arrange.ensures
+    chosen_arranged start.requires.0 collect.ensures c.before.arrange.ensures
 
 pub choose_spec : {M : Type 1} → statement M
 choose_spec =

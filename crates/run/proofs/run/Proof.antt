@@ -1,9 +1,9 @@
 use Prim.Native.Nat.{ℕ}
 use native.Mathlib.Omega.{arith}
 use lib.ListN.{length-replicate}
-use Rattle.tables.specs.Sizes.{log-size}
-use Rattle.theory_base.proofs.Slices.{getD-zeros}
-use Rattle.run.proofs.Phases.{enter-room, same-ready, ran-same}
+use Rattle.tables.specs.Sizes.{log_size}
+use Rattle.theory_base.proofs.Slices.{getD_zeros}
+use Rattle.run.proofs.Phases.{enter_room, same_ready, ran_same}
 use borrow.Author.Rules.{rules}
 use Rattle.run.proofs.run.Statement.{statement}
 use Rattle.run.proofs.run.Tie as tie
@@ -14,8 +14,8 @@ slice-aggregate-enter-all c = search rules
 enter-all-requires : tie.Need-enter-all-requires
 enter-all-requires c κs =
     let start = c.before.before.before.before in (
-      (start.requires.formed, enter-room start.requires, start.requires.small),
-      (λ i. omega (arith, getD-zeros log-size i), length-replicate {A = ℕ} log-size 0),
+      (start.requires.formed, enter_room start.requires, start.requires.small),
+      (λ i. omega (arith, getD_zeros log_size i), length-replicate {A = ℕ} log_size 0),
     )
 
 slice-aggregate-run-indexed : tie.Need-slice-aggregate-run-indexed
@@ -25,7 +25,7 @@ run-indexed-requires : tie.Need-run-indexed-requires
 run-indexed-requires c κs =
     let back = c.before.before.before.before.before.before in let enter-all = back.enter-all in
     let start = back.before.before.before.before.before in
-    (same-ready start.requires _ enter-all.auto.0 enter-all.ensures.1, enter-all.ensures.0)
+    (same_ready start.requires _ enter-all.auto.0 enter-all.ensures.1, enter-all.ensures.0)
 
 same_length : tie.Need-same-length
 same_length c = search rules
@@ -41,7 +41,7 @@ returns c =
     let back = c.before.before.before.before.before.before in let run-indexed = back.run-indexed in
     let back = back.before.before.before.before.before.before.before in let enter-all = back.enter-all in
     let start = back.before.before.before.before.before in
-    ran-same start.requires _ enter-all.auto.0 enter-all.ensures.1 run-indexed.ensures
+    ran_same start.requires _ enter-all.auto.0 enter-all.ensures.1 run-indexed.ensures
 
 pub run_spec : {M : Type 1} → statement M
 run_spec =

@@ -1,8 +1,8 @@
 use native.Mathlib.Omega.{arith}
 use mathlib.Core.Path.{refl, sym}
 use lib.Seq.{length-take-le}
-use Rattle.run.specs.Settings.{settings-of}
-use Rattle.run.proofs.Phases.{step_is, clear-ready, choosable, take-ready, ran-all}
+use Rattle.run.specs.Settings.{settings_of}
+use Rattle.run.proofs.Phases.{step_is, clear_ready, choosable, take_ready, ran_all}
 use borrow.Author.Rules.{rules}
 use Rattle.run.proofs.run_indexed.Statement.{statement}
 use Rattle.run.proofs.run_indexed.Tie as tie
@@ -20,7 +20,7 @@ clear-requires : tie.Need-clear-requires
 clear-requires c κs =
     let back = c.before.before.before.before.before in let step_of = back.step_of in
     let start = back.before.before.before.before.before in (
-      clear-ready (settings-of start.args.settings) start.requires.0
+      clear_ready (settings_of start.args.settings) start.requires.0
           (step_is start.requires.0 start.requires.1 step_of.ensures),
       start.requires.1,
       refl,
@@ -34,7 +34,7 @@ choose-requires : tie.Need-choose-requires
 choose-requires c κs =
     let back = c.before.before.before.before.before.before.before.before.before.before in let clear = back.clear in
     let start = back.before.before.before.before.before.before.before.before.before.before.before in
-    (choosable (settings-of start.args.settings) start.requires.0 clear.ensures.0 _ refl, clear.ensures.1.0)
+    (choosable (settings_of start.args.settings) start.requires.0 clear.ensures.0 _ refl, clear.ensures.1.0)
 
 slice-aggregate-take-all : tie.Need-slice-aggregate-take-all
 slice-aggregate-take-all c = search rules
@@ -58,7 +58,7 @@ take-all-requires c κs =
     let back = back.before.before.before.before.before.before.before.before.before.before.before in let clear = back.clear in
     let back = back.before.before.before.before.before.before in let step_of = back.step_of in
     let start = back.before.before.before.before.before in (
-      take-ready (settings-of start.args.settings) start.requires.0 clear.ensures.0 choose.ensures refl
+      take_ready (settings_of start.args.settings) start.requires.0 clear.ensures.0 choose.ensures refl
           clear.ensures.1.1.1 (step_is start.requires.0 start.requires.1 step_of.ensures),
       clear.ensures.1.0,
       clear.ensures.1.1.0,
@@ -82,7 +82,7 @@ returns c =
     let back = back.before.before.before.before.before.before.before.before.before in let choose = back.choose in
     let back = back.before.before.before.before.before.before.before.before.before.before.before in let clear = back.clear in
     let start = back.before.before.before.before.before.before.before.before.before.before.before in
-    ran-all (settings-of start.args.settings) start.requires.0 clear.ensures.0 choose.ensures refl
+    ran_all (settings_of start.args.settings) start.requires.0 clear.ensures.0 choose.ensures refl
     clear.ensures.1.1.1 take_all.ensures
 
 pub run-indexed-spec : {M : Type 1} → statement M

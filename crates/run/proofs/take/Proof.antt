@@ -9,16 +9,16 @@ use lib.ListN.{length}
 use borrow.Author.Rules.{rules}
 use Rattle.store.specs.Store.{stored}
 use Rattle.index.specs.Index.{Indexed}
-use Rattle.progress.proofs.Laws.{written-length, runs-written}
-use Rattle.run.specs.Settings.{named-form}
+use Rattle.progress.proofs.Laws.{written_length, runs_written}
+use Rattle.run.specs.Settings.{named_form}
 use Rattle.run.specs.Choices.{Lent}
-use Rattle.run.proofs.Turns.{Turns, turns-start, at_ready, turns_next, turns-end}
+use Rattle.run.proofs.Turns.{Turns, turns_start, at_ready, turns_next, turns_end}
 use Rattle.run.proofs.take.Statement.{statement}
 use Rattle.run.proofs.take.Tie as tie
 
 abbrev invariant-loop : tie.invariant-loop
 invariant-loop work₀ newest₀ places₀ log₀ form g chosen highest step counts₀ list₀ r₀ at₀ work newest places log counts list r at =
-    Turns (named-form form) g step work₀ log₀ r₀.progress highest (stored chosen) work log r chosen at × Indexed work r.progress.end newest × Lent places counts list
+    Turns (named_form form) g step work₀ log₀ r₀.progress highest (stored chosen) work log r chosen at × Indexed work r.progress.end newest × Lent places counts list
 
 abbrev decreases-loop : tie.decreases-loop
 decreases-loop work₀ newest₀ places₀ log₀ form g chosen highest step counts₀ list₀ r₀ at₀ work newest places log counts list r at = length chosen - at
@@ -26,9 +26,9 @@ decreases-loop work₀ newest₀ places₀ log₀ form g chosen highest step cou
 loop-holds : tie.Need-loop-init invariant-loop decreases-loop
 loop-holds c =
     let start = c.before.before.before in (
-      turns-start start.args.log.now start.requires.0,
+      turns_start start.args.log.now start.requires.0,
       start.requires.1,
-      record { places-zero = start.requires.2; counts_zero = refl; long = refl },
+      record { places_zero = start.requires.2; counts_zero = refl; long = refl },
     )
 
 slice-aggregate-take-at : tie.Need-slice-aggregate-take-at invariant-loop decreases-loop
@@ -76,13 +76,13 @@ same-length-2 c =
 same-length-3 : tie.Need-same-length-3 invariant-loop decreases-loop
 same-length-3 c =
     let start = c.before.before.before.before.before in
-    ap length (c.before.loop.invariant.2.places-zero ∙ sym start.requires.2)
+    ap length (c.before.loop.invariant.2.places_zero ∙ sym start.requires.2)
 
 same-length-4 : tie.Need-same-length-4 invariant-loop decreases-loop
-same-length-4 c = written-length (runs-written c.before.loop.invariant.0.runs)
+same-length-4 c = written_length (runs_written c.before.loop.invariant.0.runs)
 
 returns : tie.Need-returns invariant-loop decreases-loop
-returns c = turns-end c.before.loop.invariant.0 c.loop-test.false
+returns c = turns_end c.before.loop.invariant.0 c.loop-test.false
 
 pub take_spec : {M : Type 1} → statement M
 take_spec =

@@ -1,4 +1,4 @@
-use Rattle.run.proofs.Numbered.{took-high, take-all-ready, took}
+use Rattle.run.proofs.Numbered.{took_high, take_all_ready, took}
 use borrow.Author.Rules.{rules}
 use Rattle.run.proofs.take_all.Statement.{statement}
 use Rattle.run.proofs.take_all.Tie as tie
@@ -6,7 +6,7 @@ use Rattle.run.proofs.take_all.Tie as tie
 number-requires : tie.Need-number-requires
 number-requires c κs =
     let start = c.before.before.before.before.before.before in
-    start.requires.0.number-ready
+    start.requires.0.number_ready
 
 same_length : tie.Need-same-length
 same_length c = search rules
@@ -14,14 +14,14 @@ same_length c = search rules
 returns : tie.Need-returns
 returns c =
     let number = c.before.before.before.before.number in
-    took-high number.ensures c.if1.true
+    took_high number.ensures c.if1.true
 
 take-requires : tie.Need-take-requires
 take-requires c κs =
     let back = c.before.before.before.before in let if1 = back.if1 in
     let back = back.before.before.before.before in let number = back.number in
     let start = back.before.before.before.before.before.before.before in
-    (take-all-ready start.requires.0 number.ensures if1.false, start.requires.1, start.requires.2)
+    (take_all_ready start.requires.0 number.ensures if1.false, start.requires.1, start.requires.2)
 
 same-length-2 : tie.Need-same-length-2
 same-length-2 c = search rules

@@ -4,8 +4,8 @@ use borrow.Author.Rules.{sfits_of}
 use Rattle.literals.specs.Literal.{negative}
 use Rattle.literals.proofs.Laws.{answered}
 use Rattle.store.specs.Store.{header_at}
-use Rattle.store.proofs.Laws.{formed-next}
-use Rattle.run.proofs.Turns.{none-taken, one-takeable, one-small, one-taken}
+use Rattle.store.proofs.Laws.{formed_next}
+use Rattle.run.proofs.Turns.{none_taken, one_takeable, one_small, one_taken}
 use borrow.Author.Rules.{rules}
 use Rattle.run.proofs.take_at.Statement.{statement}
 use Rattle.run.proofs.take_at.Tie as tie
@@ -22,7 +22,7 @@ is-negative-requires c κs = search rules
 returns : tie.Need-returns
 returns c =
     let start = c.before.before.before.before.before.before.before.before in (
-      none-taken start.requires.0 start.args.log.now
+      none_taken start.requires.0 start.args.log.now
           (answered negative (header_at start.args.chosen.now start.args.at)
           (sfits_of c.before.before.is-negative-arg.given) c.before.is_negative.ensures c.if1.true),
       (start.requires.1, start.requires.2),
@@ -31,13 +31,13 @@ returns c =
 next-at-requires : tie.Need-next-at-requires
 next-at-requires c κs = search rules
 
-add-first : tie.Need-overflow-add-first
-add-first c = search rules
+add_first : tie.Need-overflow-add-first
+add_first c = search rules
 
 next-below-requires : tie.Need-next-below-requires
 next-below-requires c κs =
     let start = c.before.before.before.before.before.before.before.before.before in
-    (start.requires.0.step-least, omega (arith, start.requires.0.low, start.requires.0.step-most))
+    (start.requires.0.step_least, omega (arith, start.requires.0.low, start.requires.0.step_most))
 
 mul-literals : tie.Need-overflow-mul-literals
 mul-literals c = search rules
@@ -54,21 +54,21 @@ part-literals-end c =
     omega (
       arith,
       c.before.before.next-at.ensures,
-      (formed-next start.args.chosen.now start.args.at start.requires.0.at-inside start.requires.0.rest).0,
+      (formed_next start.args.chosen.now start.args.at start.requires.0.at_inside start.requires.0.rest).0,
     )
 
 take-one-requires : tie.Need-take-one-requires
 take-one-requires c κs =
-    let back = c.before.before.before.before.before.before.before.before in let next-below = back.next-below in
+    let back = c.before.before.before.before.before.before.before.before in let next_below = back.next_below in
     let back = back.before in let next-at = back.next-at in
     let back = back.before in let if1 = back.if1 in
     let back = back.before in let is_negative = back.is_negative in
     let back = back.before in let is-negative-arg = back.is-negative-arg in
     let start = back.before.before.before.before.before.before in (
-      one-takeable start.requires.0 next-at.result next-below.result
+      one_takeable start.requires.0 next-at.result next_below.result
           (answered negative (header_at start.args.chosen.now start.args.at)
           (sfits_of is-negative-arg.given) is_negative.ensures if1.false) next-at.ensures
-          next-below.ensures,
+          next_below.ensures,
       start.requires.1,
       start.requires.2,
     )
@@ -90,7 +90,7 @@ sub-t38 c =
     let start = back.before.before.before.before.before.before in
     omega (
       arith,
-      (one-small start.requires.0 next-at.result
+      (one_small start.requires.0 next-at.result
           (answered negative (header_at start.args.chosen.now start.args.at)
           (sfits_of is-negative-arg.given) is_negative.ensures if1.false) next-at.ensures).0,
     )
@@ -100,16 +100,16 @@ cast-t39 c = search rules
 
 add-t40 : tie.Need-overflow-add-t40
 add-t40 c =
-    let back = c.before.before.before.before.before.before.before.before.before.before.before.before.before.before.before.before.before.before.before.before.before in let next-below = back.next-below in
+    let back = c.before.before.before.before.before.before.before.before.before.before.before.before.before.before.before.before.before.before.before.before.before in let next_below = back.next_below in
     let back = back.before in let next-at = back.next-at in
     let back = back.before in let if1 = back.if1 in
     let back = back.before in let is_negative = back.is_negative in
     let back = back.before in let is-negative-arg = back.is-negative-arg in
     let start = back.before.before.before.before.before.before in
-    let o = one-small start.requires.0 next-at.result
+    let o = one_small start.requires.0 next-at.result
     (answered negative (header_at start.args.chosen.now start.args.at) (sfits_of is-negative-arg.given)
     is_negative.ensures if1.false) next-at.ensures in
-    omega (arith, o.1, o.2, next-below.ensures)
+    omega (arith, o.1, o.2, next_below.ensures)
 
 same_length : tie.Need-same-length
 same_length c = search rules
@@ -132,16 +132,16 @@ same-length-6 c = search rules
 returns-2 : tie.Need-returns-2
 returns-2 c =
     let back = c.before.before.before.before.before.before.before.before.before.before.before.before in let take-one = back.take-one in
-    let back = back.before.before.before.before.before.before.before.before.before in let next-below = back.next-below in
+    let back = back.before.before.before.before.before.before.before.before.before in let next_below = back.next_below in
     let back = back.before in let next-at = back.next-at in
     let back = back.before in let if1 = back.if1 in
     let back = back.before in let is_negative = back.is_negative in
     let back = back.before in let is-negative-arg = back.is-negative-arg in
     let start = back.before.before.before.before.before.before in (
-      one-taken start.requires.0 next-at.result
+      one_taken start.requires.0 next-at.result
           (answered negative (header_at start.args.chosen.now start.args.at)
           (sfits_of is-negative-arg.given) is_negative.ensures if1.false) next-at.ensures
-          next-below.result _ next-below.ensures refl take-one.ensures.0,
+          next_below.result _ next_below.ensures refl take-one.ensures.0,
       (take-one.ensures.1.0, take-one.ensures.1.1),
     )
 
@@ -154,7 +154,7 @@ take-at-spec =
     is-negative-requires
     returns
     next-at-requires
-    add-first
+    add_first
     next-below-requires
     mul-literals
     sub-literals

@@ -1,5 +1,5 @@
 use mathlib.Core.Path.{◌∙◌}
-use Rattle.run.proofs.Taking.{placed-ready, moved-runs, places-set, places-reset}
+use Rattle.run.proofs.Taking.{placed_ready, moved_runs, places_set, places_reset}
 use borrow.Author.Rules.{rules}
 use Rattle.run.proofs.take_one.Statement.{statement}
 use Rattle.run.proofs.take_one.Tie as tie
@@ -15,8 +15,8 @@ take-placed-requires c κs =
     let back = c.before.before.before.before.before.before.before.before in let set-places = back.set-places in
     let back = back.before.before.before.before.before in let make-room = back.make-room in
     let start = back.before.before.before.before.before.before.before.before in (
-      placed-ready start.requires.0 make-room.ensures.0 make-room.ensures.1.0 make-room.ensures.1.1,
-      places-set start.requires.0 start.requires.2.places-zero set-places.ensures,
+      placed_ready start.requires.0 make-room.ensures.0 make-room.ensures.1.0 make-room.ensures.1.1,
+      places_set start.requires.0 start.requires.2.places_zero set-places.ensures,
       start.requires.2.counts_zero,
       start.requires.2.long,
     )
@@ -48,11 +48,11 @@ returns c =
     let back = back.before.before.before.before.before.before.before.before.before in let set-places = back.set-places in
     let back = back.before.before.before.before.before in let make-room = back.make-room in
     let start = back.before.before.before.before.before.before.before.before in (
-      moved-runs start.requires.0 make-room.ensures.0 take-placed.ensures.0,
+      moved_runs start.requires.0 make-room.ensures.0 take-placed.ensures.0,
       (
         take-placed.ensures.1.0,
         record {
-          places-zero = places-reset _ start.requires.2.places-zero set-places.ensures
+          places_zero = places_reset _ start.requires.2.places_zero set-places.ensures
               c.before.before.set-entries.ensures;
           counts_zero = take-placed.ensures.1.1;
           long = take-placed.auto.1.1.1.1.0 ∙ start.requires.2.long;

@@ -7,7 +7,7 @@ use lib.IntN.{ℤ, pos}
 use Rattle.literals.proofs.Laws.{answered}
 use Rattle.definition.specs.Lists.{all}
 use Rattle.definition.specs.Literals.{holds}
-use Rattle.theory_base.proofs.Slices.{all_more, all-miss, all_end}
+use Rattle.theory_base.proofs.Slices.{all_more, all_miss, all_end}
 use Rattle.store.proofs.all_in.Statement.{statement}
 use Rattle.store.proofs.all_in.Tie as tie
 
@@ -55,7 +55,7 @@ returns c =
     let p : ℤ → Bool = λ z. holds z a.b.now in
     let e = answered p (get_or a.a.now i (pos 0)) (sfits_of c.before.before.holds-arg.given)
     c.before.holds.ensures c.if1.false in
-    all-miss p a.a.now i (pos 0) (search rules) e ∙ loop.invariant.1
+    all_miss p a.a.now i (pos 0) (search rules) e ∙ loop.invariant.1
 
 returns-2 : tie.Need-returns-2 invariant-loop decreases-loop
 returns-2 c =

@@ -6,9 +6,9 @@ use lib.ListN.{take, drop}
 use Rattle.definition.specs.Literals.{same_set}
 use Rattle.literals.specs.Literal.{negative}
 use Rattle.literals.proofs.Laws.{answered}
-use Rattle.store.specs.Store.{header_at, size-at}
-use Rattle.store.proofs.Laws.{formed-next}
-use Rattle.store.proofs.Finding.{better-deleted, better-here, better-not}
+use Rattle.store.specs.Store.{header_at, size_at}
+use Rattle.store.proofs.Laws.{formed_next}
+use Rattle.store.proofs.Finding.{better_deleted, better_here, better_not}
 use Rattle.store.proofs.better.Statement.{statement}
 use Rattle.store.proofs.better.Tie as tie
 
@@ -26,15 +26,15 @@ returns c =
     let start = c.before.before.before in
     let s = start.args.store.now in
     let at = start.args.at in
-    better-deleted start.args.clause.now s at start.requires.0 start.args.best
+    better_deleted start.args.clause.now s at start.requires.0 start.args.best
     (answered negative (header_at s at) (sfits_of c.before.before.is-negative-arg.given)
     c.before.is_negative.ensures c.if1.true)
 
 next-at-requires : tie.Need-next-at-requires
 next-at-requires c κs = search rules
 
-add-first : tie.Need-overflow-add-first
-add-first c = search rules
+add_first : tie.Need-overflow-add-first
+add_first c = search rules
 
 mul-same-set : tie.Need-overflow-mul-same-set
 mul-same-set c = search rules
@@ -51,7 +51,7 @@ part-same-set-end c =
     omega (
       arith,
       c.next-at.ensures,
-      (formed-next start.args.store.now start.args.at start.requires.0 start.requires.1).0,
+      (formed_next start.args.store.now start.args.at start.requires.0 start.requires.1).0,
     )
 
 same-set-requires : tie.Need-same-set-requires
@@ -67,8 +67,8 @@ returns-2 c =
     let start = back.before in
     let s = start.args.store.now in
     let at = start.args.at in
-    let e : next-at.result - (at + 1) ≡ size-at s at = omega (arith, next-at.ensures) in
-    better-here start.args.clause.now s at start.requires.0 start.args.best
+    let e : next-at.result - (at + 1) ≡ size_at s at = omega (arith, next-at.ensures) in
+    better_here start.args.clause.now s at start.requires.0 start.args.best
     (answered negative (header_at s at) (sfits_of is-negative-arg.given) is_negative.ensures if1.false)
     the-same-set.result
     (the-same-set.ensures ∙ ap (λ (k : ℕ). same_set start.args.clause.now (take k (drop (at + 1) s))) e)
@@ -84,8 +84,8 @@ returns-3 c =
     let start = back.before in
     let s = start.args.store.now in
     let at = start.args.at in
-    let e : next-at.result - (at + 1) ≡ size-at s at = omega (arith, next-at.ensures) in
-    better-not start.args.clause.now s at start.requires.0 start.args.best
+    let e : next-at.result - (at + 1) ≡ size_at s at = omega (arith, next-at.ensures) in
+    better_not start.args.clause.now s at start.requires.0 start.args.best
     (answered negative (header_at s at) (sfits_of is-negative-arg.given) is_negative.ensures if1.false)
     the-same-set.result
     (the-same-set.ensures ∙ ap (λ (k : ℕ). same_set start.args.clause.now (take k (drop (at + 1) s))) e)
@@ -100,7 +100,7 @@ better-spec =
     is-negative-requires
     returns
     next-at-requires
-    add-first
+    add_first
     mul-same-set
     sub-same-set
     part-same-set-start

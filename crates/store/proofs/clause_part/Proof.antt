@@ -1,7 +1,7 @@
 use Prim.Native.Nat.{◌+◌, ◌≤◌}
 use native.Mathlib.Omega.{arith}
 use lib.ListN.{length}
-use Rattle.theory_base.proofs.Slices.{part-is}
+use Rattle.theory_base.proofs.Slices.{part_is}
 use borrow.Author.Rules.{rules}
 use Rattle.store.proofs.clause_part.Statement.{statement}
 use Rattle.store.proofs.clause_part.Tie as tie
@@ -60,12 +60,12 @@ part-result-end-2 c =
 returns : tie.Need-returns
 returns c =
     let start = c.before.before in
-    rw c.before.if1.true (part-is start.args.added.now start.args.at start.args.len)
+    rw c.before.if1.true (part_is start.args.added.now start.args.at start.args.len)
 
 returns-2 : tie.Need-returns-2
 returns-2 c =
     let start = c.before.before in
-    rw c.before.if1.false (part-is start.args.read.now start.args.at start.args.len)
+    rw c.before.if1.false (part_is start.args.read.now start.args.at start.args.len)
 
 pub clause-part-spec : {M : Type 1} → statement M
 clause-part-spec =

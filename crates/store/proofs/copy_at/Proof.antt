@@ -6,7 +6,7 @@ use lib.ListN.{length, get_or, drop, set}
 use lib.Seq.{sets}
 use lib.IntN.{ℤ, pos}
 use Rattle.literals.proofs.Laws.{at_arg}
-use Rattle.theory_base.proofs.Slices.{sets-step, drop-end}
+use Rattle.theory_base.proofs.Slices.{sets_step, drop_end}
 use native.Mathlib.Nat.{add-zero}
 use Rattle.store.proofs.copy_at.Statement.{statement}
 use Rattle.store.proofs.copy_at.Tie as tie
@@ -53,7 +53,7 @@ loop-again c =
       ap (λ (s : List ℤ). sets s (a.at + (i + 1)) (drop (i + 1) a.elements.now)) put.ensures
           ∙ at_arg (λ (z : ℤ). sets (set loop.store (a.at + i) z) (a.at + (i + 1)) (drop (i + 1) a.elements.now)) x
           (sfits_of put-arg2.given)
-          ∙ sets-step loop.store a.elements.now a.at i (pos 0) loop-test.true
+          ∙ sets_step loop.store a.elements.now a.at i (pos 0) loop-test.true
           ∙ loop.invariant.2,
     )
 
@@ -65,7 +65,7 @@ returns c =
     let back = c.before in let loop = back.loop in
     let start = back.before in
     ap (λ (r : List ℤ). sets loop.store (start.args.at + loop.i) r)
-    (sym (drop-end start.args.elements.now loop.i c.loop-test.false))
+    (sym (drop_end start.args.elements.now loop.i c.loop-test.false))
     ∙ loop.invariant.2
 
 pub copy-at-spec : {M : Type 1} → statement M

@@ -5,14 +5,14 @@ use Prim.Native.Nat.{ℕ, ◌-◌, ◌≤◌}
 use native.Mathlib.Omega.{arith}
 use lib.ListN.{length, drop}
 use Rattle.store.specs.Store.{Formed, stored, past}
-use Rattle.tables.specs.Entries.{tallied-all}
-use Rattle.store.proofs.Laws.{formed-next}
-use Rattle.store.proofs.Counting.{all-step, all_end}
+use Rattle.tables.specs.Entries.{tallied_all}
+use Rattle.store.proofs.Laws.{formed_next}
+use Rattle.store.proofs.Counting.{all_step, all_end}
 use Rattle.store.proofs.count_all.Statement.{statement}
 use Rattle.store.proofs.count_all.Tie as tie
 
 abbrev invariant-loop : tie.invariant-loop
-invariant-loop table₀ store at₀ table at = (at ≤ length store) × (length table ≡ length table₀) × Formed (drop at store) × (tallied-all table (stored (drop at store)) ≡ tallied-all table₀ (stored store))
+invariant-loop table₀ store at₀ table at = (at ≤ length store) × (length table ≡ length table₀) × Formed (drop at store) × (tallied_all table (stored (drop at store)) ≡ tallied_all table₀ (stored store))
 
 abbrev decreases-loop : tie.decreases-loop
 decreases-loop table₀ store at₀ table at = length store - at
@@ -39,13 +39,13 @@ loop-again c =
     let start = back.before.before in
     let s = start.args.store.now in
     let at = loop.at in
-    let f = formed-next s at loop-test.true loop.invariant.2 in
+    let f = formed_next s at loop-test.true loop.invariant.2 in
     rw c.next-at.ensures (
       f.0,
       count-entry.auto.0 ∙ loop.invariant.1,
       f.1,
-      ap (λ (t : List ℕ). tallied-all t (stored (drop (past s at) s))) count-entry.ensures
-          ∙ all-step loop.table s at loop-test.true
+      ap (λ (t : List ℕ). tallied_all t (stored (drop (past s at) s))) count-entry.ensures
+          ∙ all_step loop.table s at loop-test.true
           ∙ loop.invariant.3,
     )
 

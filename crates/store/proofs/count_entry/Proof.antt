@@ -5,9 +5,9 @@ use native.Mathlib.Omega.{arith}
 use lib.ListN.{take, drop}
 use Rattle.literals.specs.Literal.{negative}
 use Rattle.literals.proofs.Laws.{answered}
-use Rattle.store.specs.Store.{header_at, size-at}
+use Rattle.store.specs.Store.{header_at, size_at}
 use Rattle.tables.specs.Entries.{tallied}
-use Rattle.store.proofs.Laws.{formed-next}
+use Rattle.store.proofs.Laws.{formed_next}
 use Rattle.store.proofs.count_entry.Statement.{statement}
 use Rattle.store.proofs.count_entry.Tie as tie
 
@@ -30,8 +30,8 @@ returns c =
 next-at-requires : tie.Need-next-at-requires
 next-at-requires c κs = search rules
 
-add-first : tie.Need-overflow-add-first
-add-first c = search rules
+add_first : tie.Need-overflow-add-first
+add_first c = search rules
 
 mul-count-clause : tie.Need-overflow-mul-count-clause
 mul-count-clause c = search rules
@@ -48,7 +48,7 @@ part-count-clause-end c =
     omega (
       arith,
       c.before.next-at.ensures,
-      (formed-next start.args.store.now start.args.at start.requires.0 start.requires.1).0,
+      (formed_next start.args.store.now start.args.at start.requires.0 start.requires.1).0,
     )
 
 count-clause-requires : tie.Need-count-clause-requires
@@ -66,7 +66,7 @@ returns-2 c =
     let start = back.before.before in
     let s = start.args.store.now in
     let at = start.args.at in
-    let n : next-at.result - (at + 1) ≡ size-at s at = omega (arith, next-at.ensures) in
+    let n : next-at.result - (at + 1) ≡ size_at s at = omega (arith, next-at.ensures) in
     rw (answered negative (header_at s at) (sfits_of is-negative-arg.given) is_negative.ensures if1.false)
     (c.before.before.count-clause.ensures
     ∙ ap (λ (k : ℕ). tallied start.args.table.now (take k (drop (at + 1) s))) n)
@@ -80,7 +80,7 @@ count-entry-spec =
     is-negative-requires
     returns
     next-at-requires
-    add-first
+    add_first
     mul-count-clause
     sub-count-clause
     part-count-clause-start

@@ -3,14 +3,14 @@ use mathlib.Core.Path.{◌≡◌, refl, sym, ◌∙◌}
 use Prim.Native.Nat.{◌-◌, ◌≤◌}
 use native.Mathlib.Omega.{arith}
 use lib.ListN.{length, drop}
-use Rattle.store.specs.Store.{Formed, place-from, place_of}
-use Rattle.store.proofs.Laws.{formed-next}
-use Rattle.store.proofs.Finding.{place-hit, place-miss, place-nowhere}
+use Rattle.store.specs.Store.{Formed, place_from, place_of}
+use Rattle.store.proofs.Laws.{formed_next}
+use Rattle.store.proofs.Finding.{place_hit, place_miss, place_nowhere}
 use Rattle.store.proofs.find_same_set.Statement.{statement}
 use Rattle.store.proofs.find_same_set.Tie as tie
 
 abbrev invariant-loop : tie.invariant-loop
-invariant-loop store clause at₀ at = (at ≤ length store) × Formed (drop at store) × (place-from clause 0 at (drop at store) ≡ place_of clause store)
+invariant-loop store clause at₀ at = (at ≤ length store) × Formed (drop at store) × (place_from clause 0 at (drop at store) ≡ place_of clause store)
 
 abbrev decreases-loop : tie.decreases-loop
 decreases-loop store clause at₀ at = length store - at
@@ -25,7 +25,7 @@ returns : tie.Need-returns invariant-loop decreases-loop
 returns c =
     let back = c.before.before.before in let loop = back.loop in
     let start = back.before in
-    place-hit start.args.store.now loop.at c.before.before.loop-test.true start.args.clause.now
+    place_hit start.args.store.now loop.at c.before.before.loop-test.true start.args.clause.now
     (sym c.before.matches.ensures ∙ c.if1.true)
     ∙ loop.invariant.2
 
@@ -38,18 +38,18 @@ loop-less c =
     let back = back.before in let loop = back.loop in
     let start = back.before in
     omega
-    (arith, c.next-at.ensures, (formed-next start.args.store.now loop.at loop-test.true loop.invariant.1).0)
+    (arith, c.next-at.ensures, (formed_next start.args.store.now loop.at loop-test.true loop.invariant.1).0)
 
 loop-again : tie.Need-loop-preserved invariant-loop decreases-loop
 loop-again c =
     let back = c.before.before.before in let loop-test = back.loop-test in
     let back = back.before in let loop = back.loop in
     let start = back.before in
-    let f = formed-next start.args.store.now loop.at loop-test.true loop.invariant.1 in
+    let f = formed_next start.args.store.now loop.at loop-test.true loop.invariant.1 in
     rw c.next-at.ensures (
       f.0,
       f.1,
-      place-miss start.args.store.now loop.at loop-test.true start.args.clause.now
+      place_miss start.args.store.now loop.at loop-test.true start.args.clause.now
           (sym c.before.before.matches.ensures ∙ c.before.if1.false)
           ∙ loop.invariant.2,
     )
@@ -58,7 +58,7 @@ returns-2 : tie.Need-returns-2 invariant-loop decreases-loop
 returns-2 c =
     let back = c.before in let loop = back.loop in
     let start = back.before in
-    place-nowhere start.args.clause.now start.args.store.now loop.at c.loop-test.false ∙ loop.invariant.2
+    place_nowhere start.args.clause.now start.args.store.now loop.at c.loop-test.false ∙ loop.invariant.2
 
 pub find-same-set-spec : {M : Type 1} → statement M
 find-same-set-spec =

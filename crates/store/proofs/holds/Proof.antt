@@ -5,7 +5,7 @@ use lib.ListN.{length, get_or, drop}
 use lib.IntN.{ℤ, pos}
 use Rattle.definition.specs.Literals.{same, holds}
 use Rattle.literals.proofs.Laws.{at_arg, answered}
-use Rattle.theory_base.proofs.Slices.{any-hit, any-miss, any-end}
+use Rattle.theory_base.proofs.Slices.{any_hit, any_miss, any_end}
 use mir.Syntax.{w32}
 use mir.Val.{to_z, of_z}
 use Rattle.store.proofs.holds.Statement.{statement}
@@ -39,7 +39,7 @@ returns c =
     let i = loop.i in
     let e = answered (same l) (get_or a.clause.now i (pos 0)) (sfits_of c.before.before.same-arg.given)
     c.before.same.ensures c.if1.true in
-    any-hit (same l) a.clause.now i (pos 0) (search rules) e
+    any_hit (same l) a.clause.now i (pos 0) (search rules) e
     ∙ loop.invariant.1
     ∙ at_arg (λ (z : ℤ). holds z a.clause.now) a.l start.ranges.l
 
@@ -59,14 +59,14 @@ loop-again c =
     let i = loop.i in
     let e = answered (same l) (get_or a.clause.now i (pos 0)) (sfits_of c.before.before.same-arg.given)
     c.before.same.ensures c.if1.false in
-    (search rules, any-miss (same l) a.clause.now i (pos 0) (search rules) e ∙ loop.invariant.1)
+    (search rules, any_miss (same l) a.clause.now i (pos 0) (search rules) e ∙ loop.invariant.1)
 
 returns-2 : tie.Need-returns-2 invariant-loop decreases-loop
 unfolding holds
 returns-2 c =
     let back = c.before in let loop = back.loop in
     let start = back.before in
-    any-end (same (to_z w32 (of_z w32 start.args.l))) start.args.clause.now loop.i (search rules)
+    any_end (same (to_z w32 (of_z w32 start.args.l))) start.args.clause.now loop.i (search rules)
     ∙ loop.invariant.1
     ∙ at_arg (λ (z : ℤ). holds z start.args.clause.now) start.args.l start.ranges.l
 

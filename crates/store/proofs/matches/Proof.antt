@@ -6,9 +6,9 @@ use lib.ListN.{take, drop}
 use Rattle.definition.specs.Literals.{same_set}
 use Rattle.literals.specs.Literal.{negative}
 use Rattle.literals.proofs.Laws.{answered}
-use Rattle.store.specs.Store.{header_at, size-at}
-use Rattle.store.proofs.Laws.{formed-next}
-use Rattle.store.proofs.Finding.{same-set-swap, matches-deleted, matches-stands}
+use Rattle.store.specs.Store.{header_at, size_at}
+use Rattle.store.proofs.Laws.{formed_next}
+use Rattle.store.proofs.Finding.{same_set_swap, matches_deleted, matches_stands}
 use Rattle.store.proofs.matches.Statement.{statement}
 use Rattle.store.proofs.matches.Tie as tie
 
@@ -24,15 +24,15 @@ is-negative-requires c κs = search rules
 returns : tie.Need-returns
 returns c =
     let start = c.before.before.before in
-    matches-deleted start.args.store.now start.args.at start.requires.0 start.args.clause.now
+    matches_deleted start.args.store.now start.args.at start.requires.0 start.args.clause.now
     (answered negative (header_at start.args.store.now start.args.at)
     (sfits_of c.before.before.is-negative-arg.given) c.before.is_negative.ensures c.if1.true)
 
 next-at-requires : tie.Need-next-at-requires
 next-at-requires c κs = search rules
 
-add-first : tie.Need-overflow-add-first
-add-first c = search rules
+add_first : tie.Need-overflow-add-first
+add_first c = search rules
 
 mul-same-set : tie.Need-overflow-mul-same-set
 mul-same-set c = search rules
@@ -49,7 +49,7 @@ part-same-set-end c =
     omega (
       arith,
       c.next-at.ensures,
-      (formed-next start.args.store.now start.args.at start.requires.0 start.requires.1).0,
+      (formed_next start.args.store.now start.args.at start.requires.0 start.requires.1).0,
     )
 
 same-set-requires : tie.Need-same-set-requires
@@ -64,11 +64,11 @@ returns-2 c =
     let start = back.before in
     let s = start.args.store.now in
     let at = start.args.at in
-    let e : next-at.result - (at + 1) ≡ size-at s at = omega (arith, next-at.ensures) in
+    let e : next-at.result - (at + 1) ≡ size_at s at = omega (arith, next-at.ensures) in
     c.same_set.ensures
-    ∙ same-set-swap (take (next-at.result - (at + 1)) (drop (at + 1) s)) start.args.clause.now
+    ∙ same_set_swap (take (next-at.result - (at + 1)) (drop (at + 1) s)) start.args.clause.now
     ∙ ap (λ (k : ℕ). same_set start.args.clause.now (take k (drop (at + 1) s))) e
-    ∙ matches-stands s at start.requires.0 start.args.clause.now
+    ∙ matches_stands s at start.requires.0 start.args.clause.now
     (answered negative (header_at s at) (sfits_of is-negative-arg.given) is_negative.ensures if1.false)
 
 pub matches-spec : {M : Type 1} → statement M
@@ -80,7 +80,7 @@ matches-spec =
     is-negative-requires
     returns
     next-at-requires
-    add-first
+    add_first
     mul-same-set
     sub-same-set
     part-same-set-start

@@ -2,8 +2,8 @@ use mathlib.Core.Path.{ap}
 use Prim.Native.Nat.{ℕ, ◌+◌}
 use native.Mathlib.Omega.{arith}
 use borrow.Author.Rules.{rules, sfits_of}
-use Rattle.literals.specs.Literal.{header-literals}
-use Rattle.literals.proofs.Laws.{answer, literals-within}
+use Rattle.literals.specs.Literal.{header_literals}
+use Rattle.literals.proofs.Laws.{answer, literals_within}
 use Rattle.store.specs.Store.{header_at}
 use Rattle.store.proofs.next_at.Statement.{statement}
 use Rattle.store.proofs.next_at.Tie as tie
@@ -24,8 +24,8 @@ add-result c =
     let h = header_at start.args.store.now start.args.at in
     omega (
       arith,
-      answer header-literals h (sfits_of header-length-arg.given) c.header-length.ensures,
-      literals-within h (sfits_of header-length-arg.given),
+      answer header_literals h (sfits_of header-length-arg.given) c.header-length.ensures,
+      literals_within h (sfits_of header-length-arg.given),
     )
 
 add-result-2 : tie.Need-overflow-add-result-2
@@ -35,14 +35,14 @@ add-result-2 c =
     let h = header_at start.args.store.now start.args.at in
     omega (
       arith,
-      answer header-literals h (sfits_of header-length-arg.given) c.header-length.ensures,
-      literals-within h (sfits_of header-length-arg.given),
+      answer header_literals h (sfits_of header-length-arg.given) c.header-length.ensures,
+      literals_within h (sfits_of header-length-arg.given),
     )
 
 returns : tie.Need-returns
 returns c =
     let a = c.before.before.args in
-    ap (λ (k : ℕ). a.at + (1 + k)) (answer header-literals (header_at a.store.now a.at) (sfits_of c.before.header-length-arg.given) c.header-length.ensures)
+    ap (λ (k : ℕ). a.at + (1 + k)) (answer header_literals (header_at a.store.now a.at) (sfits_of c.before.header-length-arg.given) c.header-length.ensures)
 
 pub next-at-spec : {M : Type 1} → statement M
 next-at-spec =

@@ -6,8 +6,8 @@ use lib.ListN.{take, drop}
 use lib.Seq.{sets}
 use Rattle.literals.specs.Literal.{negative}
 use Rattle.literals.proofs.Laws.{answered}
-use Rattle.store.specs.Store.{header_at, size-at}
-use Rattle.store.proofs.Laws.{formed-next}
+use Rattle.store.specs.Store.{header_at, size_at}
+use Rattle.store.proofs.Laws.{formed_next}
 use Rattle.store.proofs.slide.Statement.{statement}
 use Rattle.store.proofs.slide.Tie as tie
 
@@ -39,7 +39,7 @@ move-down-requires c κs =
     omega (
       arith,
       c.before.next-at.ensures,
-      (formed-next start.args.store.now start.args.from start.requires.1 start.requires.2).0,
+      (formed_next start.args.store.now start.args.from start.requires.1 start.requires.2).0,
     )
 
 add-result : tie.Need-overflow-add-result
@@ -59,7 +59,7 @@ returns-2 c =
     let s = a.store.now in
     let e = answered negative (header_at s a.from) (sfits_of is-negative-arg.given) is_negative.ensures
     if1.false in
-    let n : next-at.result - a.from ≡ 1 + size-at s a.from = omega (arith, next-at.ensures) in (
+    let n : next-at.result - a.from ≡ 1 + size_at s a.from = omega (arith, next-at.ensures) in (
       rw e (ap (λ (k : ℕ). a.to + k) n),
       rw e (c.before.move_down.ensures ∙ ap (λ (k : ℕ). sets s a.to (take k (drop a.from s))) n),
     )

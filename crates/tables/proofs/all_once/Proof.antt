@@ -5,13 +5,13 @@ use lib.ListN.{length, get_or, drop}
 use lib.IntN.{pos}
 use Rattle.literals.proofs.Laws.{answered}
 use Rattle.definition.specs.Lists.{all}
-use Rattle.theory_base.proofs.Slices.{all_more, all-miss, all_end}
-use Rattle.tables.specs.Counts.{once-in}
+use Rattle.theory_base.proofs.Slices.{all_more, all_miss, all_end}
+use Rattle.tables.specs.Counts.{once_in}
 use Rattle.tables.proofs.all_once.Statement.{statement}
 use Rattle.tables.proofs.all_once.Tie as tie
 
 abbrev invariant-loop : tie.invariant-loop
-invariant-loop counts clause i₀ i = (i ≤ length clause) × (all (once-in counts) (drop i clause) ≡ all (once-in counts) clause)
+invariant-loop counts clause i₀ i = (i ≤ length clause) × (all (once_in counts) (drop i clause) ≡ all (once_in counts) clause)
 
 abbrev decreases-loop : tie.decreases-loop
 decreases-loop counts clause i₀ i = length clause - i
@@ -40,9 +40,9 @@ loop-again c =
     let start = back.before.before in
     let s = start.args.clause.now in
     let t = start.args.counts.now in
-    let e = answered (once-in t) (get_or s loop.i (pos 0)) (sfits_of c.before.before.is-once-arg.given)
+    let e = answered (once_in t) (get_or s loop.i (pos 0)) (sfits_of c.before.before.is-once-arg.given)
     c.before.is-once.ensures c.if1.true in
-    (search rules, all_more (once-in t) s loop.i (pos 0) (search rules) e ∙ loop.invariant.1)
+    (search rules, all_more (once_in t) s loop.i (pos 0) (search rules) e ∙ loop.invariant.1)
 
 returns : tie.Need-returns invariant-loop decreases-loop
 returns c =
@@ -50,15 +50,15 @@ returns c =
     let start = back.before.before in
     let s = start.args.clause.now in
     let t = start.args.counts.now in
-    let e = answered (once-in t) (get_or s loop.i (pos 0)) (sfits_of c.before.before.is-once-arg.given)
+    let e = answered (once_in t) (get_or s loop.i (pos 0)) (sfits_of c.before.before.is-once-arg.given)
     c.before.is-once.ensures c.if1.false in
-    all-miss (once-in t) s loop.i (pos 0) (search rules) e ∙ loop.invariant.1
+    all_miss (once_in t) s loop.i (pos 0) (search rules) e ∙ loop.invariant.1
 
 returns-2 : tie.Need-returns-2 invariant-loop decreases-loop
 returns-2 c =
     let back = c.before in let loop = back.loop in
     let start = back.before.before in
-    all_end (once-in start.args.counts.now) start.args.clause.now loop.i (search rules) ∙ loop.invariant.1
+    all_end (once_in start.args.counts.now) start.args.clause.now loop.i (search rules) ∙ loop.invariant.1
 
 pub all-once-spec : {M : Type 1} → statement M
 all-once-spec =

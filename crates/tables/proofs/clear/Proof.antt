@@ -3,7 +3,7 @@ use native.Mathlib.Omega.{arith}
 use Prim.Native.Nat.{◌-◌, ◌≤◌}
 use lib.ListN.{length, length-set}
 use borrow.Author.Rules.{rules}
-use Rattle.tables.proofs.Laws.{Cleared, cleared-step, cleared-end}
+use Rattle.tables.proofs.Laws.{Cleared, cleared_step, cleared_end}
 use Rattle.tables.proofs.clear.Statement.{statement}
 use Rattle.tables.proofs.clear.Tie as tie
 
@@ -31,7 +31,7 @@ loop-less c = search rules
 loop-again : tie.Need-loop-preserved invariant-loop decreases-loop
 loop-again c =
     let loop = c.before.loop in
-    (search rules, simp length-set loop.invariant.1, cleared-step loop.seen loop.i (search rules) loop.invariant.2)
+    (search rules, simp length-set loop.invariant.1, cleared_step loop.seen loop.i (search rules) loop.invariant.2)
 
 same_length : tie.Need-same-length invariant-loop decreases-loop
 same_length c = search rules
@@ -39,7 +39,7 @@ same_length c = search rules
 returns : tie.Need-returns invariant-loop decreases-loop
 returns c =
     let loop = c.before.loop in
-    cleared-end loop.seen loop.i (search rules) loop.invariant.2
+    cleared_end loop.seen loop.i (search rules) loop.invariant.2
 
 pub clear_spec : {M : Type 1} → statement M
 clear_spec =

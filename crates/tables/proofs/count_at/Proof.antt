@@ -1,6 +1,6 @@
 use mathlib.Core.Path.{◌∙◌}
 use native.Mathlib.Omega.{arith}
-use Rattle.tables.proofs.Counting.{count-full, count-more}
+use Rattle.tables.proofs.Counting.{count_full, count_more}
 use borrow.Author.Rules.{rules}
 use Rattle.tables.proofs.count_at.Statement.{statement}
 use Rattle.tables.proofs.count_at.Tie as tie
@@ -23,7 +23,7 @@ returns c =
     let back = back.before in let entry_at = back.entry_at in
     let start = back.before.before.before in
     c.before.before.set_at.ensures
-    ∙ count-more start.args.table.now start.args.i entry_at.ensures if1.true
+    ∙ count_more start.args.table.now start.args.i entry_at.ensures if1.true
 
 same-length-2 : tie.Need-same-length-2
 same-length-2 c = search rules
@@ -31,7 +31,7 @@ same-length-2 c = search rules
 returns-2 : tie.Need-returns-2
 returns-2 c =
     let start = c.before.before.before.before in
-    count-full start.args.table.now start.args.i c.before.entry_at.ensures (omega arith) c.if1.false
+    count_full start.args.table.now start.args.i c.before.entry_at.ensures (omega arith) c.if1.false
 
 pub count-at-spec : {M : Type 1} → statement M
 count-at-spec =

@@ -6,8 +6,8 @@ use lib.ListN.{length, get_or, drop}
 use lib.IntN.{pos}
 use Rattle.literals.specs.Literal.{index_of}
 use Rattle.literals.proofs.Laws.{answer}
-use Rattle.tables.specs.Entries.{counted-at, tallied}
-use Rattle.tables.proofs.Counting.{tally-step, tally-end}
+use Rattle.tables.specs.Entries.{counted_at, tallied}
+use Rattle.tables.proofs.Counting.{tally_step, tally_end}
 use Rattle.tables.proofs.count_clause.Statement.{statement}
 use Rattle.tables.proofs.count_clause.Tie as tie
 
@@ -50,10 +50,10 @@ loop-again c =
       count_at.auto.0 ∙ loop.invariant.1,
       ap (λ (t : List ℕ). tallied t (drop (loop.i + 1) start.args.clause.now))
           (count_at.ensures
-          ∙ ap (counted-at loop.table)
+          ∙ ap (counted_at loop.table)
           (answer index_of (get_or start.args.clause.now loop.i (pos 0)) (sfits_of literal-index-arg.given)
           literal-index.ensures))
-          ∙ tally-step loop.table start.args.clause.now loop.i loop-test.true
+          ∙ tally_step loop.table start.args.clause.now loop.i loop-test.true
           ∙ loop.invariant.2,
     )
 
@@ -64,7 +64,7 @@ returns : tie.Need-returns invariant-loop decreases-loop
 returns c =
     let back = c.before in let loop = back.loop in
     let start = back.before.before in
-    tally-end _ start.args.clause.now loop.i c.loop-test.false ∙ loop.invariant.2
+    tally_end _ start.args.clause.now loop.i c.loop-test.false ∙ loop.invariant.2
 
 pub count-clause-spec : {M : Type 1} → statement M
 count-clause-spec =

@@ -1,4 +1,4 @@
-use Rattle.tables.proofs.Counting.{choice-sized, choice-unsized}
+use Rattle.tables.proofs.Counting.{choice_sized, choice_unsized}
 use borrow.Author.Rules.{rules}
 use Rattle.tables.proofs.is_choice.Statement.{statement}
 use Rattle.tables.proofs.is_choice.Tie as tie
@@ -12,13 +12,13 @@ is-unique-requires c κs = search rules
 returns : tie.Need-returns
 returns c =
     let start = c.before.before.before.before in
-    choice-sized start.args.counts.now start.args.clause.now c.before.before.is-choice-size.ensures
+    choice_sized start.args.counts.now start.args.clause.now c.before.before.is-choice-size.ensures
     c.before.if1.true c.is-unique.ensures
 
 returns-2 : tie.Need-returns-2
 returns-2 c =
     let start = c.before.before.before in
-    choice-unsized start.args.counts.now start.args.clause.now c.before.is-choice-size.ensures
+    choice_unsized start.args.counts.now start.args.clause.now c.before.is-choice-size.ensures
     c.if1.false
 
 pub is-choice-spec : {M : Type 1} → statement M

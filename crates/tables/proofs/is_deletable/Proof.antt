@@ -1,4 +1,4 @@
-use Rattle.tables.proofs.Counting.{deletable-sized, deletable-unsized}
+use Rattle.tables.proofs.Counting.{deletable_sized, deletable_unsized}
 use borrow.Author.Rules.{rules}
 use Rattle.tables.proofs.is_deletable.Statement.{statement}
 use Rattle.tables.proofs.is_deletable.Tie as tie
@@ -12,13 +12,13 @@ is-unique-requires c κs = search rules
 returns : tie.Need-returns
 returns c =
     let start = c.before.before.before in
-    deletable-sized start.args.counts.now start.args.clause.now c.before.is-choice-size.ensures
+    deletable_sized start.args.counts.now start.args.clause.now c.before.is-choice-size.ensures
     c.if1.true
 
 returns-2 : tie.Need-returns-2
 returns-2 c =
     let start = c.before.before.before.before in
-    deletable-unsized start.args.counts.now start.args.clause.now
+    deletable_unsized start.args.counts.now start.args.clause.now
     c.before.before.is-choice-size.ensures c.before.if1.false c.is-unique.ensures
 
 pub is-deletable-spec : {M : Type 1} → statement M

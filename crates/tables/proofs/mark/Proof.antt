@@ -3,9 +3,9 @@ use lib.IntN.{ℤ}
 use lib.ListN.{set}
 use borrow.Author.Rules.{rules, sfits_of}
 use Rattle.literals.specs.Literal.{index_of}
-use Rattle.literals.proofs.Laws.{answer, answer-negated}
+use Rattle.literals.proofs.Laws.{answer, answer_negated}
 use Rattle.tables.specs.Entries.{entry_of}
-use Rattle.tables.proofs.Laws.{mark-repeated, mark-opposed, mark-new}
+use Rattle.tables.proofs.Laws.{mark_repeated, mark_opposed, mark_new}
 use Rattle.tables.proofs.mark.Statement.{statement}
 use Rattle.tables.proofs.mark.Tie as tie
 
@@ -20,7 +20,7 @@ returns c =
     let start = c.before.before.before.before in
     let t = start.args.seen.now in
     let a = answer (entry_of t) start.args.l start.ranges.l c.before.entry_of.ensures in
-    λ here k. mark-repeated start.args.l start.requires.0 t start.args.stamp a here k c.if1.true
+    λ here k. mark_repeated start.args.l start.requires.0 t start.args.stamp a here k c.if1.true
 
 negated-requires : tie.Need-negated-requires
 negated-requires c κs = search rules
@@ -39,8 +39,8 @@ returns-2 c =
     let t = start.args.seen.now in
     let l = start.args.l in
     let a = answer (entry_of t) l start.ranges.l back.before.entry_of.ensures in
-    let b = answer-negated (entry_of t) l start.ranges.l (sfits_of negated.type-inv) negated.ensures c.before.entry-of2.ensures in
-    λ here k. mark-opposed l start.requires.0 t start.args.stamp a here k back.if1.false b c.if2.true
+    let b = answer_negated (entry_of t) l start.ranges.l (sfits_of negated.type-inv) negated.ensures c.before.entry-of2.ensures in
+    λ here k. mark_opposed l start.requires.0 t start.args.stamp a here k back.if1.false b c.if2.true
 
 set-entry-requires : tie.Need-set-entry-requires
 set-entry-requires c κs = search rules
@@ -58,8 +58,8 @@ returns-3 c =
     let t = start.args.seen.now in
     let l = start.args.l in
     let a = answer (entry_of t) l start.ranges.l back.before.entry_of.ensures in
-    let b = answer-negated (entry_of t) l start.ranges.l (sfits_of negated.type-inv) negated.ensures here-2.before.entry-of2.ensures in
-    λ here k. mark-new l start.requires.0 t start.args.stamp a here k back.if1.false b here-2.if2.false start.requires.1
+    let b = answer_negated (entry_of t) l start.ranges.l (sfits_of negated.type-inv) negated.ensures here-2.before.entry-of2.ensures in
+    λ here k. mark_new l start.requires.0 t start.args.stamp a here k back.if1.false b here-2.if2.false start.requires.1
     (answer (λ (z : ℤ). set t (index_of z) start.args.stamp) l start.ranges.l set-entry.ensures)
 
 pub mark_spec : {M : Type 1} → statement M

@@ -1,5 +1,5 @@
 use borrow.Author.Rules.{sfits_of, rules}
-use Rattle.literals.proofs.Laws.{answer-negated}
+use Rattle.literals.proofs.Laws.{answer_negated}
 use Rattle.tables.specs.Entries.{entry_of}
 use Rattle.tables.proofs.place_of.Statement.{statement}
 use Rattle.tables.proofs.place_of.Tie as tie
@@ -14,7 +14,7 @@ returns : tie.Need-returns
 returns c =
     let negated = c.before.negated in
     let start = c.before.before.before in
-    answer-negated (entry_of start.args.table.now) start.args.l start.ranges.l (sfits_of negated.type-inv)
+    answer_negated (entry_of start.args.table.now) start.args.l start.ranges.l (sfits_of negated.type-inv)
     negated.ensures c.entry_of.ensures
 
 pub place-of-spec : {M : Type 1} → statement M

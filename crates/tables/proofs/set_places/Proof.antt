@@ -6,13 +6,13 @@ use lib.ListN.{length, get_or, set, drop}
 use lib.IntN.{ℤ, pos}
 use Rattle.literals.specs.Literal.{index_of}
 use Rattle.literals.proofs.Laws.{at_arg}
-use Rattle.tables.specs.Places.{with-numbers}
-use Rattle.tables.proofs.Places.{numbers-step, numbers-end}
+use Rattle.tables.specs.Places.{with_numbers}
+use Rattle.tables.proofs.Places.{numbers_step, numbers_end}
 use Rattle.tables.proofs.set_places.Statement.{statement}
 use Rattle.tables.proofs.set_places.Tie as tie
 
 abbrev invariant-loop : tie.invariant-loop
-invariant-loop table₀ choice i₀ places i = (i ≤ length choice) × (length places ≡ length table₀) × (with-numbers places (i + 1) (drop i choice) ≡ with-numbers table₀ 1 choice)
+invariant-loop table₀ choice i₀ places i = (i ≤ length choice) × (length places ≡ length table₀) × (with_numbers places (i + 1) (drop i choice) ≡ with_numbers table₀ 1 choice)
 
 abbrev decreases-loop : tie.decreases-loop
 decreases-loop table₀ choice i₀ places i = length choice - i
@@ -52,11 +52,11 @@ loop-again c =
     let s = start.args.clause.now in (
       search rules,
       set-entry.auto.0 ∙ loop.invariant.1,
-      ap (λ (t : List ℕ). with-numbers t (i + 1 + 1) (drop (i + 1) s))
+      ap (λ (t : List ℕ). with_numbers t (i + 1 + 1) (drop (i + 1) s))
           (set-entry.ensures
           ∙ at_arg (λ (l : ℤ). set loop.table (index_of l) (i + 1)) (get_or s i (pos 0))
           (sfits_of set-entry-arg2.given))
-          ∙ numbers-step loop.table s i loop-test.true
+          ∙ numbers_step loop.table s i loop-test.true
           ∙ loop.invariant.2,
     )
 
@@ -67,7 +67,7 @@ returns : tie.Need-returns invariant-loop decreases-loop
 returns c =
     let back = c.before in let loop = back.loop in
     let start = back.before.before in
-    numbers-end _ start.args.clause.now loop.i c.loop-test.false ∙ loop.invariant.2
+    numbers_end _ start.args.clause.now loop.i c.loop-test.false ∙ loop.invariant.2
 
 pub set-places-spec : {M : Type 1} → statement M
 set-places-spec =

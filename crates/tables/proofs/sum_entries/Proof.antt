@@ -7,7 +7,7 @@ use lib.IntN.{pos}
 use Rattle.definition.specs.Lists.{sum_of}
 use Rattle.literals.proofs.Laws.{answer}
 use Rattle.tables.specs.Entries.{entry_of}
-use Rattle.tables.proofs.Laws.{sum_step, sum-end}
+use Rattle.tables.proofs.Laws.{sum_step, sum_end}
 use Rattle.tables.proofs.sum_entries.Statement.{statement}
 use Rattle.tables.proofs.sum_entries.Tie as tie
 
@@ -74,7 +74,7 @@ returns c =
     let start = back.before.before in
     let table = start.args.table.now in
     let clause = start.args.clause.now in
-    omega (arith, loop.invariant.1, sum-end table clause loop.i c.loop-test.false)
+    omega (arith, loop.invariant.1, sum_end table clause loop.i c.loop-test.false)
 
 pub sum-entries-spec : {M : Type 1} → statement M
 sum-entries-spec =

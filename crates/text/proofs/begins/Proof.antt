@@ -3,13 +3,13 @@ use mathlib.Core.Path.{◌≡◌}
 use Prim.Native.Nat.{◌-◌}
 use lib.ListN.{length, take, drop}
 use Rattle.definition.specs.Text.{same_bytes}
-use Rattle.definition.specs.Answer.{begins-with}
-use Rattle.theory_text.proofs.TextLines.{begins-start, begins-step, begins-differ, begins-end, begins-short}
+use Rattle.definition.specs.Answer.{begins_with}
+use Rattle.theory_text.proofs.TextLines.{begins_start, begins_step, begins_differ, begins_end, begins_short}
 use Rattle.text.proofs.begins.Statement.{statement}
 use Rattle.text.proofs.begins.Tie as tie
 
 abbrev invariant-loop : tie.invariant-loop
-invariant-loop line prefix i₀ i = begins-with prefix line ≡ same_bytes (drop i prefix) (take (length prefix - i) (drop i line))
+invariant-loop line prefix i₀ i = begins_with prefix line ≡ same_bytes (drop i prefix) (take (length prefix - i) (drop i line))
 
 abbrev decreases-loop : tie.decreases-loop
 decreases-loop line prefix i₀ i = length prefix - i
@@ -17,12 +17,12 @@ decreases-loop line prefix i₀ i = length prefix - i
 returns : tie.Need-returns invariant-loop decreases-loop
 returns c =
     let start = c.before in
-    begins-short start.args.prefix.now start.args.line.now (search rules)
+    begins_short start.args.prefix.now start.args.line.now (search rules)
 
 loop-holds : tie.Need-loop-init invariant-loop decreases-loop
 loop-holds c =
     let start = c.before in
-    begins-start start.args.prefix.now start.args.line.now
+    begins_start start.args.prefix.now start.args.line.now
 
 shared-slice-read-if2 : tie.Need-shared-slice-read-if2 invariant-loop decreases-loop
 shared-slice-read-if2 c = search rules
@@ -40,21 +40,21 @@ loop-again : tie.Need-loop-preserved invariant-loop decreases-loop
 loop-again c =
     let back = c.before.before.before.before in let loop = back.loop in
     let start = back.before.before in
-    begins-step start.args.prefix.now start.args.line.now loop.i (search rules) (search rules)
+    begins_step start.args.prefix.now start.args.line.now loop.i (search rules) (search rules)
     c.if2.true loop.invariant
 
 returns-2 : tie.Need-returns-2 invariant-loop decreases-loop
 returns-2 c =
     let back = c.before.before.before.before in let loop = back.loop in
     let start = back.before.before in
-    begins-differ start.args.prefix.now start.args.line.now loop.i (search rules) (search rules)
+    begins_differ start.args.prefix.now start.args.line.now loop.i (search rules) (search rules)
     c.if2.false loop.invariant
 
 returns-3 : tie.Need-returns-3 invariant-loop decreases-loop
 returns-3 c =
     let back = c.before in let loop = back.loop in
     let start = back.before.before in
-    begins-end start.args.prefix.now start.args.line.now loop.i (search rules) loop.invariant
+    begins_end start.args.prefix.now start.args.line.now loop.i (search rules) loop.invariant
 
 pub begins-spec : {M : Type 1} → statement M
 begins-spec =

@@ -1,6 +1,6 @@
 use borrow.Author.Rules.{rules}
-use Rattle.theory_base.proofs.Digits.{count-one, count-more}
-use Rattle.text.proofs.Output.{number-length}
+use Rattle.theory_base.proofs.Digits.{count_one, count_more}
+use Rattle.text.proofs.Output.{number_length}
 use Rattle.definition.specs.Text.{digits}
 use mathlib.Core.Path.{◌≡◌}
 use native.Mathlib.Omega.{arith}
@@ -19,16 +19,16 @@ loop-holds : tie.Need-loop-init invariant-loop decreases-loop
 loop-holds c = search rules
 
 add-count : tie.Need-overflow-add-count invariant-loop decreases-loop
-add-count c = omega (arith, number-length c.before.before.args.n (search rules))
+add-count c = omega (arith, number_length c.before.before.args.n (search rules))
 
 loop-less : tie.Need-loop-smaller invariant-loop decreases-loop
 loop-less c = search rules
 
 loop-again : tie.Need-loop-preserved invariant-loop decreases-loop
-loop-again c = omega (arith, count-more c.before.loop.m (search rules))
+loop-again c = omega (arith, count_more c.before.loop.m (search rules))
 
 returns : tie.Need-returns invariant-loop decreases-loop
-returns c = omega (arith, count-one c.before.loop.m (search rules))
+returns c = omega (arith, count_one c.before.loop.m (search rules))
 
 pub digit-count-spec : {M : Type 1} → statement M
 digit-count-spec =

@@ -1,6 +1,6 @@
 use borrow.Author.Rules.{rules}
-use Rattle.text.proofs.Numbers.{digits_step, digits-stop, digits-end, digits-large, digit-least}
-use Rattle.text.specs.Numbers.{all_digits, natural-class}
+use Rattle.text.proofs.Numbers.{digits_step, digits_stop, digits_end, digits_large, digit_least}
+use Rattle.text.specs.Numbers.{all_digits, natural_class}
 use mathlib.Core.Path.{◌≡◌, sym, ◌∙◌, refl}
 use native.Mathlib.Omega.{arith}
 use Prim.Native.Nat.{◌-◌, ◌≤◌}
@@ -9,7 +9,7 @@ use Rattle.text.proofs.digits_value.Statement.{statement}
 use Rattle.text.proofs.digits_value.Tie as tie
 
 abbrev invariant-loop : tie.invariant-loop
-invariant-loop word most value₀ i₀ value i = (i ≤ length word) × (value ≤ 1_000_001) × (natural-class most (all_digits value (drop i word)) ≡ natural-class most (all_digits 0 word))
+invariant-loop word most value₀ i₀ value i = (i ≤ length word) × (value ≤ 1_000_001) × (natural_class most (all_digits value (drop i word)) ≡ natural_class most (all_digits 0 word))
 
 abbrev decreases-loop : tie.decreases-loop
 decreases-loop word most value₀ i₀ value i = length word - i
@@ -24,7 +24,7 @@ is-digit-requires : tie.Need-is-digit-requires invariant-loop decreases-loop
 is-digit-requires c κs = search rules
 
 next-value-requires : tie.Need-next-value-requires invariant-loop decreases-loop
-next-value-requires c κs = (search rules, digit-least _ (sym c.before.is_digit.ensures ∙ c.if1.true))
+next-value-requires c κs = (search rules, digit_least _ (sym c.before.is_digit.ensures ∙ c.if1.true))
 
 add-i : tie.Need-overflow-add-i invariant-loop decreases-loop
 add-i c = search rules
@@ -48,7 +48,7 @@ returns : tie.Need-returns invariant-loop decreases-loop
 returns c =
     let back = c.before.before.before.before in let loop = back.loop in
     let start = back.before.before in
-    digits-stop start.args.most (search rules) start.args.word.now loop.i loop.value (search rules)
+    digits_stop start.args.most (search rules) start.args.word.now loop.i loop.value (search rules)
     (sym c.before.is_digit.ensures ∙ c.if1.false)
     ∙ loop.invariant.2
 
@@ -56,7 +56,7 @@ returns-2 : tie.Need-returns-2 invariant-loop decreases-loop
 returns-2 c =
     let back = c.before.before in let loop = back.loop in
     let start = back.before.before in
-    digits-end start.args.most (search rules) start.args.word.now loop.i loop.value (search rules)
+    digits_end start.args.most (search rules) start.args.word.now loop.i loop.value (search rules)
     (search rules)
     ∙ loop.invariant.2
 
@@ -64,7 +64,7 @@ returns-3 : tie.Need-returns-3 invariant-loop decreases-loop
 returns-3 c =
     let back = c.before.before in let loop = back.loop in
     let start = back.before.before in
-    digits-large start.args.most (search rules) start.args.word.now loop.i loop.value (search rules)
+    digits_large start.args.most (search rules) start.args.word.now loop.i loop.value (search rules)
     (search rules)
     ∙ loop.invariant.2
 

@@ -6,8 +6,8 @@ use lib.ListN.{length}
 use Rattle.definition.specs.Text.{digits}
 use Rattle.literals.specs.Literal.{negative}
 use Rattle.literals.proofs.Laws.{answer, answered}
-use Rattle.text.proofs.Output.{number-length}
-use Rattle.text.proofs.Writing.{item-negative, item-positive}
+use Rattle.text.proofs.Output.{number_length}
+use Rattle.text.proofs.Writing.{item_negative, item_positive}
 use borrow.Author.Rules.{rules}
 use Rattle.text.proofs.item_length.Statement.{statement}
 use Rattle.text.proofs.item_length.Tie as tie
@@ -19,7 +19,7 @@ variable-length-requires : tie.Need-variable-length-requires
 variable-length-requires c κs = search rules
 
 add-n : tie.Need-overflow-add-n
-add-n c = omega (arith, c.variable-length.ensures, number-length c.before.variable.result (search rules))
+add-n c = omega (arith, c.variable-length.ensures, number_length c.before.variable.result (search rules))
 
 is-negative-requires : tie.Need-is-negative-requires
 is-negative-requires c κs = search rules
@@ -27,7 +27,7 @@ is-negative-requires c κs = search rules
 add-result : tie.Need-overflow-add-result
 add-result c =
     let variable = c.before.before.before.variable in
-    omega (arith, c.before.before.variable-length.ensures, number-length variable.result (search rules))
+    omega (arith, c.before.before.variable-length.ensures, number_length variable.result (search rules))
 
 returns : tie.Need-returns
 returns c =
@@ -38,7 +38,7 @@ returns c =
       arith,
       c.before.before.variable-length.ensures,
       ap (λ (n : ℕ). length (digits n)) v,
-      item-negative start.args.l
+      item_negative start.args.l
           (answered negative start.args.l start.ranges.l c.before.is_negative.ensures c.if1.true),
     )
 
@@ -51,7 +51,7 @@ returns-2 c =
       arith,
       c.before.before.variable-length.ensures,
       ap (λ (n : ℕ). length (digits n)) v,
-      item-positive start.args.l
+      item_positive start.args.l
           (answered negative start.args.l start.ranges.l c.before.is_negative.ensures c.if1.false),
     )
 

@@ -5,7 +5,7 @@ use lib.ListN.{length}
 use Rattle.definition.specs.Text.{is}
 use Rattle.theory_text.specs.Words.{Free}
 use Rattle.theory_base.specs.Slices.{between}
-use Rattle.theory_text.proofs.TextLines.{line-end-start, line-end-step}
+use Rattle.theory_text.proofs.TextLines.{line_end_start, line_end_step}
 use Rattle.text.proofs.line_end.Statement.{statement}
 use Rattle.text.proofs.line_end.Tie as tie
 
@@ -16,7 +16,7 @@ abbrev decreases-loop : tie.decreases-loop
 decreases-loop text at i₀ i = length text - i
 
 loop-holds : tie.Need-loop-init invariant-loop decreases-loop
-loop-holds c = (search rules, search rules, line-end-start c.args.text.now c.args.at)
+loop-holds c = (search rules, search rules, line_end_start c.args.text.now c.args.at)
 
 shared-slice-read-if1 : tie.Need-shared-slice-read-if1 invariant-loop decreases-loop
 shared-slice-read-if1 c = search rules
@@ -24,7 +24,7 @@ shared-slice-read-if1 c = search rules
 returns : tie.Need-returns invariant-loop decreases-loop
 returns c =
     let loop = c.before.before.before.loop in
-    record { after = search rules; within = search rules; no-newline = loop.invariant.2; stops = λ h. c.if1.true }
+    record { after = search rules; within = search rules; no_newline = loop.invariant.2; stops = λ h. c.if1.true }
 
 add-i : tie.Need-overflow-add-i invariant-loop decreases-loop
 add-i c = search rules
@@ -38,12 +38,12 @@ loop-again c =
     let start = back.before in (
       search rules,
       search rules,
-      line-end-step start.args.text.now start.args.at loop.i (search rules) (search rules) c.if1.false
+      line_end_step start.args.text.now start.args.at loop.i (search rules) (search rules) c.if1.false
           loop.invariant.2,
     )
 
 returns-2 : tie.Need-returns-2 invariant-loop decreases-loop
-returns-2 c = record { after = search rules; within = search rules; no-newline = c.before.loop.invariant.2; stops = λ h. absurd (omega arith) }
+returns-2 c = record { after = search rules; within = search rules; no_newline = c.before.loop.invariant.2; stops = λ h. absurd (omega arith) }
 
 pub line-end-spec : {M : Type 1} → statement M
 line-end-spec =

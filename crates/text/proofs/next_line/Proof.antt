@@ -1,4 +1,4 @@
-use Rattle.theory_text.proofs.TextLines.{line-last, line-ended, lines_none}
+use Rattle.theory_text.proofs.TextLines.{line_last, line_ended, lines_none}
 use native.Mathlib.Omega.{arith}
 use borrow.Author.Rules.{rules}
 use Rattle.text.proofs.next_line.Statement.{statement}
@@ -14,9 +14,9 @@ line-end-requires c κs = search rules
 
 returns-2 : tie.Need-returns-2
 returns-2 c =
-    let back = c.before in let line-end = back.line-end in
+    let back = c.before in let line_end = back.line_end in
     let start = back.before.before.before in
-    line-last start.args.text.now start.args.at line-end.result (search rules) line-end.ensures
+    line_last start.args.text.now start.args.at line_end.result (search rules) line_end.ensures
     c.if2.true
 
 without-cr-requires : tie.Need-without-cr-requires
@@ -27,10 +27,10 @@ add-t5 c = search rules
 
 returns-3 : tie.Need-returns-3
 returns-3 c =
-    let back = c.before.before in let line-end = back.line-end in
+    let back = c.before.before in let line_end = back.line_end in
     let start = back.before.before.before in
-    line-ended start.args.text.now start.args.at line-end.result (search rules) line-end.ensures
-    c.without-cr.result (omega (arith, line-end.ensures.within)) c.without-cr.ensures
+    line_ended start.args.text.now start.args.at line_end.result (search rules) line_end.ensures
+    c.without-cr.result (omega (arith, line_end.ensures.within)) c.without-cr.ensures
 
 pub next-line-spec : {M : Type 1} → statement M
 next-line-spec =

@@ -1,5 +1,5 @@
 use native.Mathlib.Omega.{arith}
-use Rattle.text.proofs.Writing.{clause-put}
+use Rattle.text.proofs.Writing.{clause_put}
 use borrow.Author.Rules.{rules}
 use Rattle.text.proofs.put_clause.Statement.{statement}
 use Rattle.text.proofs.put_clause.Tie as tie
@@ -22,7 +22,7 @@ returns c =
     let back = back.before.before.before.before in let put_byte = back.put_byte in
     let back = back.before.before.before.before in let put-items = back.put-items in
     let start = back.before.before.before in (
-      clause-put start.args.clause.now put-items.ensures.0 put_byte.ensures put-byte2.ensures,
+      clause_put start.args.clause.now put-items.ensures.0 put_byte.ensures put-byte2.ensures,
       omega (arith, put-items.ensures.1, put_byte.ensures.next, put-byte2.ensures.next),
     )
 

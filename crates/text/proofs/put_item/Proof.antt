@@ -1,5 +1,5 @@
 use native.Mathlib.Omega.{arith}
-use Rattle.text.proofs.Writing.{item-put, item-past, item-few}
+use Rattle.text.proofs.Writing.{item_put, item_past, item_few}
 use borrow.Author.Rules.{rules}
 use Rattle.text.proofs.put_item.Statement.{statement}
 use Rattle.text.proofs.put_item.Tie as tie
@@ -10,14 +10,14 @@ item-length-requires c κs = search rules
 add-result : tie.Need-overflow-add-result
 add-result c =
     let start = c.before.before.before in
-    omega (arith, item-few start.args.l start.ranges.l c.item-length.ensures)
+    omega (arith, item_few start.args.l start.ranges.l c.item-length.ensures)
 
 returns : tie.Need-returns
 returns c =
     let start = c.before.before.before in (
-      item-past start.args.l start.ranges.l start.args.buf.now start.args.at c.before.if1.true
+      item_past start.args.l start.ranges.l start.args.buf.now start.args.at c.before.if1.true
           c.item-length.ensures,
-      omega (arith, item-few start.args.l start.ranges.l c.item-length.ensures),
+      omega (arith, item_few start.args.l start.ranges.l c.item-length.ensures),
     )
 
 put-literal-requires : tie.Need-put-literal-requires
@@ -34,7 +34,7 @@ returns-2 c =
     let back = c.before.before in let put_byte = back.put_byte in
     let back = back.before.before.before.before in let put-literal = back.put-literal in
     let start = back.before.before.before.before in (
-      item-put start.args.l start.ranges.l put-literal.ensures.0 put_byte.ensures,
+      item_put start.args.l start.ranges.l put-literal.ensures.0 put_byte.ensures,
       omega (arith, put_byte.ensures.next, put-literal.ensures.1),
     )
 

@@ -2,7 +2,7 @@ use borrow.Author.Rules.{rules, sfits_of}
 use native.Mathlib.Omega.{arith}
 use Prim.Native.Nat.{◌-◌}
 use lib.ListN.{length}
-use Rattle.text.proofs.Writing.{Items, items-start, items-step, items-end}
+use Rattle.text.proofs.Writing.{Items, items_start, items_step, items_end}
 use Rattle.text.proofs.put_items.Statement.{statement}
 use Rattle.text.proofs.put_items.Tie as tie
 
@@ -15,7 +15,7 @@ decreases-loop buf₀ at clause end₀ i₀ buf end i = length clause - i
 loop-holds : tie.Need-loop-init invariant-loop decreases-loop
 loop-holds c =
     let start = c.before in
-    items-start start.args.buf.now start.args.at start.args.clause.now
+    items_start start.args.buf.now start.args.at start.args.clause.now
 
 mul-put-item : tie.Need-overflow-mul-put-item invariant-loop decreases-loop
 mul-put-item c = search rules
@@ -39,14 +39,14 @@ loop-again c =
     let back = c.before.before in let put_item = back.put_item in
     let back = back.before in let put-item-arg2 = back.put-item-arg2 in
     let loop = back.before.before.before.loop in
-    items-step loop.invariant (search rules) (sfits_of put-item-arg2.given) put_item.ensures.0
+    items_step loop.invariant (search rules) (sfits_of put-item-arg2.given) put_item.ensures.0
     put_item.ensures.1
 
 same_length : tie.Need-same-length invariant-loop decreases-loop
 same_length c = c.before.loop.invariant.size
 
 returns : tie.Need-returns invariant-loop decreases-loop
-returns c = items-end c.before.loop.invariant c.loop-test.false
+returns c = items_end c.before.loop.invariant c.loop-test.false
 
 pub put-items-spec : {M : Type 1} → statement M
 put-items-spec =

@@ -1,4 +1,4 @@
-use Rattle.text.proofs.Output.{put_then, put_same, negative-text, positive-text}
+use Rattle.text.proofs.Output.{put_then, put_same, negative_text, positive_text}
 use Rattle.literals.proofs.Laws.{answer, answered}
 use Rattle.literals.specs.Literal.{negative}
 use Rattle.definition.specs.Text.{digits}
@@ -40,7 +40,7 @@ returns c =
     let f = start.ranges.l in (
       put_same (put_then put_byte.ensures c.before.before.put-number.ensures.0)
           (ap (λ (v : ℕ). (45 ∷ []) ++ digits v) (answer nat_abs l f variable.ensures)
-          ∙ negative-text l (answered negative l f is_negative.ensures if1.true)),
+          ∙ negative_text l (answered negative l f is_negative.ensures if1.true)),
       omega (arith, put_byte.ensures.next, c.before.before.put-number.ensures.1),
     )
 
@@ -57,7 +57,7 @@ returns-2 c =
     let f = start.ranges.l in (
       put_same c.before.before.put-number2.ensures.0
           (ap digits (answer nat_abs l f variable.ensures)
-          ∙ positive-text l (answered negative l f is_negative.ensures if1.false)),
+          ∙ positive_text l (answered negative l f is_negative.ensures if1.false)),
       omega (arith, c.before.before.put-number2.ensures.1),
     )
 

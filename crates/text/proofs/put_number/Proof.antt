@@ -1,5 +1,5 @@
 use borrow.Author.Rules.{rules}
-use Rattle.text.proofs.Output.{Writing, writing_start, writing_step, writing-room, writing-end, number-length}
+use Rattle.text.proofs.Output.{Writing, writing_start, writing_step, writing_room, writing_end, number_length}
 use mathlib.Core.Path.{◌≡◌, refl}
 use native.Mathlib.Omega.{arith}
 use lib.ListN.{length}
@@ -16,7 +16,7 @@ digit-count-requires : tie.Need-digit-count-requires invariant-loop decreases-lo
 digit-count-requires c κs = search rules
 
 add-end : tie.Need-overflow-add-end invariant-loop decreases-loop
-add-end c = omega (arith, number-length c.before.before.args.n (search rules))
+add-end c = omega (arith, number_length c.before.before.args.n (search rules))
 
 loop-holds : tie.Need-loop-init invariant-loop decreases-loop
 loop-holds c =
@@ -24,7 +24,7 @@ loop-holds c =
     (refl, rw c.digit-count.ensures (writing_start start.args.buf.now start.args.at start.args.n))
 
 sub-k : tie.Need-overflow-sub-k invariant-loop decreases-loop
-sub-k c = writing-room c.before.loop.invariant.1 (search rules)
+sub-k c = writing_room c.before.loop.invariant.1 (search rules)
 
 add-store : tie.Need-overflow-add-store invariant-loop decreases-loop
 add-store c = search rules
@@ -60,8 +60,8 @@ returns c =
     let back = c.before.before.before.before.before in let loop = back.loop in
     let back = back.before in let digit-count = back.digit-count in
     let start = back.before.before in (
-      rw (c.before.before.store2.ensures, digit-count.ensures) (writing-end loop.invariant.1 (search rules)),
-      omega (arith, digit-count.ensures, number-length start.args.n (search rules)),
+      rw (c.before.before.store2.ensures, digit-count.ensures) (writing_end loop.invariant.1 (search rules)),
+      omega (arith, digit-count.ensures, number_length start.args.n (search rules)),
     )
 
 pub put-number-spec : {M : Type 1} → statement M

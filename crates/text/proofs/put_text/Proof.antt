@@ -1,7 +1,7 @@
 use borrow.Author.Rules.{rules}
 use Prim.Native.Nat.{◌-◌}
 use lib.ListN.{length}
-use Rattle.text.proofs.Writing.{Copied, copied-start, copied-step, copied-end}
+use Rattle.text.proofs.Writing.{Copied, copied_start, copied_step, copied_end}
 use Rattle.text.proofs.put_text.Statement.{statement}
 use Rattle.text.proofs.put_text.Tie as tie
 
@@ -14,7 +14,7 @@ decreases-loop buf₀ at text i₀ buf i = length text - i
 loop-holds : tie.Need-loop-init invariant-loop decreases-loop
 loop-holds c =
     let start = c.before.before in
-    copied-start start.args.buf.now start.args.at start.args.text.now
+    copied_start start.args.buf.now start.args.at start.args.text.now
 
 add-put-byte : tie.Need-overflow-add-put-byte invariant-loop decreases-loop
 add-put-byte c = search rules
@@ -34,7 +34,7 @@ loop-less c = search rules
 loop-again : tie.Need-loop-preserved invariant-loop decreases-loop
 loop-again c =
     let loop = c.before.before.before.before.before.before.loop in
-    copied-step loop.invariant (search rules) c.before.before.put_byte.ensures
+    copied_step loop.invariant (search rules) c.before.before.put_byte.ensures
 
 add-result : tie.Need-overflow-add-result invariant-loop decreases-loop
 add-result c = search rules
@@ -43,7 +43,7 @@ same_length : tie.Need-same-length invariant-loop decreases-loop
 same_length c = c.before.loop.invariant.size
 
 returns : tie.Need-returns invariant-loop decreases-loop
-returns c = copied-end c.before.loop.invariant c.loop-test.false
+returns c = copied_end c.before.loop.invariant c.loop-test.false
 
 pub put-text-spec : {M : Type 1} → statement M
 put-text-spec =

@@ -1,8 +1,8 @@
-use Rattle.theory_base.proofs.Slices.{rest-is}
-use Rattle.text.proofs.Numbers.{sign-plain, sign-minus, number-none, number-minus, number-plain}
-use Rattle.text.specs.Numbers.{natural-class, number-class, with-sign}
+use Rattle.theory_base.proofs.Slices.{rest_is}
+use Rattle.text.proofs.Numbers.{sign_plain, sign_minus, number_none, number_minus, number_plain}
+use Rattle.text.specs.Numbers.{natural_class, number_class, with_sign}
 use Rattle.definition.specs.Text.{natural}
-use Rattle.tables.specs.Sizes.{log-reach}
+use Rattle.tables.specs.Sizes.{log_reach}
 use mathlib.Core.Path.{ap, ◌∙◌}
 use mathlib.Core.Bool.{true, false}
 use mathlib.Core.List.{List}
@@ -13,7 +13,7 @@ use Rattle.text.proofs.read_number.Statement.{statement}
 use Rattle.text.proofs.read_number.Tie as tie
 
 returns : tie.Need-returns
-returns c = number-none c.before.before.args.word.now c.if1.true
+returns c = number_none c.before.before.args.word.now c.if1.true
 
 shared-slice-read-if2 : tie.Need-shared-slice-read-if2
 shared-slice-read-if2 c = search rules
@@ -45,20 +45,20 @@ returns-2 c =
     let back = back.before.before in let if1 = back.if1 in
     let start = back.before.before in
     c.signed-number.ensures
-    ∙ ap (with-sign true)
+    ∙ ap (with_sign true)
     (c.before.natural-up-to.ensures
-    ∙ ap (λ (s : List ℕ). natural-class log-reach (natural s)) (rest-is start.args.word.now 1))
-    ∙ sign-minus (natural (drop 1 start.args.word.now))
-    ∙ ap number-class (number-minus start.args.word.now if1.false if2.true)
+    ∙ ap (λ (s : List ℕ). natural_class log_reach (natural s)) (rest_is start.args.word.now 1))
+    ∙ sign_minus (natural (drop 1 start.args.word.now))
+    ∙ ap number_class (number_minus start.args.word.now if1.false if2.true)
 
 returns-3 : tie.Need-returns-3
 returns-3 c =
     let back = c.before.before.before.before in let if1 = back.if1 in
     let start = back.before.before in
     c.signed-number2.ensures
-    ∙ ap (with-sign false) c.before.natural-up-to2.ensures
-    ∙ sign-plain (natural start.args.word.now)
-    ∙ ap number-class (number-plain start.args.word.now if1.false c.before.before.if2.false)
+    ∙ ap (with_sign false) c.before.natural-up-to2.ensures
+    ∙ sign_plain (natural start.args.word.now)
+    ∙ ap number_class (number_plain start.args.word.now if1.false c.before.before.if2.false)
 
 pub read-number-spec : {M : Type 1} → statement M
 read-number-spec =

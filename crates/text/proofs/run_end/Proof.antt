@@ -1,6 +1,6 @@
 use borrow.Author.Rules.{rules}
-use Rattle.theory_text.proofs.Runs.{run_step, run-stop, run-stop-end}
-use Rattle.theory_text.specs.Runs.{in-run, leading}
+use Rattle.theory_text.proofs.Runs.{run_step, run_stop, run_stop_end}
+use Rattle.theory_text.specs.Runs.{in_run, leading}
 use Rattle.text.specs.Words.{separator}
 use mathlib.Core.Path.{◌≡◌, sym, ◌∙◌, refl}
 use Prim.Native.Nat.{◌+◌, ◌-◌}
@@ -9,7 +9,7 @@ use Rattle.text.proofs.run_end.Statement.{statement}
 use Rattle.text.proofs.run_end.Tie as tie
 
 abbrev invariant-loop : tie.invariant-loop
-invariant-loop lines parting text at i₀ i = i + leading (in-run (separator lines) parting) (drop i text) ≡ at + leading (in-run (separator lines) parting) (drop at text)
+invariant-loop lines parting text at i₀ i = i + leading (in_run (separator lines) parting) (drop i text) ≡ at + leading (in_run (separator lines) parting) (drop at text)
 
 abbrev decreases-loop : tie.decreases-loop
 decreases-loop lines parting text at i₀ i = length text - i
@@ -40,14 +40,14 @@ returns : tie.Need-returns invariant-loop decreases-loop
 returns c =
     let back = c.before.before.before.before in let loop = back.loop in
     let start = back.before.before in
-    run-stop _ start.args.text.now loop.i (search rules) (sym c.before.belongs.ensures ∙ c.if1.false)
+    run_stop _ start.args.text.now loop.i (search rules) (sym c.before.belongs.ensures ∙ c.if1.false)
     ∙ loop.invariant
 
 returns-2 : tie.Need-returns-2 invariant-loop decreases-loop
 returns-2 c =
     let back = c.before in let loop = back.loop in
     let start = back.before.before in
-    run-stop-end _ start.args.text.now loop.i (search rules) ∙ loop.invariant
+    run_stop_end _ start.args.text.now loop.i (search rules) ∙ loop.invariant
 
 pub run-end-spec : {M : Type 1} → statement M
 run-end-spec =

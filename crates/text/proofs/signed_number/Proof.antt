@@ -2,7 +2,7 @@ use Rattle.literals.proofs.Laws.{at_arg}
 use mathlib.Core.Path.{ap, ◌∙◌}
 use borrow.Author.Rules.{sfits_of, rules}
 use Rattle.text.specs.declared.Number.TheVariants as Number
-use Rattle.text.proofs.Numbers.{sign-some}
+use Rattle.text.proofs.Numbers.{sign_some}
 use Rattle.text.proofs.signed_number.Statement.{statement}
 use Rattle.text.proofs.signed_number.Tie as tie
 
@@ -21,7 +21,7 @@ returns-2 c =
     rw (n.given.1, c.before.before.if1.true)
     (at_arg Number.Value c.signed.result (sfits_of c.signed.type-inv)
     ∙ ap Number.Value c.signed.ensures
-    ∙ sign-some _ c.before.if2.false)
+    ∙ sign_some _ c.before.if2.false)
 
 signed-requires-2 : tie.Need-signed-requires-2
 signed-requires-2 c κs = search rules

@@ -1,4 +1,4 @@
-use Rattle.theory_text.proofs.TextLines.{trimmed-cr, trimmed-none, trimmed-empty}
+use Rattle.theory_text.proofs.TextLines.{trimmed_cr, trimmed_none, trimmed_empty}
 use borrow.Author.Rules.{rules}
 use Rattle.text.proofs.without_cr.Statement.{statement}
 use Rattle.text.proofs.without_cr.Tie as tie
@@ -6,7 +6,7 @@ use Rattle.text.proofs.without_cr.Tie as tie
 returns : tie.Need-returns
 returns c =
     let start = c.before in
-    trimmed-empty start.args.text.now start.args.start start.args.end c.if1.true
+    trimmed_empty start.args.text.now start.args.start start.args.end c.if1.true
 
 sub-if2 : tie.Need-overflow-sub-if2
 sub-if2 c = search rules
@@ -20,13 +20,13 @@ sub-result c = search rules
 returns-2 : tie.Need-returns-2
 returns-2 c =
     let start = c.before.before.before in
-    trimmed-cr start.args.text.now start.args.start start.args.end (search rules) (search rules)
+    trimmed_cr start.args.text.now start.args.start start.args.end (search rules) (search rules)
     c.if2.true
 
 returns-3 : tie.Need-returns-3
 returns-3 c =
     let start = c.before.before.before in
-    trimmed-none start.args.text.now start.args.start start.args.end (search rules) (search rules)
+    trimmed_none start.args.text.now start.args.start start.args.end (search rules) (search rules)
     c.if2.false
 
 pub without-cr-spec : {M : Type 1} → statement M

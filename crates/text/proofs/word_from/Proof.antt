@@ -1,4 +1,4 @@
-use Rattle.text.proofs.Words.{answer_word, answer-end}
+use Rattle.text.proofs.Words.{answer_word, answer_end}
 use Rattle.text.specs.Words.{separator}
 use borrow.Author.Rules.{rules}
 use Rattle.text.proofs.word_from.Statement.{statement}
@@ -23,7 +23,7 @@ returns-2 c =
     let back = c.before in let run-end2 = back.run-end2 in
     let back = back.before in let run_end = back.run_end in
     let start = back.before.before in
-    answer-end (separator start.args.lines) start.args.text.now start.args.at run_end.result
+    answer_end (separator start.args.lines) start.args.text.now start.args.at run_end.result
     run-end2.result run_end.ensures run-end2.ensures c.if1.false
 
 pub word-from-spec : {M : Type 1} → statement M

@@ -47,6 +47,7 @@ pub members_snoc : {A : Type 0} (P : A → Type 0) (f : List A) (c : A) → ((d 
 members_snoc P [] c h p d (here e) = rw e p
 members_snoc P (k ∷ f) c h p d (here e) = h d (here e)
 members_snoc P (k ∷ f) c h p d (there i) = members_snoc P f c (λ x j. h x (there j)) p d i
+members_snoc {A = A} P [] c h p d (there i) = elim i [ ]
 
 -- a literal at the end of a proper clause
 pub proper_snoc : (c : Clause) (l : ℤ) → Proper c → l ≢ pos 0 → (Memᴰ l c → ⊥) → (Memᴰ (neg_ℤ l) c → ⊥) → Proper (c ++ (l ∷ []))
@@ -156,6 +157,7 @@ unfolding repeated
 repeated_after (m ∷ c) l d (here e) =
     to_true (or_l (holds m (c ++ l ∷ d)) (repeated (c ++ l ∷ d)) (mem_holds m (c ++ l ∷ d) (Memᴰ.append_right c (here (sym e)))))
 repeated_after (m ∷ c) l d (there i) = to_true (or_r (holds m (c ++ l ∷ d)) (repeated (c ++ l ∷ d)) (of_true (repeated_after c l d i)))
+repeated_after [] l d x' = elim x' [ ]
 
 pub opposed_after : (c : Clause) (l : ℤ) (d : Clause) → Memᴰ (neg_ℤ l) c → opposed (c ++ l ∷ d) ≡ true
 unfolding opposed

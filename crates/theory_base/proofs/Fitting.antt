@@ -44,11 +44,13 @@ pub highest_at : (c : Clause) (x : ℤ) → Memᴰ x c → nat_abs x ≤ highest
 unfolding highest
 highest_at (y ∷ c) x (here e) = rw e (omega arith)
 highest_at (y ∷ c) x (there i) = omega (arith, highest_at c x i)
+highest_at [] x x3 = elim x3 [ ]
 
 pub highest_of_at : (F : Formula) (c : Clause) → Memᴰ c F → (x : ℤ) → Memᴰ x c → nat_abs x ≤ highest_of F
 unfolding highest_of
 highest_of_at (d ∷ F) c (here e) x i = omega (arith, highest_at d x (rw e at i))
 highest_of_at (d ∷ F) c (there j) x i = omega (arith, highest_of_at F c j x i)
+highest_of_at [] c x4 x i = elim x4 [ ]
 
 pub highest_le : (h : ℕ) (c : Clause) → ((x : ℤ) → Memᴰ x c → nat_abs x ≤ h) → highest c ≤ h
 unfolding highest
@@ -59,6 +61,7 @@ pub highest_in_at : (xs : List Line) (x : Line) → Memᴰ x xs → highest (lit
 unfolding highest_in
 highest_in_at (y ∷ xs) x (here e) = omega (arith, ap (λ (z : Line). highest (literals z)) e)
 highest_in_at (y ∷ xs) x (there m) = omega (arith, highest_in_at xs x m)
+highest_in_at [] x x3 = elim x3 [ ]
 
 pub highest_in_le : (h : ℕ) (xs : List Line) → ((x : Line) → Memᴰ x xs → highest (literals x) ≤ h) → highest_in xs ≤ h
 unfolding highest_in

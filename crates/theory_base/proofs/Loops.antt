@@ -21,24 +21,29 @@ module _ {A B : Type 0} where
   unfolding for_each
   for_each_mem (x ∷ xs) f y i =
       ⊎_elim (λ j. (x, here refl, j)) (λ j. let r = for_each_mem xs f y j in (r.0, there r.1, r.2)) (Memᴰ.append_cases (f x) i)
+  for_each_mem [] f y i = elim i [ ]
 
   pub mem_for_each : (xs : List A) (f : A → List B) (x : A) (y : B) → Memᴰ x xs → Memᴰ y (f x) → Memᴰ y (for_each xs f)
   unfolding for_each
   mem_for_each (z ∷ xs) f x y (here e) j = Memᴰ.append_left (for_each xs f) (rw e at j)
   mem_for_each (z ∷ xs) f x y (there i) j = Memᴰ.append_right (f z) (mem_for_each xs f x y i j)
+  mem_for_each [] f x y x4 j = elim x4 [ ]
 
 module _ {A : Type 0} where
   pub only_if_mem : (b : Bool) (xs : List A) (x : A) → Memᴰ x (only_if b xs) → T b × Memᴰ x xs
   unfolding only_if
   only_if_mem true xs x i = (tt, i)
+  only_if_mem false xs x i = elim i [ ]
 
   pub mem_only_if : (b : Bool) (xs : List A) (x : A) → T b → Memᴰ x xs → Memᴰ x (only_if b xs)
   unfolding only_if
   mem_only_if true xs x t i = i
+  mem_only_if false xs x t i = elim t [ ]
 
   pub replicate_mem : (n : ℕ) (x y : A) → Memᴰ y (replicate n x) → y ≡ x
   replicate_mem (suc n) x y (here e) = e
   replicate_mem (suc n) x y (there i) = replicate_mem n x y i
+  replicate_mem zero x y x3 = elim x3 [ ]
 
   -- what `for_from` gives
   pub for_from_mem : (i n : ℕ) (f : ℕ → List A) (x : A) → Memᴰ x (for_from i n f) → (j : ℕ) × (i ≤ j) × (j < i + n) × Memᴰ x (f j)
@@ -47,6 +52,7 @@ module _ {A : Type 0} where
       ⊎_elim (λ k. (i, omega arith, omega arith, k))
       (λ k. let r = for_from_mem (suc i) n f x k in (r.0, omega (arith, r.1), omega (arith, r.2), r.3))
       (Memᴰ.append_cases (f i) m)
+  for_from_mem i zero f x m = elim m [ ]
 
 pub for_each-++ : {A B : Type 0} (xs ys : List A) (f : A → List B) → for_each (xs ++ ys) f ≡ for_each xs f ++ for_each ys f
 unfolding for_each
@@ -97,6 +103,7 @@ module _ {A : Type 0} where
       go true u e j ih = none_some (sym e)
       go false u e (here q) ih = differ t (ap p q ∙ u)
       go false u e (there j) ih = ih e j
+  first_none p [] e x i t = elim i [ ]
 
   -- ---- the first number for which something is found
   pub first_from_none : (f : ℕ → Option A) (i n : ℕ) → first_from i n f ≡ none → (k : ℕ) → i ≤ k → k < i + n → f k ≡ none

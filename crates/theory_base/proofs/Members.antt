@@ -21,16 +21,19 @@ module _ {A : Type 0} where
   unfolding any
   any_mem p (x ∷ xs) t =
       ⊎_elim (λ u. (x, here refl, u)) (λ u. let r = any_mem p xs u in (r.0, there r.1, r.2)) (or_cases (p x) (any p xs) t)
+  any_mem p [] t = elim t [ ]
 
   pub mem_any : (p : A → Bool) (xs : List A) (x : A) → Memᴰ x xs → T (p x) → T (any p xs)
   unfolding any
   mem_any p (y ∷ xs) x (here e) t = or_l (p y) (any p xs) (rw e at t)
   mem_any p (y ∷ xs) x (there i) t = or_r (p y) (any p xs) (mem_any p xs x i t)
+  mem_any p [] x x4 t = elim x4 [ ]
 
   pub all_at : (p : A → Bool) (xs : List A) → T (all p xs) → (x : A) → Memᴰ x xs → T (p x)
   unfolding all
   all_at p (y ∷ xs) t x (here e) = rw e (and_l (p y) (all p xs) t)
   all_at p (y ∷ xs) t x (there i) = all_at p xs (and_r (p y) (all p xs) t) x i
+  all_at p [] t x x4 = elim x4 [ ]
 
   pub all_of : (p : A → Bool) (xs : List A) → ((x : A) → Memᴰ x xs → T (p x)) → T (all p xs)
   unfolding all
@@ -45,6 +48,7 @@ module _ {A : Type 0} where
       go true e (here q) ih = (here q, of_true (ap p q ∙ e))
       go true e (there j) ih = let r = ih j in (there r.0, r.1)
       go false e j ih = let r = ih j in (there r.0, r.1)
+  those_mem p [] x i = elim i [ ]
 
   pub mem_those : (p : A → Bool) (xs : List A) (x : A) → Memᴰ x xs → T (p x) → Memᴰ x (those p xs)
   unfolding those
@@ -55,6 +59,7 @@ module _ {A : Type 0} where
       go true e (there j) ih = there (ih j)
       go false e (here q) ih = differ t (ap p q ∙ e)
       go false e (there j) ih = ih j
+  mem_those p [] x i t = elim i [ ]
 
 -- tests that agree on the members of a list
 module _ {A : Type 0} (p q : A → Bool) where
@@ -78,6 +83,8 @@ pub same_eq : (l m : ℤ) → T (same l m) → l ≡ m
 unfolding same
 same_eq (pos a) (pos b) t = ap pos (eqb→eq a b t)
 same_eq (negsuc a) (negsuc b) t = ap negsuc (eqb→eq a b t)
+same_eq (pos a) (negsuc b) t = elim t [ ]
+same_eq (negsuc a) (pos b) t = elim t [ ]
 
 pub same_refl : (l : ℤ) → T (same l l)
 unfolding same
@@ -159,6 +166,7 @@ pair_turned x y = (λ l. turned l x y, λ l. turned l y x)
     turned : (l u v : ℤ) → Memᴰ l (u ∷ v ∷ []) → Memᴰ l (v ∷ u ∷ [])
     turned l u v (here e) = there (here e)
     turned l u v (there (here e)) = here e
+    turned l u v (there (there x9)) = elim x9 [ ]
 
 -- a literal of c whose negation is in d
 pub opposes_mem : (c d : Clause) → T (opposes c d) → (x : ℤ) × Memᴰ x c × Memᴰ (neg_ℤ x) d
@@ -178,12 +186,14 @@ opposes_same c d e s = each_way (within d e s.0) (within e d s.1)
 pub proper_literal : (c : Clause) → Proper c → (l : ℤ) → Memᴰ l c → l ≢ pos 0
 proper_literal (m ∷ c) a l (here e) = λ z. a.0 (sym e ∙ z)
 proper_literal (m ∷ c) a l (there d) = proper_literal c a.3 l d
+proper_literal [] a l x'' = elim x'' [ ]
 
 pub proper_unopposed : (c : Clause) → Proper c → (x : ℤ) → Memᴰ x c → Memᴰ (neg_ℤ x) c → ⊥
 proper_unopposed (l ∷ c) a x (here e) (here q) = own l a.0 (sym q ∙ ap neg_ℤ e)
 proper_unopposed (l ∷ c) a x (here e) (there j) = a.2 (Memᴰ.cast (ap neg_ℤ (sym e)) j)
 proper_unopposed (l ∷ c) a x (there i) (here q) = a.2 (Memᴰ.cast (turn l x (sym q)) i)
 proper_unopposed (l ∷ c) a x (there i) (there j) = proper_unopposed c a.3 x i j
+proper_unopposed [] a x x5 _ = elim x5 [ ]
 
 -- two literals of a proper clause, the first and one behind it, are of different variables
 pub proper_first : (x : ℤ) (c : Clause) → Proper (x ∷ c) → (y : ℤ) → Memᴰ y c → nat_abs x ≢ nat_abs y
@@ -235,3 +245,4 @@ any_snoc p (x ∷ xs) y = go (p x) (any_snoc p xs y)
 pub parted_before : (cs : List Clause) (c : Clause) (ds : List Clause) → Parted (cs ++ (c ∷ ds)) → (d : Clause) → Memᴰ d cs → Disjoint d c
 parted_before (b ∷ cs) c ds p d (here e) = rw e (p.0 c (Memᴰ.append_right cs (here refl)))
 parted_before (b ∷ cs) c ds p d (there i) = parted_before cs c ds p.1 d i
+parted_before [] c ds p d x'' = elim x'' [ ]

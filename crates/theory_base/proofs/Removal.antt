@@ -39,12 +39,14 @@ stands_removed c (d ∷ F) t = go (same_set c d) refl t (stands_removed c F)
     go : (b : Bool) → same_set c d ≡ b → T (b || any (same_set c) F) → (T (any (same_set c) F) → Removed c F (take_out c F)) → Removed c (d ∷ F) (cond b F (d ∷ take_out c F))
     go true e u ih = found e
     go false e u ih = later e (ih u)
+stands_removed c [] t = elim t [ ]
 
 -- a clause with the same literals stands: it is found
 pub stands_same : (c d : Clause) (F : Formula) → Memᴰ d F → Same c d → T (stands c F)
 unfolding stands any
 stands_same c d (k ∷ F) (here e) s = or_l (same_set c k) (any (same_set c) F) (same_same_set c k (rw e at s))
 stands_same c d (k ∷ F) (there i) s = or_r (same_set c k) (any (same_set c) F) (stands_same c d F i s)
+stands_same c d [] x'' s = elim x'' [ ]
 
 pub takes : (c d : Clause) (F : Formula) → Memᴰ d F → Same c d → Removed c F (take_out c F)
 takes c d F i s = stands_removed c F (stands_same c d F i s)
@@ -63,6 +65,7 @@ mem_take_out c (e ∷ F) d m = go (same_set c e) m (mem_take_out c F d)
     go true m ih = there m
     go false (here q) ih = here q
     go false (there m) ih = there (ih m)
+mem_take_out c [] d m = elim m [ ]
 
 -- nothing is taken out of what stands behind and has other literals
 pub take_out_first : (c : Clause) (F X : Formula) → ((x : Clause) → Memᴰ x X → same_set c x ≡ false) → take_out c (F ++ X) ≡ take_out c F ++ X

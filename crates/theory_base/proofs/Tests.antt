@@ -9,6 +9,7 @@ use Rattle.definition.specs.Lists.{bit}
 
 pub to_true : {b : Bool} → T b → b ≡ true
 to_true {b = true} t = refl
+to_true {b = false} t = elim t [ ]
 
 pub of_true : {b : Bool} → b ≡ true → T b
 of_true e = rw e tt
@@ -23,6 +24,7 @@ to_false {b = false} n = refl
 
 pub not_true : {b : Bool} → T (not b) → b ≡ false
 not_true {b = false} t = refl
+not_true {b = true} t = elim t [ ]
 
 pub of_false : {b : Bool} → b ≡ false → T (not b)
 of_false {b = true} e = differ {b = true} tt e
@@ -34,6 +36,7 @@ and_l false b t = t
 
 pub and_r : (a b : Bool) → T (a && b) → T b
 and_r true b t = t
+and_r false b t = elim t [ ]
 
 pub and_i : (a b : Bool) → T a → T b → T (a && b)
 and_i true b s t = t
@@ -45,6 +48,7 @@ or_cases false b t = inr t
 
 pub or_l : (a b : Bool) → T a → T (a || b)
 or_l true b t = tt
+or_l false b t = elim t [ ]
 
 pub or_r : (a b : Bool) → T b → T (a || b)
 or_r true b t = tt

@@ -117,6 +117,7 @@ has_trues σ (l ∷ c) t = go (true_in σ l) refl t (has_trues σ c)
     go : (b : Bool) → true_in σ l ≡ b → T (b || has_true σ c) → (T (has_true σ c) → 1 ≤ trues σ c) → 1 ≤ bit (true_in σ l) + trues σ c
     go true e u r = omega (arith, ap bit e)
     go false e u r = omega (arith, r u)
+has_trues σ [] t = elim t [ ]
 
 -- ---- `T (satisfies σ F)`, clause by clause
 abbrev pub Sat : Assignment → Formula → Type 0
@@ -136,6 +137,7 @@ satisfies_sat σ (c ∷ F) t = (has_trues σ c (and_l (has_true σ c) (satisfies
 pub sat_at : (σ : Assignment) (F : Formula) → Sat σ F → {c : Clause} → Memᴰ c F → 1 ≤ trues σ c
 sat_at σ (d ∷ F) s (here e) = rw e s.0
 sat_at σ (d ∷ F) s (there m) = sat_at σ F s.1 m
+sat_at σ [] s {c = c} x'' = elim x'' [ ]
 
 pub sat_all : (σ : Assignment) (F : Formula) → ((c : Clause) → Memᴰ c F → 1 ≤ trues σ c) → Sat σ F
 sat_all σ [] h = tt

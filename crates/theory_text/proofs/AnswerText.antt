@@ -122,6 +122,7 @@ named_range : (a : Assignment) (i n : ℕ) (l : ℤ) → Memᴰ l (named_from a 
 unfolding named_from for_from
 named_range a i (suc n) l (here e) = let k : nat_abs l ≡ i = ap nat_abs e ∙ variable_of_chosen a i in (omega arith, omega arith)
 named_range a i (suc n) l (there m) = let r = named_range a (suc i) n l m in (omega (arith, r.0), omega (arith, r.1))
+named_range a i zero l x' = elim x' [ ]
 
 named_proper : (a : Assignment) (i n : ℕ) → 1 ≤ i → Proper (named_from a i n)
 unfolding named_from for_from

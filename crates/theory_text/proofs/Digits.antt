@@ -46,6 +46,7 @@ numeral_more m k (b ∷ t) h l f = (
   λ p. f.2 h,
   λ p. omega arith,
 )
+numeral_more m k [] h l f = elim f [ ]
 
 numeral_up_to : (d n : ℕ) → n < d → Numeral n (digits n)
 numeral_up_to zero n h = absurd (omega arith)
@@ -77,6 +78,7 @@ natural_numeral n (b ∷ c ∷ t) f =
     let h : 1 ≤ n = f.3 (omega arith) in
     let g : 49 ≤ b = f.2 h in
     rw (is_digit b f.0.0 f.0.1, ne_eqb b 48 (λ e. omega arith), all_digits (c ∷ t) f.0.2) (ap some f.1)
+natural_numeral n [] f = elim f [ ]
 
 pub natural_digits : (n : ℕ) → natural (digits n) ≡ some n
 natural_digits n = natural_numeral n (digits n) (numeral_digits n)
@@ -84,6 +86,7 @@ natural_digits n = natural_numeral n (digits n) (numeral_digits n)
 number_numeral : (n : ℕ) (t : Bytes) → Numeral n t → number t ≡ some (pos n)
 unfolding number is not_negated
 number_numeral n (b ∷ t) f = rw (ne_eqb b 45 (λ e. omega (arith, f.0.0)), natural_numeral n (b ∷ t) f)
+number_numeral n [] f = elim f [ ]
 
 pub number_literal : (l : ℤ) → number (literal_text l) ≡ some l
 unfolding literal_text number is negated
@@ -93,6 +96,7 @@ number_literal (negsuc n) = rw (natural_digits (suc n))
 -- ---- the bytes of a number: digits, `-` before them, at least one byte
 between_digits : (n : ℕ) (t : Bytes) → Numeral n t → Between 48 57 t
 between_digits n (b ∷ t) f = f.0
+between_digits n [] f = elim f [ ]
 
 between_wider : (t : Bytes) → Between 48 57 t → Between 45 57 t
 between_wider [] f = tt
@@ -108,6 +112,7 @@ literal_between (negsuc n) = (omega arith, omega arith, between_wider (digits (s
 
 numeral_some : (n : ℕ) (t : Bytes) → Numeral n t → 1 ≤ length t
 numeral_some n (b ∷ t) f = omega arith
+numeral_some n [] f = elim f [ ]
 
 digits_some : (n : ℕ) → 1 ≤ length (digits n)
 digits_some n = numeral_some n (digits n) (numeral_digits n)

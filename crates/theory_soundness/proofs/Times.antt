@@ -91,3 +91,4 @@ one_clause l (d ∷ F) e a b (here i) m (here j) n = i ∙ sym j
 one_clause l (d ∷ F) e a b (here i) m (there j) n = absurd (omega (arith, two_clauses l d F (rw i at m) b j n))
 one_clause l (d ∷ F) e a b (there i) m (here j) n = absurd (omega (arith, two_clauses l d F (rw j at n) a i m))
 one_clause l (d ∷ F) e a b (there i) m (there j) n = one_clause l F (omega (arith, times_at l i m, times_cons l d F)) a b i m j n
+one_clause l [] e a b x5 m _ n = elim x5 [ ]

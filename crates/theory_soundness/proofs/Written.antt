@@ -17,6 +17,7 @@ module _ {A : Type 0} where
   pub each : (P : A → Type 0) (xs : List A) → Each P xs → (x : A) → Memᴰ x xs → P x
   each P (y ∷ xs) h x (here e) = rw e h.0
   each P (y ∷ xs) h x (there i) = each P xs h.1 x i
+  each P [] h x x4 = elim x4 [ ]
 
   pub of_each : (P : A → Type 0) (xs : List A) → ((x : A) → Memᴰ x xs → P x) → Each P xs
   of_each P [] h = tt

@@ -36,6 +36,7 @@ module _ (g : ℤ → ℤ) where
   unrepeated_distinct (k ∷ c) n a b (here p) (there j) e = absurd (n (repeated_first k c b j (ap g (sym p) ∙ e)))
   unrepeated_distinct (k ∷ c) n a b (there i) (here q) e = absurd (n (repeated_first k c a i (ap g (sym q) ∙ sym e)))
   unrepeated_distinct (k ∷ c) n a b (there i) (there j) e = unrepeated_distinct c (λ t. n (or_r (holds (g k) (map g c)) _ t)) a b i j e
+  unrepeated_distinct [] n a b x4 _ e = elim x4 [ ]
 
   abbrev Twice : Clause → Type 0
   Twice c = (a b : ℤ) × Memᴰ a c × Memᴰ b c × (a ≢ b) × (g a ≡ g b)
@@ -49,6 +50,7 @@ module _ (g : ℤ → ℤ) where
           let r = Memᴰ.of_map g c (holds_mem (g k) (map g c) u) in
           (k, r.0, here refl, there r.1, λ e. p.1 (Memᴰ.cast e r.1), sym r.2)
       go (inr u) ih = let r = ih u in (r.0, r.1, there r.2, there r.3, r.4, r.5)
+  repeated_twice [] p t = elim t [ ]
 
 module _ (f : Formula) (cs : List Clause) where
   alignable_distinct : T (alignable f cs) → (c : Clause) → Memᴰ c cs → (a b : ℤ) → Memᴰ a c → Memᴰ b c → group f cs a ≡ group f cs b → a ≡ b

@@ -81,6 +81,7 @@ grouped_joins : (g : ℤ → ℤ) (ls : List (ℤ × ℤ)) (l : ℤ × ℤ) → 
 unfolding grouped
 grouped_joins g (k ∷ ls) l (here e) = rw e (grouped_keeps (join g k) ls k.0 k.1 (join_same g k))
 grouped_joins g (k ∷ ls) l (there i) = grouped_joins (join g k) ls l i
+grouped_joins g [] l x' = elim x' [ ]
 
 module _ (f : Formula) (cs : List Clause) where
   -- a chain joins a literal to its group's name

@@ -27,6 +27,7 @@ number_in_before (k ∷ gs) hs g h i n = go (same g k) (same h k) refl refl i (�
     go false true p q i ih = absurd (n (here (same_eq h k (of_true q))))
     go false false p q (here x) ih = absurd (unlike g k p x)
     go false false p q (there j) ih = omega (arith, ih j)
+number_in_before [] hs g h i n = elim i [ ]
 
 -- one place, one group
 number_in_unique : (gs : Clause) (g h : ℤ) → Memᴰ g gs → number_in gs g ≡ number_in gs h → g ≡ h
@@ -39,6 +40,7 @@ number_in_unique (k ∷ gs) g h i e = go (same g k) (same h k) refl refl i e (nu
     go false true p q i e ih = absurd (omega arith)
     go false false p q (here x) e ih = absurd (unlike g k p x)
     go false false p q (there j) e ih = ih j (omega arith)
+number_in_unique [] g h i e = elim i [ ]
 
 -- ---- the groups as first met
 -- the groups met so far, and one more

@@ -291,6 +291,7 @@ module _ (F : Formula) (c : Clash) (p : ProperAll F) (q : IsClash F c) where
       deleted (here e) = rw e (first_proper c.v c.one one_proper q.one_holds, highest_le h (first_one c) (λ y j. (f c.one q.one_stands y (one_same.0 y j)).1))
       deleted (there (here e)) = rw e
           (first_proper (neg_ℤ c.v) c.other other_proper q.other_holds, highest_le h (first_other c) (λ y j. (f c.other q.other_stands y (other_same.0 y j)).1))
+      deleted (there (there x9)) = elim x9 [ ]
 
       go : (t : Bool) → opposed (resolvent c) ≡ t →
           Memᴰ x (only_if (not t) (addition (resolvent c) ∷ []) ++ (deletion (first_one c) ∷ deletion (first_other c) ∷ [])) → LineFits h x

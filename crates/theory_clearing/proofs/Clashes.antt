@@ -152,6 +152,7 @@ clears_lines_fit {h} {F} p f (next {c = c} l s) x i = ⊎_elim
     (λ j. clash_lines_fit F c p l f x j)
     (λ j. clears_lines_fit (after_proper F c p l) (after_fits F c p l h f) s x j)
     (Memᴰ.append_cases (clash_lines c) i)
+clears_lines_fit {h = h} p f (no_more {F = F}) x i = elim i [ ]
 
 -- as many as clauses are enough
 pub empty_none : (F : Formula) → length F ≤ 0 → lowest_clash F ≡ none

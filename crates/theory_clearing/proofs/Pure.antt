@@ -130,6 +130,7 @@ unfolding lines lines_of pure_lines for_each literals
 eliminates_lines_fit {h} p f (next {d = d} {l = l} q r s) x (here e) = rw e
     (first_proper l d (p d q.stands) q.literal, highest_le h (with_first l d) (λ y j. (f d q.stands y ((first_same l d q.literal).0 y j)).1))
 eliminates_lines_fit p f (next q r s) x (there i) = eliminates_lines_fit (λ c j. p c (mem_removed r j)) (λ c j. f c (mem_removed r j)) s x i
+eliminates_lines_fit {h = h} p f (no_more {F = F}) x x18 = elim x18 [ ]
 
 -- a ULC of what is left was one before
 pub eliminates_unique : {F G : Formula} {es : List Event} → Eliminates F es G → (c : Clause) → Memᴰ c G → T (unique G c) → T (unique F c)

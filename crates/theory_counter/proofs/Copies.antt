@@ -77,6 +77,7 @@ pub copy_mem : (n : Clause → ℕ) (ps : Formula) (d : Clause) → Memᴰ d (fo
 unfolding for_each
 copy_mem n (p ∷ ps) d i =
     ⊎_elim (λ j. here (replicate_mem (n p) p d j)) (λ j. there (copy_mem n ps d j)) (Memᴰ.append_cases (replicate (n p) p) i)
+copy_mem n [] d i = elim i [ ]
 
 -- ---- as many as there are clauses that are copies of one of them
 count_either : (p q : Clause → Bool) (F : Formula) → ((d : Clause) → T (p d) → T (q d) → ⊥) → count (λ d. p d || q d) F ≡ count p F + count q F

@@ -33,6 +33,7 @@ pub record Pair (c d : Clause) : Type 0 where
 pairs_with_form : (a : ℤ) (c d : Clause) → Memᴰ d (pairs_with a c) → (b : ℤ) × Memᴰ b c × (d ≡ neg_ℤ a ∷ neg_ℤ b ∷ [])
 pairs_with_form a (b ∷ c) d (here e) = (b, here refl, e)
 pairs_with_form a (b ∷ c) d (there i) = let r = pairs_with_form a c d i in (r.0, there r.1, r.2)
+pairs_with_form a [] d x' = elim x' [ ]
 
 pub pair_form : (c : Clause) → Proper c → (d : Clause) → Memᴰ d (pairs c) → Pair c d
 unfolding pairs
@@ -45,6 +46,7 @@ pair_form (a ∷ c) p d i =
     let r = pair_form c p.3 d j in
     record { one = r.one; two = r.two; one_in = there r.one_in; two_in = there r.two_in; differ = r.differ; is = r.is })
     (Memᴰ.append_cases (pairs_with a c) i)
+pair_form [] p d i = elim i [ ]
 
 -- each literal of a pair is the negation of a literal of the clause
 pub pair_literal : {c d : Clause} → Pair c d → (x : ℤ) → Memᴰ x d → Memᴰ (neg_ℤ x) c
@@ -53,6 +55,7 @@ pair_literal {c} r x i = go (rw r.is at i)
     go : Memᴰ x (neg_ℤ r.one ∷ neg_ℤ r.two ∷ []) → Memᴰ (neg_ℤ x) c
     go (here e) = Memᴰ.cast (turn x r.one e) r.one_in
     go (there (here e)) = Memᴰ.cast (turn x r.two e) r.two_in
+    go (there (there x9)) = elim x9 [ ]
 
 pub pairs_absent : (x : ℤ) (c : Clause) → Proper c → (Memᴰ (neg_ℤ x) c → ⊥) → Absent x (pairs c)
 pairs_absent x c p n d i j = n (pair_literal (pair_form c p d i) x j)
@@ -79,6 +82,7 @@ pairs_with_spread a (b ∷ c) n p = (λ k i s. no k (pairs_with_form a c k i) s,
         go : Memᴰ (neg_ℤ b) (neg_ℤ a ∷ neg_ℤ r.0 ∷ []) → ⊥
         go (here e) = n (here (sym (sym (neg_ℤ-neg_ℤ b) ∙ turn (neg_ℤ b) a e)))
         go (there (here e)) = p.1 (Memᴰ.cast (sym (neg_ℤ-neg_ℤ b) ∙ turn (neg_ℤ b) r.0 e) r.1)
+        go (there (there x10)) = elim x10 [ ]
 
 pub pairs_spread : (c : Clause) → Proper c → Spread (pairs c)
 unfolding pairs

@@ -73,6 +73,7 @@ module _ {H : Formula} {K L : List Event} {xs : List Line} where
       none : Memᴰ (negsuc h) (pos (suc h) ∷ neg_ℤ y ∷ []) → ⊥
       none (here e) = let k : ◌≡◌ {A = ℕ} 0 1 = cc in omega arith
       none (there (here e)) = omega (arith, ap nat_abs e, natAbs_neg y, (f y (here refl)).1)
+      none (there (there x11)) = elim x11 [ ]
 
   -- defined by the clause r, which follows from it, and the clauses for the literals of r
   defined : (h : ℕ) (F : Formula) (r : Clause) → Fits h F → FitAll h r →
@@ -100,6 +101,7 @@ stage_2_added {H} {K} {L} xs h m (k ∷ c) F f u s =
     lits : FitAll (suc h) (pos (suc h) ∷ m ∷ [])
     lits y (here e) = rw e (fit_pos (suc h) h (omega arith))
     lits y (there (here e)) = rw e (f m (here refl))
+    lits y (there (there x11)) = elim x11 [ ]
 
     fits_three : Fits (suc (suc h)) three
     fits_three =
@@ -263,6 +265,7 @@ counter_added {F} {G} {H} {K} {L} {xs} h l m c p u f taken alone s =
 
     only : FitAll h (l ∷ [])
     only y (here e) = rw e (f l (here refl))
+    only y (there x4) = elim x4 [ ]
 
     fits : Fits (suc h) (F ++ firsts)
     fits =
@@ -275,9 +278,11 @@ counter_added {F} {G} {H} {K} {L} {xs} h l m c p u f taken alone s =
 
     first_in : Within (l ∷ []) (l ∷ m ∷ c)
     first_in x (here e) = here e
+    first_in x (there x5) = elim x5 [ ]
 
     apart : (x : ℤ) → Memᴰ x (m ∷ c) → Memᴰ x (l ∷ []) → ⊥
     apart x i (here e) = p.1 (Memᴰ.cast (sym e) i)
+    apart x i (there x5) = elim x5 [ ]
 
     none_of_firsts : (x : ℤ) → Memᴰ x (m ∷ c) → Absent x firsts
     none_of_firsts x i =

@@ -43,11 +43,13 @@ away_first l k (q ∷ N) z w d (here i) m = go (rw i at m)
     go (here e) = z e
     go (there n) = w q (here refl) l n refl
 away_first l k (q ∷ N) z w d (there i) m = away_first l k N z (λ x y. w x (there y)) d i m
+away_first l k [] z w d x4 m = elim x4 [ ]
 
 others_hold : (σ : Assignment) (l k : ℤ) (N : List Clause) → AllAway l N → Sat σ N → (d : Clause) → Memᴰ d (each_first k N) → 1 ≤ trues (make_true l σ) d
 unfolding trues count
 others_hold σ l k (q ∷ N) w s d (here i) = rw i (omega (arith, s.0, trues_same σ (make_true l σ) q (λ x m. unmoved l x σ (w q (here refl) x m))))
 others_hold σ l k (q ∷ N) w s d (there i) = others_hold σ l k N (λ x y. w x (there y)) s.1 d i
+others_hold σ l k [] w s d x3 = elim x3 [ ]
 
 module _ {H : Formula} {K L : List Event} {xs : List Line} (l : ℤ) (z : l ≢ pos 0) (k : Clear l K) where
   negations_deleted : {F G : Formula} (N : List Clause) → AllAway l N → Removes F (each_first (neg_ℤ l) N) G → Absent l G →

@@ -36,11 +36,13 @@ rotated x y w = (go, back)
     go z (here e) = there (there (here e))
     go z (there (here e)) = here e
     go z (there (there (here e))) = there (here e)
+    go z (there (there (there x13))) = elim x13 [ ]
 
     back : (z : ℤ) → Memᴰ z (y ∷ w ∷ x ∷ []) → Memᴰ z (x ∷ y ∷ w ∷ [])
     back z (here e) = there (here e)
     back z (there (here e)) = there (there (here e))
     back z (there (there (here e))) = here e
+    back z (there (there (there x13))) = elim x13 [ ]
 
 -- ---- the deletions are of different clauses
 differs_by : (x : ℤ) (d : Clause) (D : Formula) → Memᴰ x d → InNone x D → (k : Clause) → Memᴰ k D → Same d k → ⊥

@@ -87,6 +87,8 @@ link_mem h m [] y z i = go (same (neg_ℤ y) m) refl i
     go : (b : Bool) → same (neg_ℤ y) m ≡ b → Memᴰ z (cond b (pos (suc h) ∷ []) (y ∷ [])) → ((z ≡ y) × NoNegated (m ∷ []) y) ⊎ Between (suc h) (h + length (m ∷ [])) z
     go true e (here q) = inr (rw q (omega arith))
     go false e (here q) = inl (q, no_negated m [] y e (λ x j. absurd (Memᴰ.not-nil j)))
+    go false e (there x7) = elim x7 [ ]
+    go true e (there x8) = elim x8 [ ]
 link_mem h m (k ∷ c) y z i = go (same (neg_ℤ y) m) refl i (link_mem (suc h) k c y z)
   where
     go : (b : Bool) → same (neg_ℤ y) m ≡ b → Memᴰ z (cond b (pos (suc h) ∷ negsuc (suc h) ∷ []) (link_instead (suc h) (k ∷ c) y)) →
@@ -95,6 +97,7 @@ link_mem h m (k ∷ c) y z i = go (same (neg_ℤ y) m) refl i (link_mem (suc h) 
     go true e (here q) ih = inr (rw q (omega arith))
     go true e (there (here q)) ih = inr (rw q (omega arith))
     go false e j ih = ⊎_elim (λ p. inl (p.0, no_negated m (k ∷ c) y e p.1)) (λ p. inr (omega (arith, p.0, p.1))) (ih j)
+    go true e (there (there x11)) ih = elim x11 [ ]
 
 module _ (h : ℕ) (l m : ℤ) (c : Clause) where
   instead_mem : (y z : ℤ) → Memᴰ z (instead_from h l (m ∷ c) y) → ((z ≡ y) × NoNegated (l ∷ m ∷ c) y) ⊎ Between (suc h) (h + length (m ∷ c)) z
@@ -103,6 +106,7 @@ module _ (h : ℕ) (l m : ℤ) (c : Clause) where
       go : (b : Bool) → same (neg_ℤ y) l ≡ b → Memᴰ z (cond b (negsuc h ∷ []) (link_instead h (m ∷ c) y)) → ((z ≡ y) × NoNegated (l ∷ m ∷ c) y) ⊎ Between (suc h) (h + length (m ∷ c)) z
       go true e (here q) = inr (rw q (omega arith))
       go false e j = ⊎_elim (λ p. inl (p.0, no_negated l (m ∷ c) y e p.1)) (λ p. inr p) (link_mem h m c y z j)
+      go true e (there x5) = elim x5 [ ]
 
   replaced_mem : (d : Clause) (z : ℤ) → Memᴰ z (replaced_from h l (m ∷ c) d) → (Memᴰ z d × NoNegated (l ∷ m ∷ c) z) ⊎ Between (suc h) (h + length (m ∷ c)) z
   replaced_mem (y ∷ d) z i =
@@ -110,6 +114,7 @@ module _ (h : ℕ) (l m : ℤ) (c : Clause) where
       (λ j. ⊎_elim (λ p. inl (here p.0, rw p.0 p.1)) (λ p. inr p) (instead_mem y z j))
       (λ j. ⊎_elim (λ p. inl (there p.0, p.1)) (λ p. inr p) (replaced_mem d z j))
       (Memᴰ.append_cases (instead_from h l (m ∷ c) y) i)
+  replaced_mem [] z i = elim i [ ]
 
 -- ---- in the definition's words
 module _ (k : Choice) (u : WellFormed k) where

@@ -17,8 +17,8 @@ use Rattle.theory_base.specs.Clauses.{ProperAll, Fits}
 use Rattle.theory_base.proofs.Fitting.{ProperTo, proper_fits, line_to}
 use Rattle.theory_base.proofs.Replay.{AllClauses, AllLines, after-++, lines-++}
 use Rattle.theory_clearing.proofs.Clash.{IsClash}
-use Rattle.theory_clearing.proofs.Clashes.{Clears, next, clashes_clear}
-use Rattle.theory_clearing.proofs.Pure.{Eliminates, next as further, pure_eliminates}
+use Rattle.theory_clearing.proofs.Clashes.{Clears, next, clashes_clear, no_more}
+use Rattle.theory_clearing.proofs.Pure.{Eliminates, next as further, no_more as no_further, pure_eliminates}
 use Rattle.theory_clearing.proofs.Cleared.{cleared_facts, clearing_lines_proper}
 use Rattle.theory_room.specs.Choices.{clearing}
 
@@ -30,16 +30,18 @@ pub data Clearing : Event → Type 0 where
 clash_event : {F G : Formula} {es : List Event} → Clears F es G → (e : Event) → Memᴰ e es → Clearing e
 clash_event (next {c = c} l s) e (here q) = rw q (clash c)
 clash_event (next l s) e (there i) = clash_event s e i
+clash_event (no_more {F = F}) e x5 = elim x5 [ ]
 
 pure_event : {F G : Formula} {es : List Event} → Eliminates F es G → (e : Event) → Memᴰ e es → Clearing e
 pure_event (further {d = d} {l = l} q r s) e (here p) = rw p (pure_clause l d)
 pure_event (further q r s) e (there i) = pure_event s e i
+pure_event (no_further {F = F}) e x5 = elim x5 [ ]
 
 -- a clash where it is cleared
 clears_at : {F G : Formula} (xs ys : List Event) (c : Clash) → Clears F (xs ++ (clash_cleared c ∷ ys)) G → IsClash (after F (lines xs)) c
 unfolding lines lines_of for_each after
 clears_at [] ys c (next l s) = l
-clears_at {F} (x ∷ xs) ys c (next {c = d} l s) = rw (after-++ F (clash_lines d) (lines xs)) (clears_at xs ys c s)
+clears_at {F} (x ∷ xs) ys c (next {c = d} l s) = rw (after-++ F (clash_lines d) (lines xs)) (clears_at {F = after F (clash_lines d)} xs ys c s)
 
 pub clash_stands : (f : Formula) (xs ys : List Event) (c : Clash) → clear_clashes f ≡ xs ++ (clash_cleared c ∷ ys) → IsClash (after f (lines xs)) c
 clash_stands f xs ys c e = clears_at xs ys c (rw e at (clashes_clear f))

@@ -230,3 +230,4 @@ events_of_choices form g order n f (c ∷ cs) h e m =
   where
     later : FromChoices g (last_new (as_choice g n order c)) order cs e → FromChoices g n order (c ∷ cs) e
     later (from_choice m d e b i o) = from_choice m d e (omega (arith, last_new_above g (order c) n)) (there i) o
+events_of_choices form g order n f [] h e m = elim m [ ]

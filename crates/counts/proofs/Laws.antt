@@ -1,8 +1,5 @@
 -- Counts written one after the other.
-use mathlib.Core.Path.{◌≡◌, refl}
-use mathlib.Core.List.{List, [], ◌∷◌}
-use Prim.Native.Nat.{ℕ}
-use lib.ListN.{set}
+use Rattle.std.proofs.Common.{◌≡◌, refl, List, [], ◌∷◌, ℕ, set}
 use Rattle.counts.specs.Counts.{overwritten}
 
 -- one count, three counts, six counts

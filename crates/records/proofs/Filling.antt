@@ -1,10 +1,5 @@
--- Laws of a table that is filled from its start.
-use mathlib.Core.Path.{◌≡◌, refl, ◌∙◌, ap}
-use Prim.Native.Nat.{ℕ, zero, suc, ◌+◌, ◌<◌, ◌≤◌}
-use native.Mathlib.Nat.{add-zero, le_of_suc-le-suc, not-suc-le-zero}
-use native.Mathlib.Omega.{arith}
-use mathlib.Core.List.{List, [], ◌∷◌, ◌++◌}
-use lib.ListN.{length, drop, set}
+-- A table that is filled from its start.
+use Rattle.std.proofs.Common.{◌≡◌, refl, sym, ◌∙◌, ap, ℕ, zero, suc, ◌+◌, ◌<◌, List, [], ◌∷◌, ◌++◌, length, drop, set, arith}
 use Rattle.records.specs.declared.ChoiceRecord.{ChoiceRecord}
 use Rattle.records.specs.Rows.{row_of, records_in}
 
@@ -16,18 +11,18 @@ pub none_filled : (rows : List ℕ) (at : ℕ) (ys : List ChoiceRecord) → fill
 unfolding records_in
 none_filled rows at ys = refl
 
-pub length_filled : (rows : List ℕ) (at i : ℕ) (ys : List ChoiceRecord) → i ≤ length ys → length (filled_from rows at i ys) ≡ length ys
+put_behind : (rows : List ℕ) (at i : ℕ) (ys : List ChoiceRecord) → i < length ys → set (filled_from rows at i ys) i (row_of rows (at + i)) ≡ filled_from rows at (suc i) ys
 unfolding records_in
-length_filled rows at zero ys l = refl
-length_filled rows at (suc i) [] l = absurd (not-suc-le-zero l)
-length_filled rows at (suc i) (y ∷ ys) l = ap suc (length_filled rows (at + 1) i ys (le_of_suc-le-suc l))
-
--- the next record is put behind those that are there
-pub next_filled : (rows : List ℕ) (at i : ℕ) (ys : List ChoiceRecord) → i < length ys → set (filled_from rows at i ys) i (row_of rows (at + i)) ≡ filled_from rows at (suc i) ys
-unfolding records_in
-next_filled rows at i [] l = absurd (not-suc-le-zero l)
-next_filled rows at zero (y ∷ ys) l = ap (λ (k : ℕ). row_of rows k ∷ ys) (add-zero at)
-next_filled rows at (suc i) (y ∷ ys) l =
+put_behind rows at i [] l = absurd (omega arith)
+put_behind rows at zero (y ∷ ys) l = ap (λ (k : ℕ). row_of rows k ∷ ys) (omega arith)
+put_behind rows at (suc i) (y ∷ ys) l =
     let same : at + suc i ≡ at + 1 + i = omega arith in
     ap (λ (k : ℕ). row_of rows at ∷ set (filled_from rows (at + 1) i ys) i (row_of rows k)) same
-    ∙ ap (λ (zs : List ChoiceRecord). row_of rows at ∷ zs) (next_filled rows (at + 1) i ys (le_of_suc-le-suc l))
+    ∙ ap (λ (zs : List ChoiceRecord). row_of rows at ∷ zs) (put_behind rows (at + 1) i ys (omega arith))
+
+-- the next record is put behind those that are there
+pub next_filled : (rows : List ℕ) (i : ℕ) (ys : List ChoiceRecord) → i < length ys → set (filled_from rows 0 i ys) i (row_of rows i) ≡ filled_from rows 0 (i + 1) ys
+next_filled rows i ys l =
+    let e₀ : 0 + i ≡ i = omega arith in
+    let e₁ : suc i ≡ i + 1 = omega arith in
+    ap (λ (k : ℕ). set (filled_from rows 0 i ys) i (row_of rows k)) (sym e₀) ∙ put_behind rows 0 i ys l ∙ ap (λ (k : ℕ). filled_from rows 0 k ys) e₁

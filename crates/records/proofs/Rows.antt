@@ -1,13 +1,7 @@
 -- Records read out of rows: rows of zeros hold records of zeros, and the rows of records hold those records.
-use mathlib.Core.Path.{◌≡◌, refl, ◌∙◌, sym, ap, subst}
-use mathlib.Core.Bool.{Bool, true, false, not}
-use mathlib.Core.List.{List, [], ◌∷◌, ◌++◌, map}
-use Prim.Native.Nat.{ℕ, zero, suc, ◌+◌, ◌*◌, ◌<◌, ◌≤◌}
-use native.Mathlib.Omega.{arith}
-use lib.Dec.{T, ltb, ltb→lt, nltb→le}
-use lib.ListN.{length, drop, get_or, replicate}
-use lib.Seq.{sets, sets-eq}
-use borrow.Author.Tests.{lt-ltb, le-ltb}
+use Rattle.std.proofs.Common.{◌≡◌, refl, ◌∙◌, ap, ℕ, zero, suc, ◌+◌, ◌*◌, ◌≤◌, Bool, true, false, ltb, lt-ltb, List, [], ◌∷◌, ◌++◌, map, length, drop, get_or, replicate, arith}
+use Rattle.std.proofs.lemmas.Bool.Decides.{nat_tests}
+use Rattle.std.proofs.lemmas.List.Edits.{sets, sets-eq}
 use Rattle.definition.specs.Lists.{for_each}
 use Rattle.definition.specs.Events.{TableRecord}
 use Rattle.records.specs.Rows.{shown_record, rows_of, no_record, record_from, if_there, row_of, records_in}
@@ -25,9 +19,7 @@ none_there false = refl
 
 row_of_zeros : (k at : ℕ) → row_of (replicate k 0) at ≡ no_record
 unfolding row_of
-row_of_zeros k at =
-    let same : record_from (replicate k 0) (3 * at) ≡ no_record = λ i. record { first = zeros_at k (3 * at) i; length = zeros_at k (3 * at + 1) i; clauses = zeros_at k (3 * at + 2) i } in
-    ap (if_there (ltb (3 * at + 2) (length (replicate k 0)))) same ∙ none_there (ltb (3 * at + 2) (length (replicate k 0)))
+row_of_zeros k at = simp (zeros_at, none_there)
 
 pub records_in_zeros : (k at n : ℕ) → records_in (replicate k 0) at n ≡ replicate n no_record
 unfolding records_in
@@ -37,15 +29,7 @@ records_in_zeros k at (suc n) = λ i. row_of_zeros k at i ∷ records_in_zeros k
 -- ---- rows of records
 
 three_up : (m n : ℕ) → ltb (suc (suc (suc m))) (suc (suc (suc n))) ≡ ltb m n
-three_up m n = go (ltb m n) refl
-  where
-    go : (t : Bool) → ltb m n ≡ t → ltb (suc (suc (suc m))) (suc (suc (suc n))) ≡ t
-    go true e =
-        let below : m < n = ltb→lt m n (subst T (sym e) tt) in
-        lt-ltb (suc (suc (suc m))) (suc (suc (suc n))) (omega (arith, below))
-    go false e =
-        let above : n ≤ m = nltb→le m n (subst (λ (t : Bool). T (not t)) (sym e) tt) in
-        le-ltb (suc (suc (suc m))) (suc (suc (suc n))) (omega (arith, above))
+three_up m n = grind (arith, nat_tests)
 
 -- past the first row
 row_next : (a b c : ℕ) (rows : List ℕ) (at : ℕ) → row_of (a ∷ b ∷ c ∷ rows) (at + 1) ≡ row_of rows at
@@ -54,9 +38,7 @@ row_next a b c rows at =
     let e₀ : 3 * (at + 1) ≡ suc (suc (suc (3 * at))) = omega arith in
     let e₁ : 3 * (at + 1) + 1 ≡ suc (suc (suc (3 * at + 1))) = omega arith in
     let e₂ : 3 * (at + 1) + 2 ≡ suc (suc (suc (3 * at + 2))) = omega arith in
-    let all : List ℕ = a ∷ b ∷ c ∷ rows in
-    ap (λ (t : Bool). if_there t (record_from all (3 * (at + 1)))) (ap (λ (p : ℕ). ltb p (length all)) e₂ ∙ three_up (3 * at + 2) (length rows))
-    ∙ (λ i. if_there (ltb (3 * at + 2) (length rows)) (record { first = get_or all (e₀ i) 0; length = get_or all (e₁ i) 0; clauses = get_or all (e₂ i) 0 }))
+    rw (e₂, e₁, e₀) (ap (λ (t : Bool). if_there t (record_from rows (3 * at))) (three_up (3 * at + 2) (length rows)))
 
 rows_next : (a b c : ℕ) (rows : List ℕ) (at n : ℕ) → records_in (a ∷ b ∷ c ∷ rows) (at + 1) n ≡ records_in rows at n
 unfolding records_in

@@ -1,10 +1,12 @@
 // Records of choices in a lent table: read, written, filled from rows of three numbers.
+#![tactic(auto)]
+
 ghost use Rattle.std.specs.Prelude.{◌≡◌, ◌++◌, ◌<◌, ◌≤◌, length, set, get_or, drop, replicate};
 ghost use Rattle.records.specs.Rows.{no_record, row_of, records_in};
 
 // What is written down of a choice: its first new variable, its length, and how many input clauses went into it.
 #[repr(C)]
-#[derive(Drop)]
+#[derive(Clone, Copy)]
 pub struct ChoiceRecord {
     pub first: u32,
     pub length: u32,

@@ -24,7 +24,7 @@ use text::{Line, Natural, Number, Word};
 // ---- limits
 
 // The most that a text may have.
-#[derive(Drop)]
+#[derive(Clone, Copy)]
 pub struct Limits {
     pub variables: u32,
     pub clauses: u32,

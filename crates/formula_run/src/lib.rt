@@ -11,7 +11,7 @@ ghost use Rattle.formula_run.specs.Result.{Left, Finishes, Stepped, Answers};
 use run::{Ran, Reached, Settings};
 
 // The result: choices, H, M, log lines and both byte lengths.
-#[derive(Drop)]
+#[derive(Clone, Copy)]
 pub struct Tally {
     pub choices: usize,
     pub highest: u32,

@@ -16,7 +16,7 @@ ghost use Rattle.progress.specs.Growth.{GrowRoom, Grown, EntryThere};
 use store::Added;
 
 // How far a run is: the store's end, the log's end and the lines in the log.
-#[derive(Drop)]
+#[derive(Clone, Copy)]
 pub struct Progress {
     pub end: usize,
     pub at: usize,

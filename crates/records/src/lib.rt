@@ -4,7 +4,7 @@ ghost use Rattle.records.specs.Rows.{no_record, row_of, records_in};
 
 // What is written down of a choice: its first new variable, its length, and how many input clauses went into it.
 #[repr(C)]
-#[derive(Drop)]
+#[derive(Clone, Copy)]
 pub struct ChoiceRecord {
     pub first: u32,
     pub length: u32,

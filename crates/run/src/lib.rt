@@ -20,7 +20,7 @@ ghost use Rattle.run.specs.Run.{ClearReady, input_in, RunReady, RanAll};
 use progress::Progress;
 
 // The form that the caller names.
-#[derive(Drop)]
+#[derive(Clone, Copy)]
 pub enum Form {
     Counter,
     Order,

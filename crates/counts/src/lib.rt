@@ -1,4 +1,6 @@
 // Counts written into a lent tally, as many as fit.
+#![tactic(auto)]
+
 ghost use Rattle.std.specs.Prelude.{◌≡◌, [], ◌∷◌, length, set, replicate};
 ghost use Rattle.counts.specs.Counts.{overwritten};
 

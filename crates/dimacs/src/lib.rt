@@ -1,4 +1,6 @@
 // DIMACS CNF: a formula read into a store, and written from one.
+#![tactic(auto)]
+
 ghost use Rattle.std.specs.Prelude.{◌≡◌, false, List, [], ◌++◌, ◌+◌, ◌*◌, ◌-◌, ◌≤◌, ◌<◌, ◌^◌, ℤ, length, drop};
 ghost use Rattle.definition.specs.Lists.{for_each};
 ghost use Rattle.definition.specs.Literals.{Clause};

@@ -1,4 +1,6 @@
 // A formula's text read, run over, and what then stands written: what reencoding and sizes share. Texts go as far as the buffers do, and are counted whole.
+#![tactic(auto)]
+
 ghost use Rattle.std.specs.Prelude.{◌≡◌, ◌<◌, length};
 ghost use Rattle.definition.specs.Calls.{reencoded, step_allowed, limited};
 ghost use Rattle.store.specs.Store.{Formed, stored};

@@ -1,4 +1,6 @@
 // Recording: proof lines go into the log's buffer, and are counted.
+#![tactic(auto)]
+
 ghost use Rattle.std.specs.Prelude.{◌≡◌, true, [], ◌∷◌, ◌++◌, ◌+◌, ◌-◌, ◌*◌, ◌≤◌, ◌<◌, ◌^◌, length, take, drop};
 ghost use Rattle.definition.specs.Text.{Bytes, bytes, literal_text};
 ghost use Rattle.definition.specs.Literals.{without, with_first};

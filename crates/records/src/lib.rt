@@ -1,4 +1,6 @@
 // Records of choices in a lent table: read, written, filled from rows of three numbers.
+#![tactic(auto)]
+
 ghost use Rattle.std.specs.Prelude.{◌≡◌, ◌++◌, ◌<◌, ◌≤◌, length, set, get_or, drop, replicate};
 ghost use Rattle.records.specs.Rows.{no_record, row_of, records_in};
 

@@ -1,4 +1,6 @@
 // A run over the store and its index: clashes and pure literals cleared, then the choices chosen, arranged and taken.
+#![tactic(auto)]
+
 ghost use Rattle.std.specs.Prelude.{◌≡◌, [], ◌∷◌, ◌+◌, ◌*◌, ◌<◌, ◌^◌, length, take, replicate};
 ghost use Rattle.definition.specs.Alignment.{arranged};
 ghost use Rattle.definition.specs.Clearing.{clear_clashes};

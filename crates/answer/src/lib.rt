@@ -1,4 +1,6 @@
 // A solver's answer read into a table, and an assignment written as a line.
+#![tactic(auto)]
+
 ghost use Rattle.std.specs.Prelude.{◌≡◌, ◌+◌, ◌-◌, ◌≤◌, ◌<◌, ◌^◌, length, get_or, drop};
 ghost use Rattle.definition.specs.Checked.{through};
 ghost use Rattle.definition.specs.Text.{bytes, same_bytes, words_by};

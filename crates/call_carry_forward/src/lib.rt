@@ -1,4 +1,6 @@
 // Carrying forward: a plan for a formula is tested, carried over the kept lines of the formula's log, tested against what stands there and written.
+#![tactic(auto)]
+
 ghost use Rattle.std.specs.Prelude.{◌≡◌, length, take};
 ghost use Rattle.definition.specs.Calls.{buffer_after};
 ghost use Rattle.theory_base.specs.Slices.{between};

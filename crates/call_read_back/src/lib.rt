@@ -1,4 +1,6 @@
 // The published call read_back: the new formula read back into a store.
+#![tactic(auto)]
+
 ghost use Rattle.std.specs.Prelude.{◌≡◌, pos, length, replicate};
 ghost use Rattle.definition.specs.Calls.{buffer_after};
 ghost use Rattle.dimacs.specs.Entries.{entries_of};

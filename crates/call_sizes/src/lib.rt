@@ -1,4 +1,6 @@
 // Size before the run: the published call.
+#![tactic(auto)]
+
 ghost use Rattle.std.specs.Prelude.{◌≡◌};
 ghost use Rattle.formula_run.specs.Outcome.{tallied_of};
 ghost use Rattle.call_sizes.specs.Outcome.{outcome as outcome_defined};

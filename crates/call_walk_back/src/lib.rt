@@ -1,4 +1,6 @@
 // Walking back: a log's kept lines are replayed over a formula, and a solver's answer is tested, carried back and written.
+#![tactic(auto)]
+
 ghost use Rattle.std.specs.Prelude.{◌≡◌};
 ghost use Rattle.definition.specs.Calls.{buffer_after};
 ghost use Rattle.carry.specs.Carried.{carried_of, Carries};

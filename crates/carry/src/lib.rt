@@ -1,4 +1,6 @@
 // An assignment tested against a store, carried back or forward over the loaded lines of a log, and written.
+#![tactic(auto)]
+
 ghost use Rattle.std.specs.Prelude.{◌≡◌, cond, not, ◌≤◌, ◌<◌, ◌^◌, length, take, drop};
 ghost use Rattle.definition.specs.Checked.{Checked};
 ghost use Rattle.definition.specs.Literals.{highest};

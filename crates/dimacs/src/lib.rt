@@ -1,4 +1,6 @@
 // DIMACS CNF: a formula read into a store, and written from one.
+#![tactic(auto)]
+
 ghost use Rattle.std.specs.Prelude.{◌≡◌, false, List, [], ◌++◌, ◌+◌, ◌*◌, ◌-◌, ◌≤◌, ◌<◌, ◌^◌, ℤ, length, drop};
 ghost use Rattle.definition.specs.Lists.{for_each};
 ghost use Rattle.definition.specs.Literals.{Clause};
@@ -24,7 +26,7 @@ use text::{Line, Natural, Number, Word};
 // ---- limits
 
 // The most that a text may have.
-#[derive(Drop)]
+#[derive(Clone, Copy)]
 pub struct Limits {
     pub variables: u32,
     pub clauses: u32,

@@ -1,4 +1,6 @@
 // Proof lines: written into a log; the kept lines of a log are read into a store.
+#![tactic(auto)]
+
 ghost use Rattle.std.specs.Prelude.{◌≡◌, [], ◌+◌, ◌*◌, ◌≤◌, ◌<◌, ◌^◌, length, drop, false, cond};
 ghost use Rattle.definition.specs.Text.{bytes, same_bytes, number};
 ghost use Rattle.definition.specs.LogReading.{read_log};

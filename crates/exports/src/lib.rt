@@ -1,5 +1,7 @@
 // The published calls on numbers and slices, for programs in other languages to link.
 // A call answers 0, or document 01's number of the refusal; its counts go into the tally, as many as fit.
+#![tactic(auto)]
+
 ghost use Rattle.std.specs.Prelude.{◌≡◌, [], ◌∷◌, pos, length};
 ghost use Rattle.definition.specs.Checked.{Checked};
 ghost use Rattle.definition.specs.Text.{Bytes};

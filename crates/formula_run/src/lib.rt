@@ -1,4 +1,6 @@
 // A formula's text read, run over, and what then stands written: what reencoding and sizes share. Texts go as far as the buffers do, and are counted whole.
+#![tactic(auto)]
+
 ghost use Rattle.std.specs.Prelude.{◌≡◌, ◌<◌, length};
 ghost use Rattle.definition.specs.Calls.{reencoded, step_allowed, limited};
 ghost use Rattle.store.specs.Store.{Formed, stored};
@@ -11,7 +13,7 @@ ghost use Rattle.formula_run.specs.Result.{Left, Finishes, Stepped, Answers};
 use run::{Ran, Reached, Settings};
 
 // The result: choices, H, M, log lines and both byte lengths.
-#[derive(Drop)]
+#[derive(Clone, Copy)]
 pub struct Tally {
     pub choices: usize,
     pub highest: u32,

@@ -1,4 +1,6 @@
 // Clauses found by literal: nodes at the workspace's end, two elements for each literal of the store at its start, and a table of each literal's last node.
+#![tactic(auto)]
+
 ghost use Rattle.std.specs.Prelude.{◌≡◌, ◌+◌, ◌-◌, ◌*◌, ◌≤◌, ◌<◌, ◌^◌, length, take, drop, set};
 ghost use Rattle.theory_base.specs.Cells.{cells_of};
 ghost use Rattle.literals.specs.Literal.{index_of, header_of, largest};

@@ -1,4 +1,6 @@
 // Literals are i32, negative for a negated variable; all arithmetic on signed numbers is here.
+#![tactic(auto)]
+
 ghost use Rattle.std.specs.Prelude.{◌≡◌, min, max, eqb, nat_abs};
 ghost use Rattle.definition.specs.Literals.{same as same_literal};
 ghost use Rattle.literals.specs.Literal.{negative, signed_of, negation, index_of, header_of, flip, header_literals};

@@ -1,4 +1,6 @@
 // The three texts of a call that carries an assignment over a log: the formula, the kept lines, and an answer or a plan.
+#![tactic(auto)]
+
 ghost use Rattle.std.specs.Prelude.{◌≡◌, cond, ◌≤◌, ◌<◌, ltb, length};
 ghost use Rattle.definition.specs.Calls.{read_texts};
 ghost use Rattle.tables.specs.Sizes.{log_reach};

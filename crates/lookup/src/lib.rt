@@ -1,4 +1,6 @@
 // Clauses looked up by a literal in the index: one that stands, the first with some literals, those with a negated literal of a choice in list order.
+#![tactic(auto)]
+
 ghost use Rattle.std.specs.Prelude.{◌≡◌, ℕ, ◌+◌, ◌*◌, ◌≤◌, ◌<◌, ◌^◌, nat_abs, pos, length, take, drop, get_or};
 ghost use Rattle.definition.specs.Clearing.{times};
 ghost use Rattle.theory_base.specs.Clauses.{FitAll};

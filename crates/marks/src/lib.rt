@@ -1,4 +1,6 @@
 // Marks of variables, thirty-two to a word: set, cleared, and the lowest found by counting the trailing zeros of the first word that is not 0.
+#![tactic(auto)]
+
 ghost use Rattle.std.specs.Prelude.{◌≡◌, ℕ, ◌*◌, ◌/◌, ◌%◌, ◌≤◌, ◌<◌, ◌^◌, length, get_or};
 ghost use Rattle.marks.specs.Marks.{digit, WithMark, WithoutMark, lowest_from as lowest_marked_from};
 

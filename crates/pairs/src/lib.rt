@@ -1,4 +1,6 @@
 // The pairs of a choice in a store: looked up by literal, deleted and counted, and their deletions recorded by the counts.
+#![tactic(auto)]
+
 ghost use Rattle.std.specs.Prelude.{◌≡◌, ◌<◌, ◌≤◌, nat_abs, length, take, drop, replicate};
 ghost use Rattle.definition.specs.Standing.{deletion};
 ghost use Rattle.theory_base.specs.Clauses.{FitAll};

@@ -1,4 +1,6 @@
 // The list of choices: the unique literal clauses of 5 to 64 literals, in a store of their own.
+#![tactic(auto)]
+
 ghost use Rattle.std.specs.Prelude.{◌≡◌, [], ◌∷◌, ◌+◌, ◌<◌, ◌≤◌, length, drop};
 ghost use Rattle.definition.specs.Calls.{numbers_of};
 ghost use Rattle.definition.specs.Counter.{choices};

@@ -1,4 +1,6 @@
 // Clearing clashes: a variable stands in one unique literal clause and its negation in another. One pass over the store marks the variables that clash; from then on marks are only cleared, and the lowest is next; its two clauses are looked up in the index. A table of weights of literals counts the input clauses of each clause that stands.
+#![tactic(auto)]
+
 ghost use Rattle.std.specs.Prelude.{◌≡◌, true, false, [], ◌∷◌, ◌+◌, ◌≤◌, ◌<◌, ◌^◌, ltb, pos, nat_abs, length, take, drop, get_or, set, replicate};
 ghost use Rattle.std.proofs.lemmas.List.Edits.{sets};
 ghost use Rattle.definition.specs.Lists.{any};

@@ -1,4 +1,6 @@
 // Counter form of one choice over an indexed store.
+#![tactic(auto)]
+
 ghost use Rattle.std.specs.Prelude.{◌≡◌, [], ◌∷◌, ◌-◌, ◌≤◌, length, take, replicate};
 ghost use Rattle.definition.specs.Lists.{for_from};
 ghost use Rattle.definition.specs.Standing.{take_out};

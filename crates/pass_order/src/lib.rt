@@ -1,4 +1,6 @@
 // Order form of one choice over the store.
+#![tactic(auto)]
+
 ghost use Rattle.std.specs.Prelude.{◌≡◌, [], ◌∷◌, ◌+◌, ◌≤◌, nat_abs, pos, length, take, drop, get_or};
 ghost use Rattle.definition.specs.Lists.{only_if, for_from};
 ghost use Rattle.definition.specs.Events.{choice_of};

@@ -1,4 +1,6 @@
 // Deleting clauses for a pure literal: the unique literal clauses that have one, save those of 5 to 64 literals.
+#![tactic(auto)]
+
 ghost use Rattle.std.specs.Prelude.{◌≡◌, ◌<◌, ◌^◌, length, drop};
 ghost use Rattle.definition.specs.Lists.{first as first_of};
 ghost use Rattle.definition.specs.Clearing.{clear_pure};

@@ -1,4 +1,6 @@
 // What the programs share: arguments, files, and the line of a refusal.
+#![tactic(auto)]
+
 ghost use Rattle.io.specs.Counts.{IsPrefixLen};
 
 use formula_run::Tallied;

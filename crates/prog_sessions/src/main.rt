@@ -1,4 +1,6 @@
 // Runs the listed sessions that are not shown by proof, a line for each.
+#![tactic(auto)]
+
 mod texts;
 
 use formula_run::{Tallied, Tally};

@@ -1,4 +1,6 @@
 // Buffers and workspaces of just the length that is asked for, and one short: the refusal, and its buffers all zero.
+#![tactic(auto)]
+
 use carry::Carried;
 use formula_run::Tallied;
 use libc::STDOUT_FILENO;

@@ -1,5 +1,7 @@
 // Walks a solver's answer, on standard input, back to the formula and prints the plan's line. The arguments are the formula's file, the
 // log's file and the number of lines to keep.
+#![tactic(auto)]
+
 use carry::Carried;
 
 // Walks an answer back and prints the line, or the number of the refusal.

@@ -1,4 +1,6 @@
 // Recording: proof lines go into the log's buffer, and are counted.
+#![tactic(auto)]
+
 ghost use Rattle.std.specs.Prelude.{◌≡◌, true, [], ◌∷◌, ◌++◌, ◌+◌, ◌-◌, ◌*◌, ◌≤◌, ◌<◌, ◌^◌, length, take, drop};
 ghost use Rattle.definition.specs.Text.{Bytes, bytes, literal_text};
 ghost use Rattle.definition.specs.Literals.{without, with_first};
@@ -16,7 +18,7 @@ ghost use Rattle.progress.specs.Growth.{GrowRoom, Grown, EntryThere};
 use store::Added;
 
 // How far a run is: the store's end, the log's end and the lines in the log.
-#[derive(Drop)]
+#[derive(Clone, Copy)]
 pub struct Progress {
     pub end: usize,
     pub at: usize,

@@ -1,4 +1,6 @@
 // The result of a clause in order form: its negated choice literals replaced. Tested, and written behind the store.
+#![tactic(auto)]
+
 ghost use Rattle.std.specs.Prelude.{◌≡◌, [], ◌∷◌, ◌+◌, ◌≤◌, length, take, drop};
 ghost use Rattle.std.proofs.lemmas.List.Edits.{sets};
 ghost use Rattle.definition.specs.Lists.{any, only_if};

@@ -1,4 +1,6 @@
 // A run over the store and its index: clashes and pure literals cleared, then the choices chosen, arranged and taken.
+#![tactic(auto)]
+
 ghost use Rattle.std.specs.Prelude.{◌≡◌, [], ◌∷◌, ◌+◌, ◌*◌, ◌<◌, ◌^◌, length, take, replicate};
 ghost use Rattle.definition.specs.Alignment.{arranged};
 ghost use Rattle.definition.specs.Clearing.{clear_clashes};
@@ -20,7 +22,7 @@ ghost use Rattle.run.specs.Run.{ClearReady, input_in, RunReady, RanAll};
 use progress::Progress;
 
 // The form that the caller names.
-#[derive(Drop)]
+#[derive(Clone, Copy)]
 pub enum Form {
     Counter,
     Order,

@@ -1,4 +1,6 @@
 // Clauses in a lent slice, the store: a clause is a header and its literals; -1 - n in place of the header n says that it is deleted.
+#![tactic(auto)]
+
 ghost use Rattle.std.specs.Prelude.{◌≡◌, cond, ◌+◌, ◌≤◌, ◌<◌, ◌^◌, length, set, take, drop};
 ghost use Rattle.std.proofs.lemmas.List.Edits.{sets};
 ghost use Rattle.definition.specs.Lists.{all};

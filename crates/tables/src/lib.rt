@@ -1,4 +1,6 @@
 // Tables with an entry at each literal's index: entries read and set, literals counted and tested by their counts, literals stamped. A table reads 0 past its end, and nothing is stored there.
+#![tactic(auto)]
+
 ghost use Rattle.std.specs.Prelude.{◌≡◌, ◌≤◌, ◌<◌, ◌^◌, nat_abs, length, get_or, set};
 ghost use Rattle.definition.specs.Lists.{all, sum_of};
 ghost use Rattle.definition.specs.Literals.{Clause};

@@ -1,4 +1,6 @@
 // Bytes to words, lines and numbers; numbers and clauses to bytes.
+#![tactic(auto)]
+
 ghost use Rattle.std.specs.Prelude.{◌≡◌, true, false, [], ◌∷◌, ◌++◌, ◌+◌, ◌*◌, ◌-◌, ◌≤◌, ◌<◌, ◌^◌, min, length, drop, set, replicate};
 ghost use Rattle.definition.specs.Text.{bytes, blank, digit, digits, literal_text, natural, number};
 ghost use Rattle.definition.specs.Answer.{begins_with, space_or_tab};

@@ -1,1 +1,3 @@
+#![tactic(auto)]
+
 // Alignment's notions and its computation agree, under proofs/; this crate has no function.

@@ -1,1 +1,3 @@
+#![tactic(auto)]
+
 // Clearing clashes and pure literals is sound, under proofs/; this crate has no function.

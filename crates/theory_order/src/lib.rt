@@ -1,1 +1,3 @@
+#![tactic(auto)]
+
 // The order form of a choice is sound, under proofs/; this crate has no function.

@@ -35,6 +35,7 @@ added_highest : (d : Clause) (x : ℤ) (cs : List Clause) → Memᴰ d cs → Me
 unfolding highest_in literals
 added_highest d x (c ∷ cs) (here e) m = omega (arith, highest_at c x (rw e at m))
 added_highest d x (c ∷ cs) (there i) m = omega (arith, added_highest d x cs i m)
+added_highest d x [] x3 m = elim x3 [ ]
 
 taken_highest : (c : Clause) (k : Choice) → WellFormed k → (f : Formula) → last_new k ≤ highest_in (lines_of (take_choice f c k))
 unfolding last_new

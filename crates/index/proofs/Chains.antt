@@ -33,7 +33,7 @@ module _ {n : ℕ} {work new : List ℤ} (e : SameNodes n work new) where
       ap (λ (k : ℕ). header_literals (get_or new (k - 2 * t + 1) (pos 0))) e.size
       ∙ ap header_literals (getD_behind new work (length work - 2 * n) (length work - 2 * t + 1) (pos 0) e.same (omega arith))
 
-pub chain_kept : {n t : ℕ} {work new : List ℤ} {ps : List ℕ} → SameNodes n work new → t ≤ n → Chain work t ps → Chain new t ps
+pub chain_kept : {n : ℕ} {work new : List ℤ} {t : ℕ} {ps : List ℕ} → SameNodes n work new → t ≤ n → Chain work t ps → Chain new t ps
 chain_kept e h none = none
 chain_kept e h (node {t = t} p o l c) = node (same_place e t h ∙ p) (same_older e t h ∙ o) l (chain_kept e (omega arith) c)
 

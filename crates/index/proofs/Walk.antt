@@ -162,6 +162,7 @@ pushed_new l at (x ∷ c) ps (here e) =
     let z : same l x ≡ true = subst (λ (y : ℤ). same l y ≡ true) e (to_true (literal_same l)) in
     pushed_keeps l at c (cond (same l x) (at ∷ ps) ps) at (rw z (here refl))
 pushed_new l at (x ∷ c) ps (there i) = pushed_new l at c (cond (same l x) (at ∷ ps) ps) i
+pushed_new l at [] ps x' = elim x' [ ]
 
 pushed_cases : (l : ℤ) (at : ℕ) (c : Clause) (ps : List ℕ) (p : ℕ) → Memᴰ p (pushed l at c ps) → Memᴰ p ps ⊎ ((p ≡ at) × Memᴰ l c)
 unfolding pushed

@@ -1,5 +1,5 @@
 // The texts of the sessions, and lines of a log.
-use libc::STDOUT_FILENO;
+use std::io;
 
 // Puts a byte at a place, if the buffer reaches so far; the answer is the next place.
 fn put_byte(buf: &mut [u8], at: usize, b: u8) -> usize {
@@ -24,7 +24,7 @@ fn put_word(buf: &mut [u8], at: usize, word: &[u8]) -> usize {
 // Puts a number in decimal at a place.
 fn put_number(buf: &mut [u8], at: usize, n: u32) -> usize {
     let mut digits = [0u8; 20];
-    let k = io::decimal(n as u64, &mut digits);
+    let k = text::put_number(&mut digits, 0, n);
     put_word(buf, at, &digits[..k])
 }
 
@@ -98,10 +98,11 @@ pub fn past_lines(text: &[u8], lines: usize) -> usize {
 }
 
 // Prints the bytes between two places.
-pub fn print_part(text: &[u8], a: usize, b: usize) {
+pub fn print_part(rt: &impl Print, text: &[u8], a: usize, b: usize) -> io::Result<()> {
     if a <= b {
         if b <= text.len() {
-            io::write_all(STDOUT_FILENO, &text[a..b]);
+            rt.write_all(&text[a..b])?;
         }
     }
+    Ok(())
 }

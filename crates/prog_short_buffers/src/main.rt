@@ -3,8 +3,8 @@
 
 use carry::Carried;
 use formula_run::Tallied;
-use libc::STDOUT_FILENO;
 use run::{Arrangement, Form, Settings};
+use std::io;
 
 // Fills a buffer with a pattern.
 fn fill(buf: &mut [u8]) {
@@ -28,18 +28,16 @@ fn is_zero(buf: &[u8]) -> bool {
 }
 
 // Prints the number of the outcome after the call's name.
-fn print_outcome(name: &[u8], n: u8) {
-    io::write_all(STDOUT_FILENO, name);
-    io::write_all(STDOUT_FILENO, b" ");
-    io::print_decimal(STDOUT_FILENO, n as u64);
+fn print_outcome(rt: &impl Print, name: &str, n: u8) -> io::Result<()> {
+    print!(rt; "{name} {n}")
 }
 
 // Prints whether a buffer is all zero.
-fn print_zero(is_all: bool) {
+fn print_zero(rt: &impl Print, is_all: bool) -> io::Result<()> {
     if is_all {
-        io::write_all(STDOUT_FILENO, b" zero");
+        print!(rt; " zero")
     } else {
-        io::write_all(STDOUT_FILENO, b" filled");
+        print!(rt; " filled")
     }
 }
 
@@ -55,77 +53,107 @@ fn order() -> Settings {
 }
 
 // Prints the bytes of log and formula in order form, told beforehand.
-fn print_sizes(text: &[u8], work: &mut [i32]) {
+fn print_sizes(rt: &impl Print, text: &[u8], work: &mut [i32]) -> io::Result<()> {
     match call_sizes::sizes(text, order(), work) {
         Tallied::Done(t) => {
-            print_outcome(b"sizes", 0);
-            prog_common::print_number(t.log_bytes);
-            prog_common::print_number(t.formula_bytes);
+            print_outcome(rt, "sizes", 0)?;
+            prog_common::print_number(rt, t.log_bytes)?;
+            prog_common::print_number(rt, t.formula_bytes)?;
         }
-        Tallied::Refused(n) => print_outcome(b"sizes", n),
+        Tallied::Refused(n) => print_outcome(rt, "sizes", n)?,
     }
-    io::write_all(STDOUT_FILENO, b"\n");
+    println!(rt)
 }
 
 // Reencodes a formula in order form, over filled buffers.
-fn print_reencoding(text: &[u8], work: &mut [i32], log: &mut [u8], formula: &mut [u8]) {
+fn print_reencoding(
+    rt: &impl Print,
+    text: &[u8],
+    work: &mut [i32],
+    log: &mut [u8],
+    formula: &mut [u8],
+) -> io::Result<()> {
     fill(log);
     fill(formula);
     match call_reencode::reencode_texts(text, order(), work, log, formula) {
-        Tallied::Done(_) => print_outcome(b"reencode", 0),
-        Tallied::Refused(n) => print_outcome(b"reencode", n),
+        Tallied::Done(_) => print_outcome(rt, "reencode", 0)?,
+        Tallied::Refused(n) => print_outcome(rt, "reencode", n)?,
     }
-    print_zero(is_zero(log));
-    print_zero(is_zero(formula));
-    io::write_all(STDOUT_FILENO, b"\n");
+    print_zero(rt, is_zero(log))?;
+    print_zero(rt, is_zero(formula))?;
+    println!(rt)
 }
 
 // Prints the outcome of a call that writes a line, and whether its buffer is all zero.
-fn print_carried(name: &[u8], r: Carried, out: &[u8]) {
+fn print_carried(rt: &impl Print, name: &str, r: Carried, out: &[u8]) -> io::Result<()> {
     match r {
-        Carried::Line(_) => print_outcome(name, 0),
-        Carried::Refused(n) => print_outcome(name, n),
+        Carried::Line(_) => print_outcome(rt, name, 0)?,
+        Carried::Refused(n) => print_outcome(rt, name, n)?,
     }
-    print_zero(is_zero(out));
-    io::write_all(STDOUT_FILENO, b"\n");
+    print_zero(rt, is_zero(out))?;
+    println!(rt)
 }
 
 // Walks session H's answer back over a log and a filled buffer.
-fn print_walk_back(formula: &[u8], log: &[u8], work: &mut [i32], out: &mut [u8]) {
+fn print_walk_back(
+    rt: &impl Print,
+    formula: &[u8],
+    log: &[u8],
+    work: &mut [i32],
+    out: &mut [u8],
+) -> io::Result<()> {
     let answer = b"s SATISFIABLE\nv 1 2 3 4 5 -6 -7 -8 -9 10 0\n";
     fill(out);
     let r = call_walk_back::walk_back(formula, log, 41, answer, work, out);
-    print_carried(b"walk_back", r, out);
+    print_carried(rt, "walk_back", r, out)
 }
 
 // Carries the plan of session H forward over a log and a filled buffer.
-fn print_carry_forward(formula: &[u8], log: &[u8], work: &mut [i32], out: &mut [u8]) {
+fn print_carry_forward(
+    rt: &impl Print,
+    formula: &[u8],
+    log: &[u8],
+    work: &mut [i32],
+    out: &mut [u8],
+) -> io::Result<()> {
     let plan = b"s SATISFIABLE\nv -1 -2 -3 4 -5 -6 0\n";
     fill(out);
     let r = call_carry_forward::carry_forward(formula, log, 41, plan, work, out);
-    print_carried(b"carry_forward", r, out);
+    print_carried(rt, "carry_forward", r, out)
 }
 
 // Session H: 740 entries and 21 bytes back.
-fn print_walk_backs(text: &[u8], log: &[u8], work: &mut [i32], short_work: &mut [i32]) {
+fn print_walk_backs(
+    rt: &impl Print,
+    text: &[u8],
+    log: &[u8],
+    work: &mut [i32],
+    short_work: &mut [i32],
+) -> io::Result<()> {
     let mut line = [0u8; 21];
     let mut short_line = [0u8; 20];
-    print_walk_back(text, log, short_work, &mut line);
-    print_walk_back(text, log, work, &mut short_line);
-    print_walk_back(text, log, work, &mut line);
+    print_walk_back(rt, text, log, short_work, &mut line)?;
+    print_walk_back(rt, text, log, work, &mut short_line)?;
+    print_walk_back(rt, text, log, work, &mut line)
 }
 
 // Its plan forward: as many entries, and 33 bytes.
-fn print_carries_forward(text: &[u8], log: &[u8], work: &mut [i32], short_work: &mut [i32]) {
+fn print_carries_forward(
+    rt: &impl Print,
+    text: &[u8],
+    log: &[u8],
+    work: &mut [i32],
+    short_work: &mut [i32],
+) -> io::Result<()> {
     let mut line = [0u8; 33];
     let mut short_line = [0u8; 32];
-    print_carry_forward(text, log, short_work, &mut line);
-    print_carry_forward(text, log, work, &mut short_line);
-    print_carry_forward(text, log, work, &mut line);
+    print_carry_forward(rt, text, log, short_work, &mut line)?;
+    print_carry_forward(rt, text, log, work, &mut short_line)?;
+    print_carry_forward(rt, text, log, work, &mut line)
 }
 
 // Session F: 8,972 entries, 371 bytes and 77 bytes.
-fn main() {
+fn main(rt: HostRuntime) -> io::Result<()> {
     let text = b"p cnf 6 7\n1 2 3 4 5 0\n-1 -2 0\n-1 6 0\n-2 6 0\n-3 6 0\n-4 -6 0\n-5 -6 0\n";
     let mut work = [0i32; 8972];
     let mut log = [0u8; 371];
@@ -133,14 +161,14 @@ fn main() {
     let mut short_work = [0i32; 8971];
     let mut short_log = [0u8; 370];
     let mut short_formula = [0u8; 76];
-    print_sizes(text, &mut short_work);
-    print_sizes(text, &mut work);
-    print_reencoding(text, &mut short_work, &mut log, &mut formula);
-    print_reencoding(text, &mut work, &mut short_log, &mut formula);
-    print_reencoding(text, &mut work, &mut log, &mut short_formula);
-    print_reencoding(text, &mut work, &mut log, &mut formula);
+    print_sizes(&rt, text, &mut short_work)?;
+    print_sizes(&rt, text, &mut work)?;
+    print_reencoding(&rt, text, &mut short_work, &mut log, &mut formula)?;
+    print_reencoding(&rt, text, &mut work, &mut short_log, &mut formula)?;
+    print_reencoding(&rt, text, &mut work, &mut log, &mut short_formula)?;
+    print_reencoding(&rt, text, &mut work, &mut log, &mut formula)?;
     let mut table = [0i32; 740];
     let mut short_table = [0i32; 739];
-    print_walk_backs(text, &log, &mut table, &mut short_table);
-    print_carries_forward(text, &log, &mut table, &mut short_table);
+    print_walk_backs(&rt, text, &log, &mut table, &mut short_table)?;
+    print_carries_forward(&rt, text, &log, &mut table, &mut short_table)
 }

@@ -1,4 +1,6 @@
 // Reencoding: the published call.
+#![tactic(auto)]
+
 ghost use Rattle.std.specs.Prelude.{◌≡◌, List, ◌++◌, ◌≤◌, length, drop};
 ghost use Rattle.definition.specs.Calls.{buffer_after};
 ghost use Rattle.records.specs.declared.ChoiceRecord.{ChoiceRecord};

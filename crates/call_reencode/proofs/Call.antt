@@ -1,14 +1,7 @@
 -- The call case by case: what fits the buffers is what the definition's outcome has, and a refusal leaves zeros.
-use mathlib.Core.Path.{◌≡◌, refl, sym, ap, ◌∙◌}
-use mathlib.Core.Bool.{Bool, true, false, cond}
-use mathlib.Core.List.{List, ◌++◌, append-nil}
-use Prim.Native.Nat.{ℕ, ◌+◌, ◌≤◌, ◌<◌}
-use native.Mathlib.Omega.{arith}
-use lib.Dec.{ltb}
-use lib.IntN.{ℤ}
-use lib.ListN.{length, drop, replicate, length-map, drop_of_length-le}
-use lib.Seq.{sets-eq}
-use borrow.Author.Tests.{lt-ltb, le-ltb, ltb-false}
+use Rattle.std.proofs.Common.{◌≡◌, refl, sym, ap, ◌∙◌, Bool, true, false, cond, List, ◌++◌, ℕ, ◌+◌, ◌≤◌, ◌<◌, ℤ, ltb, length, drop, replicate, arith, lt-ltb, le-ltb, ltb-false, append-nil, drop_of_length-le}
+use Rattle.std.proofs.lemmas.List.{length-map}
+use Rattle.std.proofs.lemmas.List.Edits.{sets-eq}
 use Rattle.definition.specs.Checked.{Checked, fault, value, ◌>>=◌, refuse_if}
 use Rattle.definition.specs.Text.{Bytes}
 use Rattle.definition.specs.Calls.{Reencoded, fitted, reencode, buffer_after}
@@ -117,13 +110,12 @@ module _ (room : ℕ) {log formula x y : Bytes} {rows z : List ℕ} where
 -- ---- all is made zero on a refusal
 
 -- as the contract has it, with n records to be filled from the rows
-abbrev pub Promised : Checked Reencoded → ℕ → Bytes → Bytes → Code.Tallied → ℕ → Bytes → Bytes → List ℕ → Type 0
-Promised o room log formula a n x y z =
-    (a ≡ outcome_of o)
-    × ((x ≡ buffer_after 0 o (λ r. r.log) log)
-    × ((y ≡ buffer_after 0 o (λ r. r.formula) formula)
-    × ((n ≤ room)
-    × ((t : List ChoiceRecord) → length t ≡ room → records_in z 0 n ++ drop n t ≡ buffer_after no_record o shown_table t))))
+pub record Promised (o : Checked Reencoded) (room : ℕ) (log formula : Bytes) (a : Code.Tallied) (n : ℕ) (x y : Bytes) (z : List ℕ) : Type 0 where
+  pub outcome : a ≡ outcome_of o
+  pub log_after : x ≡ buffer_after 0 o (λ r. r.log) log
+  pub formula_after : y ≡ buffer_after 0 o (λ r. r.formula) formula
+  pub fits : n ≤ room
+  pub table_after : (t : List ChoiceRecord) → length t ≡ room → records_in z 0 n ++ drop n t ≡ buffer_after no_record o shown_table t
 
 table_filled : (r : Reencoded) {room : ℕ} {log formula x y : Bytes} {rows z : List ℕ} → Written r room log formula rows x y z → (t : List ChoiceRecord) →
     records_in z 0 r.tally.choices ++ drop r.tally.choices t ≡ shown_table r ++ drop (length (shown_table r)) t
@@ -140,7 +132,13 @@ promised_done (fault k) room log formula rows r e = absurd (let z : ◌≡◌ {A
 promised_done (value v) room log formula rows {z = z} {n = n} r e =
     let w = r.written v refl in
     let same : n.choices ≡ v.tally.choices = ap choices_of (sym e ∙ r.answer) in
-    (sym e ∙ r.answer, (w.log_written, (w.formula_written, (omega (arith, w.records_fit), λ t long. rw same (table_filled v w t)))))
+    record {
+      outcome = sym e ∙ r.answer;
+      log_after = w.log_written;
+      formula_after = w.formula_written;
+      fits = omega (arith, w.records_fit);
+      table_after = λ t long. rw same (table_filled v w t);
+    }
   where
     choices_of : Code.Tallied → ℕ
     choices_of (Tallied.Done t) = t.choices
@@ -150,5 +148,11 @@ pub promised_refused : (o : Checked Reencoded) (room : ℕ) (log formula : Bytes
     length x ≡ length log → length y ≡ length formula → x₀ ≡ replicate (length x) 0 → y₀ ≡ replicate (length y) 0 → z₀ ≡ replicate (length z) 0 → Promised o room log formula (Tallied.Refused n) room x₀ y₀ z₀
 unfolding buffer_after
 promised_refused (fault k) room log formula rows {z = z} r e p q u v w =
-    (sym e ∙ r.answer, (u ∙ ap (λ (j : ℕ). replicate j 0) p, (v ∙ ap (λ (j : ℕ). replicate j 0) q, (omega arith, λ t long. rw w (table_zeroed (length z) room t long)))))
+    record {
+      outcome = sym e ∙ r.answer;
+      log_after = u ∙ ap (λ (j : ℕ). replicate j 0) p;
+      formula_after = v ∙ ap (λ (j : ℕ). replicate j 0) q;
+      fits = omega arith;
+      table_after = λ t long. rw w (table_zeroed (length z) room t long);
+    }
 promised_refused (value o) room log formula rows r e p q u v w = absurd (let z : ◌≡◌ {A = ℕ} 0 1 = cc r.answer in omega arith)

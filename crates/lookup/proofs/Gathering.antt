@@ -2,7 +2,7 @@
 use mathlib.Core.Path.{◌≡◌, sym, ap, subst, ◌∙◌}
 use mathlib.Core.List.Memᴰ.{head as here}
 use mathlib.Core.List.Memᴰ.{tail as there}
-use mathlib.Core.List.{List, ◌∷◌, Memᴰ}
+use mathlib.Core.List.{List, ◌∷◌, Memᴰ, []}
 use Prim.Native.Nat.{ℕ, suc, ◌+◌, ◌-◌, ◌≤◌, ◌<◌, ◌^◌}
 use native.Mathlib.Omega.{arith}
 use lib.IntN.{ℤ, pos, neg_ℤ}
@@ -25,6 +25,7 @@ use Rattle.lookup.proofs.Cursors.{shown_none, shown_node, cursor_readable, curso
 mem_place : (l : Clause) (x : ℤ) → Memᴰ x l → (i : ℕ) × (i < length l) × (get_or l i (pos 0) ≡ x)
 mem_place (y ∷ l) x (here e) = (0, omega arith, sym e)
 mem_place (y ∷ l) x (there i) = let r = mem_place l x i in (suc r.0, omega (arith, r.1), r.2)
+mem_place [] x x3 = elim x3 [ ]
 
 -- an entry of the store begins at `start`, or it ends there
 pub record Begins (work : List ℤ) (end start : ℕ) : Type 0 where

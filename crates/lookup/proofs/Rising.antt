@@ -26,6 +26,7 @@ rising_snoc (x ∷ xs) a r h = (λ b i. last xs b (h x (here refl)) r.0 i, risin
     last [] b l g (here e) = omega arith
     last (y ∷ ys) b l g (here e) = g b (here e)
     last (y ∷ ys) b l g (there i) = last ys b l (λ c j. g c (there j)) i
+    last [] b l g (there i) = elim i [ ]
 
 -- ---- the part from a number on
 
@@ -70,3 +71,4 @@ from_more a b (y ∷ ys) r (here e) l h =
 from_more a b (y ∷ ys) r (there i) l h =
     let g : y < a = r.0 a i in
     rw (lt-leb a y (omega arith), lt-leb b y (omega arith)) (from_more a b ys r.1 i l (λ x j. h x (there j)))
+from_more a b [] r x4 l h = elim x4 [ ]

@@ -49,6 +49,7 @@ lowest_least : (c : Clause) (l : ℤ) → Memᴰ l c → lowest_index c ≤ inde
 unfolding lowest_index
 lowest_least (x ∷ c) l (here e) = omega (arith, ap index_of e)
 lowest_least (x ∷ c) l (there i) = omega (arith, lowest_least c l i)
+lowest_least [] l x' = elim x' [ ]
 
 lowest_subset : (c d : Clause) → Within d c → lowest_index c ≤ lowest_index d
 unfolding lowest_index
@@ -74,6 +75,7 @@ greatest_top : (c : Clause) (l : ℤ) → Memᴰ l c → min last_index (index_o
 unfolding greatest_index
 greatest_top (x ∷ c) l (here e) = omega (arith, ap index_of e)
 greatest_top (x ∷ c) l (there i) = omega (arith, greatest_top c l i)
+greatest_top [] l x' = elim x' [ ]
 
 greatest_subset : (c d : Clause) → Within d c → greatest_index d ≤ greatest_index c
 unfolding greatest_index

@@ -1,0 +1,54 @@
+use Prim.Native.Nat.{◌+◌}
+use native.Mathlib.Omega.{arith}
+use lib.IntN.{pos}
+use lib.ListN.{get_or, take, drop}
+use borrow.Author.Rules.{sfits_of}
+use Rattle.definition.specs.Events.{choice_of}
+use Rattle.literals.proofs.Laws.{answer}
+use Rattle.tables.specs.Places.{place_in}
+use Rattle.tables.proofs.Places.{place_within}
+use Rattle.replacement.proofs.Replaced.{instead, replaced_each}
+use Rattle.replacement.proofs.Writing.{instead_arg, writing_start, writing_room, writing_step, writing_end}
+use Rattle.replacement.proofs.put_replaced.Goals as goal
+
+pub loop-i-init : goal.loop-i-init
+loop-i-init c =
+    writing_start (instead (choice_of c.args.choice.now c.args.below)) c.args.work.now
+    c.args.to c.args.from c.args.n
+
+pub put_instead-end-requires : goal.put_instead-end-requires
+put_instead-end-requires c =
+    let k = choice_of c.args.choice.now c.args.below in
+    let x = get_or c.loop-i.work (c.args.from + c.loop-i.i) (pos 0) in
+    let e = instead_arg k c.requires.n_bound.1 x c.place_of.result (sfits_of c.l-1.given) c.place_of.ensures in record { place_bound = (
+        omega (
+          arith,
+          answer (place_in c.args.places.now) x (sfits_of c.l-1.given) c.place_of.ensures,
+          place_within c.requires.n_bound.1 x,
+          c.requires.n_bound.2.few,
+        ),
+        omega (arith, c.requires.n_bound.2.new),
+      ); place_in_bounds = writing_room c.loop-i.invariant c.loop-i-test.true c.requires.n_bound.0 (omega (arith, c.requires.work_in_bounds)) e
+          (rw (replaced_each k (take c.args.n (drop c.args.from c.args.work.now)))
+          c.requires.work_in_bounds) }
+
+pub loop-i-preserved : goal.loop-i-preserved
+loop-i-preserved c =
+    let k = choice_of c.args.choice.now c.args.below in
+    let x = get_or c.loop-i.work (c.args.from + c.loop-i.i) (pos 0) in
+    let e = instead_arg k c.requires.n_bound.1 x c.place_of.result (sfits_of c.l-1.given) c.place_of.ensures in
+    writing_step c.loop-i.invariant c.loop-i-test.true c.requires.n_bound.0 (omega (arith, c.requires.work_in_bounds)) e
+    c.put_instead-end.ensures.next c.put_instead-end.ensures.written
+
+pub shape_of-work : goal.shape_of-work
+shape_of-work c = c.loop-i.invariant.size
+
+pub returns : goal.returns
+returns c =
+    record { next = (rw
+    (replaced_each (choice_of c.args.choice.now c.args.below)
+    (take c.args.n (drop c.args.from c.args.work.now))) at
+    (writing_end c.loop-i.invariant c.loop-i-test.false)).0; written = (rw
+    (replaced_each (choice_of c.args.choice.now c.args.below)
+    (take c.args.n (drop c.args.from c.args.work.now))) at
+    (writing_end c.loop-i.invariant c.loop-i-test.false)).1 }

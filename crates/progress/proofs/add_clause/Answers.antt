@@ -1,0 +1,19 @@
+use mathlib.Core.Path.{sym, ◌∙◌}
+use Rattle.progress.proofs.Growing.{put_there, never_full, grown_put}
+use borrow.Author.Rules.{rules}
+use Rattle.progress.proofs.add_clause.Goals as goal
+
+pub record_added-requires : goal.record_added-requires
+record_added-requires c =
+    let t = put_there _ c.requires.0 c.requires.1 (sym c.append_clause.ensures.end ∙ c.in-To.is)
+    c.append_clause.ensures.written in
+    record { indexed = (t.indexed, t.there); end_in_bounds = t.space; at_bound = search (rules) }
+
+pub returns-in-To : goal.returns-in-To
+returns-in-To c =
+    grown_put
+    (put_there _ c.requires.0 c.requires.1 (sym c.append_clause.ensures.end ∙ c.in-To.is)
+    c.append_clause.ensures.written) c.record_added.ensures
+
+pub returns-in-Full : goal.returns-in-Full
+returns-in-Full c = never_full _ c.requires.0 c.requires.1 (sym c.append_clause.ensures.end ∙ c.in-Full.is)

@@ -111,7 +111,7 @@ module _ {step : ℕ} {work : List ℤ} {newest table weights m : List ℕ} {z :
     lowest_small =
         let c = clashes_some F v lowest_clashes in
         let r = clash_at_some F v c.0 c.1 in
-        omega (arith, (s.ready.good.fits c.0.one r.1.one_stands c.0.v r.1.one-Holds).1, ap nat_abs r.0)
+        omega (arith, (s.ready.good.fits c.0.one r.1.one_stands c.0.v r.1.one_holds).1, ap nat_abs r.0)
 
     -- room made, and the clauses found
     module _ {mid : List ℤ} {log : Bytes} {q : Progress} (k : Runs [] work log z.progress mid log q) where

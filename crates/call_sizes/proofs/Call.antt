@@ -1,7 +1,5 @@
 -- The answer of a run is that of its sizes.
-use mathlib.Core.Path.{◌≡◌}
-use mathlib.Core.List.{List}
-use lib.IntN.{ℤ}
+use Rattle.std.proofs.Common.{◌≡◌, List, ℤ}
 use Rattle.definition.specs.Checked.{Checked, fault, value, ◌>>=◌}
 use Rattle.definition.specs.Text.{Bytes}
 use Rattle.definition.specs.Calls.{Reencoded, sizes}

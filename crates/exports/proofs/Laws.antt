@@ -1,30 +1,22 @@
 -- Number and tally from the outcome of a call.
-use mathlib.Core.Path.{◌≡◌, refl, sym, ap, ◌∙◌}
-use mathlib.Core.List.{List, [], ◌∷◌}
-use Prim.Native.Nat.{ℕ}
-use native.Mathlib.Omega.{arith}
-use lib.IntN.{ℤ}
-use lib.ListN.{length, set, replicate}
+use Rattle.std.proofs.Common.{◌≡◌, refl, sym, ap, ◌∙◌, List, [], ◌∷◌, ℕ, ℤ, length, set, replicate, arith}
 use Rattle.definition.specs.Checked.{Checked, fault, value, ◌>>=◌}
 use Rattle.definition.specs.Literals.{literals_of}
 use Rattle.definition.specs.Text.{Bytes}
 use Rattle.definition.specs.Reading.{Input}
-use Rattle.definition.specs.Calls.{Tally, Reencoded, sizes}
+use Rattle.definition.specs.Calls.{Reencoded, sizes}
 use Rattle.call_read_back.specs.declared.ReadBack.TheVariants as ReadBack
 use Rattle.call_read_back.specs.Outcome.{read_back_of}
 use Rattle.carry.specs.declared.Carried.TheVariants as Carried
 use Rattle.carry.specs.Carried.{carried_of}
-use Rattle.run.specs.declared.Form as CodeForm
-use Rattle.run.specs.declared.Arrangement as CodeArrangement
 use Rattle.run.specs.declared.Settings as CodeSettings
-use Rattle.run.specs.Settings.{named_form, named_arrangement, settings_of}
+use Rattle.run.specs.Settings.{settings_of}
 use Rattle.formula_run.specs.declared.Tally as Code
 use Rattle.formula_run.specs.declared.Tallied as TalliedType
 use Rattle.formula_run.specs.declared.Tallied.TheVariants as Tallied
 use Rattle.formula_run.specs.Outcome.{run_outcome, tally_of, tallied_of, outcome_of}
-use Rattle.call_reencode.specs.Outcome.{outcome}
 use Rattle.call_sizes.specs.Outcome.{outcome as sizes_outcome}
-use Rattle.exports.specs.Numbers.{form_number, arrangement_number, settings_number, number_of, reencoding, sizing}
+use Rattle.exports.specs.Numbers.{settings_number, number_of, sizing}
 use Rattle.counts.specs.Counts.{overwritten}
 use Rattle.counts.proofs.Laws.{one_count}
 use Rattle.exports.specs.Counts.{tally_after, line_counts, read_back_counts, sizes_counts, reencoding_counts, done_counts}
@@ -66,14 +58,6 @@ pub reencoding_refused : (o : Checked Reencoded) (n : ℕ) (before after : List 
 unfolding number_of tally_after
 reencoding_refused (fault m) n before after e w = (cc, w)
 reencoding_refused (value r) n before after e w = let z : ◌≡◌ {A = ℕ} 0 1 = cc in absurd (omega arith)
-
--- the settings that two numbers name, with a step
-pub settings_named : (f : CodeForm.Form) (a : CodeArrangement.Arrangement) (m n g : ℕ) → named_form f ≡ form_number m → named_arrangement a ≡ arrangement_number n → settings_of (record { form = f; arrangement = a; step = g }) ≡ settings_number m n g
-settings_named f a m n g e d = rw (e, d) refl
-
--- the outcome for settings that the numbers name
-pub same_outcome : (s : CodeSettings.Settings) (m n g : ℕ) (text : Bytes) (work : List ℤ) (log formula : Bytes) (room : ℕ) → settings_of s ≡ settings_number m n g → outcome s text work log formula room ≡ reencoding m n g text work log formula room
-same_outcome s m n g text work log formula room e = rw e refl
 
 -- the result of a run alone has the run's number and counts
 result_alone : (o : Checked Reencoded) (before : List ℕ) {a : TalliedType.Tallied} {n : ℕ} {after : List ℕ} → a ≡ tallied_of (o >>= λ r. value r.tally) →

@@ -186,12 +186,16 @@ module _ {t : List ℕ} {l : Clause} (q : Places t l) where
         missing : (z w : ℤ) → z ≢ w → Memᴰ z (w ∷ w ∷ []) → ⊥
         missing z w n (here e) = n e
         missing z w n (there (here e)) = n e
+        missing z w n (there (there x9)) = elim x9 [ ]
 
         by_first : Memᴰ x (pair_of l i j) → Memᴰ y (pair_of l i j) → slot_of t (x ∷ y ∷ []) ≡ i * 64 + j
         by_first (here e) (here f) = absurd (missing (neg_ℤ (literal_at l j)) (neg_ℤ (literal_at l i)) (λ g. differ_here (sym g)) (rw (e, f) at (s.0 (neg_ℤ (literal_at l j)) (there (here refl)))))
         by_first (here e) (there (here f)) = rw (e, f) slot_forward
         by_first (there (here e)) (here f) = rw (e, f) slot_turned
         by_first (there (here e)) (there (here f)) = absurd (missing (neg_ℤ (literal_at l i)) (neg_ℤ (literal_at l j)) differ_here (rw (e, f) at (s.0 (neg_ℤ (literal_at l i)) (here refl))))
+        by_first (here e) (there (there x15)) = elim x15 [ ]
+        by_first (there (here e)) (there (there x24)) = elim x24 [ ]
+        by_first (there (there x19)) _ = elim x19 [ ]
 
     same_slot : (d : Clause) → length d ≡ 2 → Same (pair_of l i j) d → slot_of t d ≡ i * 64 + j
     same_slot [] n s = absurd (omega arith)

@@ -30,6 +30,7 @@ into_choices form g order n f (d ∷ cs) c (there m) =
     let k = choice_of (order d) (below_new g n) in
     let es = choice_events form f d k in
     into-++ es (into_choices form g order (last_new k) (after f (lines es)) cs c m)
+into_choices form g order n f [] c x' = elim x' [ ]
 
 pub choices_taken : ChoicesTaken
 unfolding ChoicesTaken chosen choices events

@@ -48,7 +48,7 @@ fn built_in_the_checkout_and_run_where_it_is_called() {
     assert_eq!(
         checkout.record(),
         format!(
-            "rt check definition text in {root}\nrt staticlib exports in {root}\n\
+            "rt lib in {root}/crates/exports\n\
              cargo build --release --offline --target-dir {root}/host/target/command \
              --package sirgholyn --bin sirgholyn in {root}/host\n"
         )
@@ -100,14 +100,14 @@ fn what_is_newer_is_built_again() {
         ("another archive", &|| write("target/staticlib/libexports.a", "other"), &BUILT),
         ("no identity", &|| remove("target/staticlib/identity.txt"), &BUILT),
         ("no target folder", &|| fs::remove_dir_all(checkout.path("target")).unwrap(), &BUILT),
-        ("a source of the command", &|| write("host/sirgholyn/src/lib.rs", "new"), &BUILT[2..]),
-        ("one less", &|| remove("host/sirgholyn/src/removed.rs"), &BUILT[2..]),
-        ("its words", &|| write("host/sirgholyn/words/more.txt", ""), &BUILT[2..]),
-        ("no command", &|| remove("host/target/command/release/sirgholyn"), &BUILT[2..]),
-        ("no stamp", &|| remove("host/target/command/stamp"), &BUILT[2..]),
+        ("a source of the command", &|| write("host/sirgholyn/src/lib.rs", "new"), &BUILT[1..]),
+        ("one less", &|| remove("host/sirgholyn/src/removed.rs"), &BUILT[1..]),
+        ("its words", &|| write("host/sirgholyn/words/more.txt", ""), &BUILT[1..]),
+        ("no command", &|| remove("host/target/command/release/sirgholyn"), &BUILT[1..]),
+        ("no stamp", &|| remove("host/target/command/stamp"), &BUILT[1..]),
         ("another command", &|| write("host/target/release/sirgholyn", "other"), &[]),
         ("no source", &|| {
-            for name in ["README.md", ".git/index", "target/log/text.out", "host/target/debug/x"] {
+            for name in ["README.md", ".git/index", "target/log/text.out", "host/target/debug/x", "crates/text/out/kept"] {
                 write(name, "");
             }
         }, &[]),
@@ -268,25 +268,36 @@ fn setup_failures() {
     assert!(!checkout.has("target"));
 
     let failed = solve("rt-cargo", "PROVER", "fails");
-    let said = "rt: definition NOT PROVED (exit 1, 2 s)";
+    let [chosen, fault, said] = [
+        "rt: chose --jobs 2 for definition",
+        "fn definition::all: not proved: wrong",
+        "rt: the library definition did not build, so nothing above it was checked",
+    ];
     let pinned =
         "'kit-7 logic 0123'; the proofs were last checked with 'kit-6 logic 0122' (file TOOLCHAIN)";
     expect_setup_failure(
         &failed,
-        &["proving 2 of 3: text", said, pinned, "status 1", &log],
+        &[
+            "proving 1 of 3: definition",
+            fault,
+            said,
+            pinned,
+            "status 1",
+            &log,
+        ],
     );
     let whole = fs::read_to_string(&log).unwrap();
-    assert_eq!(whole, format!("{said}\nrt: text proved (2 s)\n"));
+    assert_eq!(whole, format!("{chosen}\n{fault}\n{said}\n"));
     let half = solve("rt-cargo", "PROVER", "half");
     expect_setup_failure(&half, &["status 2", &log]);
-    assert_eq!(checkout.called(), ["rt check", "rt check", "rt staticlib"]);
+    assert_eq!(checkout.called(), ["rt lib", "rt lib"]);
     let mut left: Vec<_> = fs::read_dir(checkout.path("target/staticlib"))
         .unwrap()
         .collect();
     assert!(left.pop().is_none());
 
     expect_setup_failure(&solve("rt", "A", ""), &["cargo to PATH"]);
-    assert_eq!(checkout.called(), &BUILT[..2]);
+    assert_eq!(checkout.called(), &BUILT[..1]);
     let failed = solve("cargo", "BUILDER", "fails");
     let log = checkout
         .path("host/target/command.log")
@@ -294,7 +305,7 @@ fn setup_failures() {
         .to_string();
     expect_setup_failure(&failed, &["linker `cc` not found", &log]);
     assert!(!checkout.has("host/target/command/stamp"));
-    assert_eq!(checkout.called(), &BUILT[2..]);
+    assert_eq!(checkout.called(), &BUILT[1..]);
     assert_eq!(solve("cargo", "A", "").status, Some(10));
 }
 
@@ -304,8 +315,8 @@ fn checkouts_that_cannot_be_written() {
     for (wall, builds) in [
         ("target", 0),
         ("target/staticlib", 0),
-        ("host/target", 2),
-        ("host/target/command", 2),
+        ("host/target", 1),
+        ("host/target/command", 1),
     ] {
         let checkout = Checkout::new();
         checkout.write(wall, "");
@@ -360,7 +371,7 @@ fn another_library() {
     assert_eq!(solve("").status, Some(10));
     assert_eq!(checkout.called(), [""; 0]);
     assert_eq!(solve(&other).status, Some(10));
-    assert_eq!(checkout.called(), &BUILT[2..]);
+    assert_eq!(checkout.called(), &BUILT[1..]);
 }
 
 #[test]
@@ -381,7 +392,7 @@ fn crates_are_counted() {
         ]
     );
     let whole = fs::read_to_string(log).unwrap();
-    assert!(whole.contains("fn text::all: proved\nrt: text proved (1 s)\n"));
+    assert!(whole.contains("rt: chose --jobs 2 for text\nfn text::all: proved\n"));
 
     // on a terminal, in one line
     checkout.write("crates.txt", CRATES);
@@ -493,7 +504,7 @@ fn interrupted_while_building() {
         if variable == "BUILDER" {
             assert!(!checkout.has("host/target/command/stamp"));
             assert!(!checkout.has("host/target/command/release/sirgholyn"));
-            called.drain(..2);
+            called.drain(..1);
         } else {
             let left = fs::read_dir(checkout.path("target/staticlib")).unwrap();
             assert_eq!(left.count(), 0, "{signal}");
@@ -666,12 +677,12 @@ fn the_library_alone() {
     let library = || ran(&mut checkout.command("host/library", "rt"));
     assert_eq!(library().status, Some(0));
     assert_eq!(library().err, "");
-    assert_eq!(checkout.called(), &BUILT[..2]);
+    assert_eq!(checkout.called(), &BUILT[..1]);
     // another toolchain
     let rt = RT.replace("kit-7", "kit-8");
     write_program(Path::new(&checkout.folder.path("stand-ins/rt")), &rt);
     assert_eq!(library().status, Some(0));
-    assert_eq!(checkout.called(), &BUILT[..2]);
+    assert_eq!(checkout.called(), &BUILT[..1]);
     let identity = fs::read_to_string(checkout.path("target/staticlib/identity.txt")).unwrap();
     assert!(identity.starts_with("toolchain kit-8 logic 0123\n"));
 }
@@ -689,41 +700,49 @@ fn the_tests_have_a_current_library() {
     let tested = format!("cargo test --release --offline --test a b in {root}/host\n");
     assert_eq!(test().status, Some(0));
     let record = checkout.record();
-    assert!(record.starts_with("install-tools\nrt check "), "{record}");
+    assert!(record.starts_with("install-tools\nrt lib "), "{record}");
     assert!(
-        record.ends_with(&format!("rt staticlib exports in {root}\n{tested}")),
+        record.ends_with(&format!("rt lib in {root}/crates/exports\n{tested}")),
         "{record}"
     );
     assert_eq!(test().status, Some(0));
     assert_eq!(checkout.record(), format!("install-tools\n{tested}"));
     checkout.write("crates/text/src/lib.rt", "new");
     assert_eq!(test().status, Some(0));
-    assert_eq!(
-        checkout.called(),
-        ["rt check", "rt staticlib", "cargo test"]
-    );
+    assert_eq!(checkout.called(), ["rt lib", "cargo test"]);
 }
 
-/// All tests of the checkout: where the library fails, what it said is shown, and counted once.
+/// All tests of the checkout: where the library fails, what it said is shown, and counted once. A must-fail edit that is
+/// bad counts as failed.
 #[test]
-fn all_tests_tell_of_a_library_that_fails() {
+fn all_tests_tell_of_what_fails() {
     let checkout = Checkout::new();
-    let good = ran(&mut checkout.command(".ci/run", "rt-cargo"));
+    let all = |prover: &str| {
+        ran(checkout
+            .command(".ci/run", "rt-cargo")
+            .env("PROVER", prover))
+    };
+    let good = all("");
     assert_eq!(good.status, Some(0), "{}", good.err);
     assert!(good.out.ends_with("\n7 passed, 0 failed\n"), "{}", good.out);
     // the library is built beside the first tests
     let called = checkout.called();
-    assert_eq!(called[..2], ["rt fmt", "rt ci"]);
-    assert!(called.iter().any(|call| call == "rt staticlib"));
-    assert_eq!(called.len(), 6, "{called:?}");
-    let bad = ran(checkout
-        .command(".ci/run", "rt-cargo")
-        .env("PROVER", "fails"));
+    assert_eq!(called[0], "rt ci");
+    assert!(called.iter().any(|call| call == "rt lib"));
+    assert_eq!(called.len(), 4, "{called:?}");
+    let bad = all("bad");
     assert_eq!(bad.status, Some(1));
+    assert!(bad.out.ends_with("\n7 passed, 1 failed\n"), "{}", bad.out);
+    let failed = all("fails");
+    assert_eq!(failed.status, Some(1));
     assert!(
-        bad.out.contains("\nrt: definition NOT PROVED"),
+        failed.out.contains("\nfn definition::all: not proved"),
         "{}",
-        bad.out
+        failed.out
     );
-    assert!(bad.out.ends_with("\n5 passed, 1 failed\n"), "{}", bad.out);
+    assert!(
+        failed.out.ends_with("\n5 passed, 1 failed\n"),
+        "{}",
+        failed.out
+    );
 }

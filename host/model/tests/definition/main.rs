@@ -20,7 +20,7 @@ use wrong::{
 
 /// Each row with the name of its theorem.
 fn named(name: &str, rows: Vec<Row>) -> Vec<(String, Row)> {
-    let with_name = |(place, row)| (format!("{name}-{place:03}"), row);
+    let with_name = |(place, row)| (format!("{name}_{place:03}"), row);
     rows.into_iter().enumerate().map(with_name).collect()
 }
 
@@ -279,7 +279,8 @@ fn wrong_rows_are_refused() {
     assert_eq!(errors.len(), wrong.len(), "{}", verdict.messages);
     for ((name, _), error) in wrong.iter().zip(errors) {
         // computed to its end, the theorem is false
-        let is_false = error.contains("the two types are `Prim.⊥` (expected)");
+        let is_false = error.contains("expected type `⊥`, but this has type `Unit")
+            || error.contains("the two types are `⊥` (expected) and `Unit");
         assert!(
             is_false && error.starts_with(&format!("`{name}`:")),
             "{name}: {error}"

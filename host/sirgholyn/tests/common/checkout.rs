@@ -20,7 +20,7 @@ definition:
 theorems: definition text
 # bytes to words
 text: definition
-exports: definition text # the calls
+exports staticlib: definition text # the calls
 ";
 
 /// Proves all crates, unless $PROVER says what else. `slow` begins with the archive and has a child.
@@ -29,37 +29,46 @@ cat
 [ "$1" = version ] && echo 'kit-7 logic 0123' && exit
 echo "rt $* in $PWD" >>"$RECORD"
 case $1-${PROVER:-} in
-fmt-*) ;;
+ci-bad)
+  echo 'rt: ok; handles allowed: none; must-fail edits: 2 refused, 1 bad; every proof was done in this run'
+  echo '3 passed, 0 failed' ;;
 ci-*)
   rm -rf target
   mkdir target
+  echo 'rt: ok; handles allowed: none; must-fail edits: 3 refused; every proof was done in this run'
   echo '3 passed, 0 failed' ;;
-check-fails)
-  echo 'rt: definition NOT PROVED (exit 1, 2 s)'
-  echo 'rt: text proved (2 s)'
+lib-fails)
+  echo 'rt: chose --jobs 2 for definition'
+  echo 'fn definition::all: not proved: wrong'
+  echo 'rt: the library definition did not build, so nothing above it was checked' >&2
   exit 1 ;;
-check-*)
-  shift
-  for name; do echo "fn $name::all: proved"; echo "rt: $name proved (1 s)"; done ;;
-staticlib-half)
-  echo half >target/staticlib/libexports.a
+lib-half)
+  mkdir -p out
+  echo half >out/libexports.a
   exit 2 ;;
-staticlib-slow)
-  echo half >target/staticlib/libexports.a
+lib-slow)
+  mkdir -p out
+  echo half >out/libexports.a
   sleep 100 &
   echo "slow $$ $!" >>"$RECORD"
   wait ;;
-staticlib-waits)
+lib-waits)
   echo waiting >>"$RECORD"
   until [ -f "$RECORD.go" ] || [ ! -f "$RECORD" ]; do sleep 0.05; done
-  echo archive >target/staticlib/libexports.a ;;
-staticlib-edited)
+  mkdir -p out
+  echo archive >out/libexports.a ;;
+lib-edited)
   sleep 0.05
-  echo edited >crates/text/src/lib.rt
-  echo archive >target/staticlib/libexports.a ;;
+  echo edited >../text/src/lib.rt
+  mkdir -p out
+  echo archive >out/libexports.a ;;
 *)
-  for name in definition text; do echo "rt: $name proved (unchanged since it was last proved)" >&2; done
-  echo archive >target/staticlib/libexports.a ;;
+  for name in definition text exports; do
+    echo "rt: chose --jobs 2 for $name"
+    echo "fn $name::all: proved"
+  done
+  mkdir -p out
+  echo archive >out/libexports.a ;;
 esac
 "#;
 
@@ -171,6 +180,7 @@ impl Checkout {
         made.write("crates.txt", CRATES);
         made.write("crates/text/src/lib.rt", "");
         made.write("crates/text/src/removed.rt", "");
+        made.write("crates/exports/src/lib.rt", "");
         made.write("host/sirgholyn/src/lib.rs", "");
         made.write("host/sirgholyn/src/removed.rs", "");
         write_program(
@@ -310,7 +320,7 @@ impl Drop for Checkout {
     }
 }
 
-pub const BUILT: [&str; 3] = ["rt check", "rt staticlib", "cargo build"];
+pub const BUILT: [&str; 2] = ["rt lib", "cargo build"];
 
 /// The words of a command that is to be run by somebody whom permissions hold.
 pub fn unprivileged() -> &'static [&'static str] {

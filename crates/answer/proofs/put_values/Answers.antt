@@ -15,10 +15,10 @@ put_value-a-requires c =
 
 pub loop-i-preserved : goal.loop-i-preserved
 loop-i-preserved c = (
-      search rules,
-      search rules,
-      values_step (marked c.args.marks.now) c.loop-i.i c.loop-i.invariant.2 c.put_value-a.ensures,
-    )
+  search rules,
+  search rules,
+  values_step (marked c.args.marks.now) c.loop-i.i c.loop-i.invariant.2 c.put_value-a.ensures,
+)
 
 pub returns : goal.returns
 returns c = let e : c.loop-i.i ≡ c.args.v = omega arith in rw e at c.loop-i.invariant.2

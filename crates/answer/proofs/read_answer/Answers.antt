@@ -8,10 +8,10 @@ use Rattle.answer.proofs.read_answer.Goals as goal
 
 pub loop-start-init : goal.loop-start-init
 loop-start-init c = (
-      refl,
-      lines_start c.args.x c.args.text.now (length c.args.marks.now) c.zero_all.new.buf
-          c.zero_all.ensures,
-    )
+  refl,
+  lines_start c.args.x c.args.text.now (length c.args.marks.now) c.zero_all.new.buf
+      c.zero_all.ensures,
+)
 
 pub slice_bounds-read_line-count : goal.slice_bounds-read_line-count
 slice_bounds-read_line-count c =

@@ -12,10 +12,10 @@ use Rattle.answer.proofs.read_values.Goals as goal
 
 pub loop-start-init : goal.loop-start-init
 loop-start-init c = (
-      refl,
-      λ d t. walked_start (read_answer_word c.args.x) Progress.Open c.args.marks.now (open_at d)
-          (words_by space_or_tab (drop 2 c.args.line.now)) (d, refl, t),
-    )
+  refl,
+  λ d t. walked_start (read_answer_word c.args.x) Progress.Open c.args.marks.now (open_at d)
+      (words_by space_or_tab (drop 2 c.args.line.now)) (d, refl, t),
+)
 
 pub slice_bounds-read_word-count : goal.slice_bounds-read_word-count
 slice_bounds-read_word-count c =

@@ -11,7 +11,7 @@ use Rattle.answer.proofs.Reading.{Walked}
 use Rattle.answer.proofs.read_values.Given as goal
 
 abbrev pub invariant-loop-start : goal.invariant-loop-start
-invariant-loop-start l =     (length l.marks ≡ length l.initial.marks)
+invariant-loop-start l = (length l.marks ≡ length l.initial.marks)
     × ((c : Clause) → Table c l.initial.marks → Walked l.state l.marks (λ a. through (read_answer_word l.x) a (words_by space_or_tab (drop l.at l.line))) (through (read_answer_word l.x) (open_at c) (words_by space_or_tab (drop 2 l.line))))
 
 abbrev pub decreases-loop-start : goal.decreases-loop-start

@@ -14,11 +14,11 @@ loop-i-init c = (search rules, refl, refl)
 
 pub loop-i-preserved : goal.loop-i-preserved
 loop-i-preserved c = (
-      search rules,
-      simp length-set c.loop-i.invariant.1,
-      ap (λ (l : List ℤ). set l c.loop-i.i (pos 0)) c.loop-i.invariant.2
-          ∙ zeros_more c.loop-i.i c.args.store.now (search rules),
-    )
+  search rules,
+  simp length-set c.loop-i.invariant.1,
+  ap (λ (l : List ℤ). set l c.loop-i.i (pos 0)) c.loop-i.invariant.2
+      ∙ zeros_more c.loop-i.i c.args.store.now (search rules),
+)
 
 pub returns : goal.returns
 returns c =

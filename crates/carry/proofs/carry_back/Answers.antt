@@ -17,10 +17,10 @@ loop-end-smaller c = omega (arith, c.line_start-start.ensures.ends)
 
 pub loop-end-preserved : goal.loop-end-preserved
 loop-end-preserved c = (
-      omega (arith, c.line_start-start.ensures.ends, c.loop-end.invariant.0),
-      back_step c.args.lines.now c.args.marks.now c.loop-end.marks _ c.loop-end.end c.line_start-start.result
-          c.loop-end.invariant.1 c.line_start-start.ensures c.carry_line.auto.marks c.carry_line.ensures,
-    )
+  omega (arith, c.line_start-start.ensures.ends, c.loop-end.invariant.0),
+  back_step c.args.lines.now c.args.marks.now c.loop-end.marks _ c.loop-end.end c.line_start-start.result
+      c.loop-end.invariant.1 c.line_start-start.ensures c.carry_line.auto.marks c.carry_line.ensures,
+)
 
 pub shape_of-marks : goal.shape_of-marks
 shape_of-marks c = c.loop-end.invariant.1.len

@@ -19,11 +19,11 @@ returns-then-text-i-eq32 c =
 pub loop-i-preserved : goal.loop-i-preserved
 unfolding is
 loop-i-preserved c = (
-      omega arith,
-      run_step (in_run (is " ") false) c.args.text.now c.loop-i.i c.loop-i-test.true
-          (ap not (ne_eqb _ _ c.if-text-i-eq32.false))
-          ∙ c.loop-i.invariant.1,
-    )
+  omega arith,
+  run_step (in_run (is " ") false) c.args.text.now c.loop-i.i c.loop-i-test.true
+      (ap not (ne_eqb _ _ c.if-text-i-eq32.false))
+      ∙ c.loop-i.invariant.1,
+)
 
 pub returns : goal.returns
 returns c = run_stop_end (in_run (is " ") false) c.args.text.now c.loop-i.i c.loop-i-test.false ∙ c.loop-i.invariant.1

@@ -13,10 +13,10 @@ use Rattle.dimacs.proofs.gather_clause.Goals as goal
 
 pub loop-start-init : goal.loop-start-init
 loop-start-init c = (
-      going_start c.args.variables c.args.stamp c.args.text.now c.args.held.now
-          c.args.seen.now c.requires.fresh,
-      refl,
-    )
+  going_start c.args.variables c.args.stamp c.args.text.now c.args.held.now
+      c.args.seen.now c.requires.fresh,
+  refl,
+)
 
 pub shape_of-seen-in-End : goal.shape_of-seen-in-End
 shape_of-seen-in-End c = c.loop-start.invariant.1
@@ -69,8 +69,12 @@ pub hold_literal-requires : goal.hold_literal-requires
 hold_literal-requires c =
     let x = c.in-Literal.l in
     let q = c.in-Literal.is ∙ sym (at_arg (λ (z : ℤ). Item.Literal z) x (search rules)) in
-    let w = sym c.in-At.is ∙ c.next_word.ensures in record { fit = fit_up log_reach c.args.variables _ c.requires.variables_le_log_reach
-          (going_fits c.loop-start.invariant.0 w c.number_item.ensures _ q); log_size_in_bounds = omega (arith, c.loop-start.invariant.1, c.requires.log_size_in_bounds); n_bound = (let f = going_word c.loop-start.invariant.0 w in omega (arith, c.loop-start.invariant.0.fewer, f.after, f.some, f.within)) }
+    let w = sym c.in-At.is ∙ c.next_word.ensures in record {
+      fit = fit_up log_reach c.args.variables _ c.requires.variables_le_log_reach
+          (going_fits c.loop-start.invariant.0 w c.number_item.ensures _ q);
+      log_size_in_bounds = omega (arith, c.loop-start.invariant.1, c.requires.log_size_in_bounds);
+      n_bound = (let f = going_word c.loop-start.invariant.0 w in omega (arith, c.loop-start.invariant.0.fewer, f.after, f.some, f.within));
+    }
 
 pub skip_clause-requires : goal.skip_clause-requires
 skip_clause-requires c = record { variables_le_log_reach = c.requires.variables_le_log_reach; from_in_bounds = (going_word c.loop-start.invariant.0 (sym c.in-At.is ∙ c.next_word.ensures)).within }

@@ -9,11 +9,14 @@ use Rattle.dimacs.proofs.put_entry.Goals as goal
 
 pub returns-then-is_negative : goal.returns-then-is_negative
 returns-then-is_negative c =
-    record { written = (entry_deleted c.args.store.now c.args.at c.args.buf.now c.args.end
-    (answered negative (header_at c.args.store.now c.args.at)
-    (sfits_of c.is_negative-arg-1.given) c.is_negative.ensures c.if-is_negative.true)).0; within = (entry_deleted c.args.store.now c.args.at c.args.buf.now c.args.end
-    (answered negative (header_at c.args.store.now c.args.at)
-    (sfits_of c.is_negative-arg-1.given) c.is_negative.ensures c.if-is_negative.true)).1 }
+    record {
+      written = (entry_deleted c.args.store.now c.args.at c.args.buf.now c.args.end
+          (answered negative (header_at c.args.store.now c.args.at)
+          (sfits_of c.is_negative-arg-1.given) c.is_negative.ensures c.if-is_negative.true)).0;
+      within = (entry_deleted c.args.store.now c.args.at c.args.buf.now c.args.end
+          (answered negative (header_at c.args.store.now c.args.at)
+          (sfits_of c.is_negative-arg-1.given) c.is_negative.ensures c.if-is_negative.true)).1;
+    }
 
 pub slice_bounds-put_clause-end : goal.slice_bounds-put_clause-end
 slice_bounds-put_clause-end c =
@@ -36,14 +39,17 @@ put_clause-requires c =
 
 pub returns : goal.returns
 returns c =
-    record { written = entry_written c.args.store.now c.args.at
+    record {
+      written = entry_written c.args.store.now c.args.at
           (answered negative (header_at c.args.store.now c.args.at)
           (sfits_of c.is_negative-arg-1.given) c.is_negative.ensures c.if-is_negative.false) c.next_at-next.ensures
-          c.put_clause.ensures.written; within = omega (
+          c.put_clause.ensures.written;
+      within = omega (
         arith,
         c.next_at-next.ensures,
         (formed_next c.args.store.now c.args.at c.requires.at_in_bounds.0 c.requires.at_in_bounds.1).0,
         entry_length c.args.store.now c.args.at c.next_at-next.ensures
             (formed_next c.args.store.now c.args.at c.requires.at_in_bounds.0 c.requires.at_in_bounds.1).0,
         c.put_clause.ensures.within,
-      ) }
+      );
+    }

@@ -14,11 +14,11 @@ use Rattle.dimacs.proofs.read_clauses.Goals as goal
 
 pub loop-done-init : goal.loop-done-init
 loop-done-init c = (
-      reading_start (limits_of c.args.most) c.args.variables c.args.clauses
-          c.args.text.now c.args.store.now log_size,
-      length-replicate {A = ℕ} log_size 0,
-      length-replicate {A = ℤ} 70_001 (pos 0),
-    )
+  reading_start (limits_of c.args.most) c.args.variables c.args.clauses
+      c.args.text.now c.args.store.now log_size,
+  length-replicate {A = ℕ} log_size 0,
+  length-replicate {A = ℤ} 70_001 (pos 0),
+)
 
 pub overflow_sub-room : goal.overflow_sub-room
 overflow_sub-room c = c.loop-done.invariant.0.low
@@ -58,17 +58,20 @@ shape_of-store-in-Fault c =
 
 pub returns-in-Fault : goal.returns-in-Fault
 returns-in-Fault c =
-    record { outcome = (reading_fault c.loop-done.invariant.0 c.loop-done-test.true (rest_is c.args.text.now c.loop-done.at) c.lower-to.ensures _ _
-    _ c.read_clause.ensures c.in-Fault.is).0; stored = (reading_fault c.loop-done.invariant.0 c.loop-done-test.true (rest_is c.args.text.now c.loop-done.at) c.lower-to.ensures _ _
-    _ c.read_clause.ensures c.in-Fault.is).1 }
+    record {
+      outcome = (reading_fault c.loop-done.invariant.0 c.loop-done-test.true (rest_is c.args.text.now c.loop-done.at) c.lower-to.ensures _ _
+          _ c.read_clause.ensures c.in-Fault.is).0;
+      stored = (reading_fault c.loop-done.invariant.0 c.loop-done-test.true (rest_is c.args.text.now c.loop-done.at) c.lower-to.ensures _ _
+          _ c.read_clause.ensures c.in-Fault.is).1;
+    }
 
 pub loop-done-preserved : goal.loop-done-preserved
 loop-done-preserved c = (
-      reading_on c.loop-done.invariant.0 c.loop-done-test.true (rest_is c.args.text.now c.loop-done.at) c.lower-to.ensures _ _ _
-          c.read_clause.ensures c.in-Done.is,
-      c.read_clause.auto.seen ∙ c.loop-done.invariant.1,
-      c.read_clause.auto.held ∙ c.loop-done.invariant.2,
-    )
+  reading_on c.loop-done.invariant.0 c.loop-done-test.true (rest_is c.args.text.now c.loop-done.at) c.lower-to.ensures _ _ _
+      c.read_clause.ensures c.in-Done.is,
+  c.read_clause.auto.seen ∙ c.loop-done.invariant.1,
+  c.read_clause.auto.held ∙ c.loop-done.invariant.2,
+)
 
 pub overflow_add-at : goal.overflow_add-at
 overflow_add-at c = record { fits = omega (arith, (loop-done-preserved c).0.inside) }
@@ -96,19 +99,25 @@ shape_of-store-in-At c = c.loop-done.invariant.0.size
 
 pub returns-in-At : goal.returns-in-At
 returns-in-At c =
-    record { outcome = (reading_more c.loop-done.invariant.0 (omega arith)
-    (word_answer blank c.args.text.now c.loop-done.at
-    (sym c.in-At.is ∙ c.next_word.ensures)).words).0; stored = (reading_more c.loop-done.invariant.0 (omega arith)
-    (word_answer blank c.args.text.now c.loop-done.at
-    (sym c.in-At.is ∙ c.next_word.ensures)).words).1 }
+    record {
+      outcome = (reading_more c.loop-done.invariant.0 (omega arith)
+          (word_answer blank c.args.text.now c.loop-done.at
+          (sym c.in-At.is ∙ c.next_word.ensures)).words).0;
+      stored = (reading_more c.loop-done.invariant.0 (omega arith)
+          (word_answer blank c.args.text.now c.loop-done.at
+          (sym c.in-At.is ∙ c.next_word.ensures)).words).1;
+    }
 
 pub shape_of-store-in-End : goal.shape_of-store-in-End
 shape_of-store-in-End c = c.loop-done.invariant.0.size
 
 pub returns-in-End : goal.returns-in-End
 returns-in-End c =
-    record { outcome = (reading_end c.loop-done.invariant.0 (omega arith)
-    (word_answer blank c.args.text.now c.loop-done.at
-    (sym c.in-End.is ∙ c.next_word.ensures))).0; stored = (reading_end c.loop-done.invariant.0 (omega arith)
-    (word_answer blank c.args.text.now c.loop-done.at
-    (sym c.in-End.is ∙ c.next_word.ensures))).1 }
+    record {
+      outcome = (reading_end c.loop-done.invariant.0 (omega arith)
+          (word_answer blank c.args.text.now c.loop-done.at
+          (sym c.in-End.is ∙ c.next_word.ensures))).0;
+      stored = (reading_end c.loop-done.invariant.0 (omega arith)
+          (word_answer blank c.args.text.now c.loop-done.at
+          (sym c.in-End.is ∙ c.next_word.ensures))).1;
+    }

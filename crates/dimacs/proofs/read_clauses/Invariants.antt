@@ -9,7 +9,7 @@ use Rattle.dimacs.proofs.Reading.{Reading}
 use Rattle.dimacs.proofs.read_clauses.Given as goal
 
 abbrev pub invariant-loop-done : goal.invariant-loop-done
-invariant-loop-done l =     Reading (limits_of l.most) l.variables l.clauses l.text l.initial.store l.seen l.store l.at l.done l.total l.end × (length l.seen ≡ log_size) × (length l.held ≡ 70_001)
+invariant-loop-done l = Reading (limits_of l.most) l.variables l.clauses l.text l.initial.store l.seen l.store l.at l.done l.total l.end × (length l.seen ≡ log_size) × (length l.held ≡ 70_001)
 
 abbrev pub decreases-loop-done : goal.decreases-loop-done
-decreases-loop-done l =     l.clauses - l.done
+decreases-loop-done l = l.clauses - l.done

@@ -11,10 +11,10 @@ use Rattle.drat.proofs.read_clause.Goals as goal
 
 pub loop-next-init : goal.loop-next-init
 loop-next-init c = (
-      refl,
-      reading_start c.args.text.now c.args.from c.args.stamp c.args.seen.now
-          c.args.store.now c.args.to c.requires.fresh,
-    )
+  refl,
+  reading_start c.args.text.now c.args.from c.args.stamp c.args.seen.now
+      c.args.store.now c.args.to c.requires.fresh,
+)
 
 pub mark-requires : goal.mark-requires
 mark-requires c =
@@ -50,9 +50,12 @@ shape_of-store-in-Repeated c = store_length c.loop-next.invariant.1
 pub returns-in-Repeated : goal.returns-in-Repeated
 returns-in-Repeated c =
     let m = word_argument c.args.text.now c.loop-next.at (sym c.read_word.ensures ∙ c.in-Literal.is) in
-    record { read = (reading_repeated c.loop-next.invariant.1 m _ _ (c.mark.ensures c.loop-next.invariant.1.c c.loop-next.invariant.1.marks)
-    c.in-Repeated.is).0; table = (reading_repeated c.loop-next.invariant.1 m _ _ (c.mark.ensures c.loop-next.invariant.1.c c.loop-next.invariant.1.marks)
-    c.in-Repeated.is).1 }
+    record {
+      read = (reading_repeated c.loop-next.invariant.1 m _ _ (c.mark.ensures c.loop-next.invariant.1.c c.loop-next.invariant.1.marks)
+          c.in-Repeated.is).0;
+      table = (reading_repeated c.loop-next.invariant.1 m _ _ (c.mark.ensures c.loop-next.invariant.1.c c.loop-next.invariant.1.marks)
+          c.in-Repeated.is).1;
+    }
 
 pub shape_of-store-in-Opposed : goal.shape_of-store-in-Opposed
 shape_of-store-in-Opposed c = store_length c.loop-next.invariant.1
@@ -60,9 +63,12 @@ shape_of-store-in-Opposed c = store_length c.loop-next.invariant.1
 pub returns-in-Opposed : goal.returns-in-Opposed
 returns-in-Opposed c =
     let m = word_argument c.args.text.now c.loop-next.at (sym c.read_word.ensures ∙ c.in-Literal.is) in
-    record { read = (reading_opposed c.loop-next.invariant.1 m _ _ (c.mark.ensures c.loop-next.invariant.1.c c.loop-next.invariant.1.marks)
-    c.in-Opposed.is).0; table = (reading_opposed c.loop-next.invariant.1 m _ _ (c.mark.ensures c.loop-next.invariant.1.c c.loop-next.invariant.1.marks)
-    c.in-Opposed.is).1 }
+    record {
+      read = (reading_opposed c.loop-next.invariant.1 m _ _ (c.mark.ensures c.loop-next.invariant.1.c c.loop-next.invariant.1.marks)
+          c.in-Opposed.is).0;
+      table = (reading_opposed c.loop-next.invariant.1 m _ _ (c.mark.ensures c.loop-next.invariant.1.c c.loop-next.invariant.1.marks)
+          c.in-Opposed.is).1;
+    }
 
 pub overflow_add-to-in-End : goal.overflow_add-to-in-End
 overflow_add-to-in-End c =
@@ -75,15 +81,21 @@ shape_of-store-in-End c = ap length c.put-in-End.ensures ∙ simp length-set (st
 
 pub returns-in-End : goal.returns-in-End
 returns-in-End c =
-    record { read = reading_last c.loop-next.invariant.1 (word_last _ _ (sym c.read_word.ensures ∙ c.in-End.is))
+    record {
+      read = reading_last c.loop-next.invariant.1 (word_last _ _ (sym c.read_word.ensures ∙ c.in-End.is))
           (answer (λ (z : ℤ). set c.loop-next.store (c.args.to + c.loop-next.count) z) c.header.result
           (sfits_of c.header.type_inv) c.put-in-End.ensures
-          ∙ ap (λ (z : ℤ). set c.loop-next.store (c.args.to + c.loop-next.count) z) c.header.ensures); table = c.loop-next.invariant.1.marks.below }
+          ∙ ap (λ (z : ℤ). set c.loop-next.store (c.args.to + c.loop-next.count) z) c.header.ensures);
+      table = c.loop-next.invariant.1.marks.below;
+    }
 
 pub shape_of-store-in-Fault : goal.shape_of-store-in-Fault
 shape_of-store-in-Fault c = store_length c.loop-next.invariant.1
 
 pub returns-in-Fault : goal.returns-in-Fault
 returns-in-Fault c =
-    record { read = reading_fault c.loop-next.invariant.1
-          (word_fault _ _ (sym c.read_word.ensures ∙ c.in-Fault.is)); table = c.loop-next.invariant.1.marks.below }
+    record {
+      read = reading_fault c.loop-next.invariant.1
+          (word_fault _ _ (sym c.read_word.ensures ∙ c.in-Fault.is));
+      table = c.loop-next.invariant.1.marks.below;
+    }

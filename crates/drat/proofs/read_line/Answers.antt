@@ -13,14 +13,20 @@ read_clause-requires c = record { log_size_in_bounds = c.requires.log_size_in_bo
 
 pub returns-in-Line : goal.returns-in-Line
 returns-in-Line c =
-    record { read = line_stored c.args.text.now _ c.starts_deletion-deletes.ensures _ c.clause_start-from.ensures c.read_clause.result
+    record {
+      read = line_stored c.args.text.now _ c.starts_deletion-deletes.ensures _ c.clause_start-from.ensures c.read_clause.result
           c.args.store.now _ c.args.to c.read_clause.ensures.read c.in-Line.is _
           c.line_header.result c.line_header.ensures
           (answer (set c.read_clause.new.store c.args.to) c.line_header.result
-          (sfits_of c.line_header.type_inv) c.put.ensures); table = c.read_clause.ensures.table }
+          (sfits_of c.line_header.type_inv) c.put.ensures);
+      table = c.read_clause.ensures.table;
+    }
 
 pub returns-in-Fault : goal.returns-in-Fault
 returns-in-Fault c =
-    record { read = line_refused_by_clause c.args.text.now _ c.starts_deletion-deletes.ensures _ c.clause_start-from.ensures
+    record {
+      read = line_refused_by_clause c.args.text.now _ c.starts_deletion-deletes.ensures _ c.clause_start-from.ensures
           c.read_clause.result c.args.store.now _ c.args.to c.read_clause.ensures.read
-          c.in-Fault.is; table = c.read_clause.ensures.table }
+          c.in-Fault.is;
+      table = c.read_clause.ensures.table;
+    }

@@ -8,7 +8,8 @@ slice_bounds-compact-end-2 c = sym (indexed_length c.requires.0)
 
 pub enter_all-requires : goal.enter_all-requires
 enter_all-requires c =
-    record { formed = (
+    record {
+      formed = (
         compacted_formed c.args.work.now c.args.end c.args.cells c.compact-n.result
             c.compact-n.new.store (indexed_inside c.requires.0) c.compact-n.auto.store c.compact-n.ensures c.requires.1,
         compacted_room c.args.work.now c.args.end c.args.cells c.compact-n.result
@@ -16,7 +17,9 @@ enter_all-requires c =
         compacted_small c.args.work.now c.args.end c.args.cells c.compact-n.result
             c.compact-n.new.store (indexed_inside c.requires.0) c.compact-n.auto.store c.compact-n.ensures c.requires.1
             c.requires.0.small,
-      ); at_most = (c.clear.ensures, c.clear.auto.seen ∙ c.requires.0.size) }
+      );
+      at_most = (c.clear.ensures, c.clear.auto.seen ∙ c.requires.0.size);
+    }
 
 pub returns : goal.returns
 returns c =

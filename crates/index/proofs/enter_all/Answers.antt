@@ -15,8 +15,11 @@ next_at-next-requires c =
 
 pub enter-requires : goal.enter-requires
 enter-requires c =
-    record { indexed_2 = (c.loop-at.invariant.indexed, c.next_at-next.ensures); at_in_bounds = filling_room c.args.work.now c.args.end c.requires.formed.0 c.requires.formed.1 c.loop-at.work
-          c.loop-at.newest c.loop-at.at c.loop-at.invariant c.loop-at-test.true c.next_at-next.result c.next_at-next.ensures }
+    record {
+      indexed_2 = (c.loop-at.invariant.indexed, c.next_at-next.ensures);
+      at_in_bounds = filling_room c.args.work.now c.args.end c.requires.formed.0 c.requires.formed.1 c.loop-at.work
+          c.loop-at.newest c.loop-at.at c.loop-at.invariant c.loop-at-test.true c.next_at-next.result c.next_at-next.ensures;
+    }
 
 pub loop-at-smaller : goal.loop-at-smaller
 loop-at-smaller c = omega (arith, c.next_at-next.ensures, c.loop-at-test.true)
@@ -35,6 +38,9 @@ shape_of-newest c = c.loop-at.invariant.indexed.size ∙ sym c.requires.at_most.
 
 pub returns : goal.returns
 returns c =
-    record { indexed = (filling_end c.args.work.now c.args.end c.requires.formed.0 c.requires.formed.1 c.loop-at.work
-    c.loop-at.newest c.loop-at.at c.loop-at.invariant c.loop-at-test.false).0; kept = (filling_end c.args.work.now c.args.end c.requires.formed.0 c.requires.formed.1 c.loop-at.work
-    c.loop-at.newest c.loop-at.at c.loop-at.invariant c.loop-at-test.false).1 }
+    record {
+      indexed = (filling_end c.args.work.now c.args.end c.requires.formed.0 c.requires.formed.1 c.loop-at.work
+          c.loop-at.newest c.loop-at.at c.loop-at.invariant c.loop-at-test.false).0;
+      kept = (filling_end c.args.work.now c.args.end c.requires.formed.0 c.requires.formed.1 c.loop-at.work
+          c.loop-at.newest c.loop-at.at c.loop-at.invariant c.loop-at-test.false).1;
+    }

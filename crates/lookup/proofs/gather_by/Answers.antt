@@ -35,11 +35,11 @@ bounds-list-to c = omega (arith, gathered_room c.loop-next.invariant.3 c.loop-ne
 
 pub step_cursors-requires : goal.step_cursors-requires
 step_cursors-requires c = (
-      omega (arith, c.loop-next.invariant.1, c.requires.choice_in_bounds.0, c.start_cursors.auto.cursors),
-      omega (arith, c.loop-next.invariant.2, c.requires.choice_in_bounds.1, c.start_cursors.auto.places),
-      c.loop-next-test.true,
-      gathered_readable c.loop-next.invariant.3,
-    )
+  omega (arith, c.loop-next.invariant.1, c.requires.choice_in_bounds.0, c.start_cursors.auto.cursors),
+  omega (arith, c.loop-next.invariant.2, c.requires.choice_in_bounds.1, c.start_cursors.auto.places),
+  c.loop-next-test.true,
+  gathered_readable c.loop-next.invariant.3,
+)
 
 pub latest-next-requires-in-loop-next : goal.latest-next-requires-in-loop-next
 latest-next-requires-in-loop-next c =
@@ -51,11 +51,11 @@ loop-next-smaller c = gathered_falls c.loop-next.invariant.3 c.loop-next-test.tr
 
 pub loop-next-preserved : goal.loop-next-preserved
 loop-next-preserved c = (
-      length-set c.loop-next.list (c.loop-next.to - 1) (c.loop-next.next - 1) ∙ c.loop-next.invariant.0,
-      c.step_cursors.auto.cursors ∙ c.loop-next.invariant.1,
-      c.step_cursors.auto.places ∙ c.loop-next.invariant.2,
-      gathered_more c.loop-next.invariant.3 c.loop-next-test.true refl c.step_cursors.ensures c.latest-next-in-loop-next.ensures,
-    )
+  length-set c.loop-next.list (c.loop-next.to - 1) (c.loop-next.next - 1) ∙ c.loop-next.invariant.0,
+  c.step_cursors.auto.cursors ∙ c.loop-next.invariant.1,
+  c.step_cursors.auto.places ∙ c.loop-next.invariant.2,
+  gathered_more c.loop-next.invariant.3 c.loop-next-test.true refl c.step_cursors.ensures c.latest-next-in-loop-next.ensures,
+)
 
 pub shape_of-list : goal.shape_of-list
 shape_of-list c = c.loop-next.invariant.0

@@ -10,9 +10,9 @@ loop-i-init c = (omega arith, latest_none c.args.places.now)
 
 pub loop-i-preserved : goal.loop-i-preserved
 loop-i-preserved c = (
-      omega (arith, c.loop-i-test.true),
-      latest_more c.loop-i.invariant.1 (c.higher-most.ensures ∙ ap (max c.loop-i.most) c.entry_at.ensures),
-    )
+  omega (arith, c.loop-i-test.true),
+  latest_more c.loop-i.invariant.1 (c.higher-most.ensures ∙ ap (max c.loop-i.most) c.entry_at.ensures),
+)
 
 pub returns : goal.returns
 returns c =

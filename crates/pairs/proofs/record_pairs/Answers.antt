@@ -10,11 +10,11 @@ use Rattle.pairs.proofs.record_pairs.Goals as goal
 
 pub loop-i-init : goal.loop-i-init
 loop-i-init c = (
-      omega arith,
-      refl,
-      written_start 0 0 (row_lines c.args.counts.now c.args.choice.now)
-          c.args.log.now c.args.p (omega arith),
-    )
+  omega arith,
+  refl,
+  written_start 0 0 (row_lines c.args.counts.now c.args.choice.now)
+      c.args.log.now c.args.p (omega arith),
+)
 
 pub record_row-q-requires : goal.record_row-q-requires
 record_row-q-requires c =
@@ -33,12 +33,12 @@ loop-i-smaller c = omega (arith, c.loop-i-test.true)
 
 pub loop-i-preserved : goal.loop-i-preserved
 loop-i-preserved c = (
-      omega (arith, c.loop-i-test.true),
-      c.record_row-q.ensures.kept ∙ c.loop-i.invariant.1,
-      written_turn 0 c.loop-i.i
-          (row_lines c.args.counts.now c.args.choice.now) (omega arith)
-          c.loop-i.invariant.2 c.record_row-q.ensures.written,
-    )
+  omega (arith, c.loop-i-test.true),
+  c.record_row-q.ensures.kept ∙ c.loop-i.invariant.1,
+  written_turn 0 c.loop-i.i
+      (row_lines c.args.counts.now c.args.choice.now) (omega arith)
+      c.loop-i.invariant.2 c.record_row-q.ensures.written,
+)
 
 pub shape_of-log : goal.shape_of-log
 shape_of-log c = written_length c.loop-i.invariant.2

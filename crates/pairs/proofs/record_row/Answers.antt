@@ -13,13 +13,13 @@ overflow_add-j c = omega (arith, c.requires.i_in_bounds)
 
 pub loop-j-init : goal.loop-j-init
 loop-j-init c = (
-      omega arith,
-      omega (arith, c.requires.i_in_bounds.0),
-      refl,
-      written_start (suc c.args.i) _
-          (cell_lines c.args.counts.now c.args.choice.now
-          c.args.i) c.args.log.now c.args.p (omega arith),
-    )
+  omega arith,
+  omega (arith, c.requires.i_in_bounds.0),
+  refl,
+  written_start (suc c.args.i) _
+      (cell_lines c.args.counts.now c.args.choice.now
+      c.args.i) c.args.log.now c.args.p (omega arith),
+)
 
 pub record_cell-q-requires : goal.record_cell-q-requires
 record_cell-q-requires c =
@@ -39,13 +39,13 @@ loop-j-smaller c = omega (arith, c.loop-j-test.true)
 
 pub loop-j-preserved : goal.loop-j-preserved
 loop-j-preserved c = (
-      omega (arith, c.loop-j.invariant.0),
-      omega (arith, c.loop-j-test.true),
-      c.record_cell-q.ensures.kept ∙ c.loop-j.invariant.2,
-      written_turn (suc c.args.i) c.loop-j.j
-          (cell_lines c.args.counts.now c.args.choice.now
-          c.args.i) c.loop-j.invariant.0 c.loop-j.invariant.3 c.record_cell-q.ensures.written,
-    )
+  omega (arith, c.loop-j.invariant.0),
+  omega (arith, c.loop-j-test.true),
+  c.record_cell-q.ensures.kept ∙ c.loop-j.invariant.2,
+  written_turn (suc c.args.i) c.loop-j.j
+      (cell_lines c.args.counts.now c.args.choice.now
+      c.args.i) c.loop-j.invariant.0 c.loop-j.invariant.3 c.record_cell-q.ensures.written,
+)
 
 pub shape_of-log : goal.shape_of-log
 shape_of-log c = written_length c.loop-j.invariant.3

@@ -22,10 +22,10 @@ record_line-q-requires c =
 
 pub loop-done-preserved : goal.loop-done-preserved
 loop-done-preserved c = (
-      search rules,
-      c.record_line-q.ensures.kept ∙ c.loop-done.invariant.1,
-      written_again c.loop-done.done (deletion c.args.pair.now) c.loop-done.invariant.2 c.record_line-q.ensures.written,
-    )
+  search rules,
+  c.record_line-q.ensures.kept ∙ c.loop-done.invariant.1,
+  written_again c.loop-done.done (deletion c.args.pair.now) c.loop-done.invariant.2 c.record_line-q.ensures.written,
+)
 
 pub shape_of-log : goal.shape_of-log
 shape_of-log c = written_length c.loop-done.invariant.2

@@ -57,7 +57,7 @@ returns c =
     record {
       less = c.loop-node.invariant.less;
       none = subst (λ (z : ℤ). NoPairWith z c.args.places.now (take c.args.end c.loop-node.work))
-            (to_z-of_z w32 c.args.l c.ranges.l)
-            (pairs_end c.requires.indexed_2.0 c.requires.countable c.loop-node.invariant c.loop-node-test.false);
+          (to_z-of_z w32 c.args.l c.ranges.l)
+          (pairs_end c.requires.indexed_2.0 c.requires.countable c.loop-node.invariant c.loop-node-test.false);
       indexed = c.loop-node.invariant.indexed;
     }

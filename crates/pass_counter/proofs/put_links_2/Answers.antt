@@ -12,11 +12,11 @@ use Rattle.pass_counter.proofs.put_links_2.Goals as goal
 
 pub loop-i-init : goal.loop-i-init
 loop-i-init c = (
-      omega arith,
-      c.requires.small.1,
-      grown_start 2 2 (link_2 (choice_of c.args.choice.now c.args.below)) c.args.work.now
-          c.args.newest.now c.args.log.now c.args.p c.requires.grow_room.indexed (omega arith),
-    )
+  omega arith,
+  c.requires.small.1,
+  grown_start 2 2 (link_2 (choice_of c.args.choice.now c.args.below)) c.args.work.now
+      c.args.newest.now c.args.log.now c.args.p c.requires.grow_room.indexed (omega arith),
+)
 
 pub put_link_2-q-requires : goal.put_link_2-q-requires
 put_link_2-q-requires c =
@@ -35,11 +35,11 @@ loop-i-smaller c = omega (arith, c.loop-i-test.true)
 
 pub loop-i-preserved : goal.loop-i-preserved
 loop-i-preserved c = (
-      omega (arith, c.loop-i.invariant.0),
-      omega (arith, c.loop-i-test.true),
-      grown_turn 2 c.loop-i.i (link_2 (choice_of c.args.choice.now c.args.below)) c.loop-i.invariant.0
-          c.loop-i.invariant.2 c.put_link_2-q.ensures,
-    )
+  omega (arith, c.loop-i.invariant.0),
+  omega (arith, c.loop-i-test.true),
+  grown_turn 2 c.loop-i.i (link_2 (choice_of c.args.choice.now c.args.below)) c.loop-i.invariant.0
+      c.loop-i.invariant.2 c.put_link_2-q.ensures,
+)
 
 pub shape_of-work : goal.shape_of-work
 shape_of-work c = c.loop-i.invariant.2.size

@@ -38,10 +38,10 @@ record_pairs-r-requires c =
 
 pub clear_counts-requires : goal.clear_counts-requires
 clear_counts-requires c = (
-      pair_counts c.requires.1 c.requires.0.small.few c.clear_store.ensures.taken
-          (c.clear_store.auto.counts ∙ ap length c.requires.2 ∙ length-replicate {A = ℕ} slots 0),
-      c.requires.0.small.few,
-    )
+  pair_counts c.requires.1 c.requires.0.small.few c.clear_store.ensures.taken
+      (c.clear_store.auto.counts ∙ ap length c.requires.2 ∙ length-replicate {A = ℕ} slots 0),
+  c.requires.0.small.few,
+)
 
 pub shape_of-work : goal.shape_of-work
 shape_of-work c = c.put_counter-a.auto.work ∙ c.clear_store.auto.work

@@ -7,12 +7,12 @@ use Rattle.pass_pure.proofs.delete_all.Goals as goal
 
 pub loop-at-init : goal.loop-at-init
 loop-at-init c = (
-      same_refl c.args.work.now,
-      passing_start c.args.work.now c.args.log.now c.args.p
-          (standing_all c.args.work.now c.args.p c.requires.whole)
-          (rw (take_all c.args.p.end c.args.work.now (omega (arith, c.requires.whole))) at c.requires.good.formed)
-          c.requires.free,
-    )
+  same_refl c.args.work.now,
+  passing_start c.args.work.now c.args.log.now c.args.p
+      (standing_all c.args.work.now c.args.p c.requires.whole)
+      (rw (take_all c.args.p.end c.args.work.now (omega (arith, c.requires.whole))) at c.requires.good.formed)
+      c.requires.free,
+)
 
 pub next_at-next-requires : goal.next_at-next-requires
 next_at-next-requires c = c.loop-at-test.true

@@ -30,11 +30,14 @@ record_first-q-requires c =
     let s = c.args.work.now in
     let at = c.args.at in
     let k = answer header_literals (header_at s at) (sfits_of c.header_length-arg-1.given) c.header_length-n.ensures in
-    let e : at + 1 + c.header_length-n.result ≡ past s at = omega (arith, k) in record { clause_bound = omega (
+    let e : at + 1 + c.header_length-n.result ≡ past s at = omega (arith, k) in record {
+      clause_bound = omega (
         arith,
         c.requires.at_bound.0,
         clause_short s at (at + 1 + c.header_length-n.result) (sfits_of c.header_length-arg-1.given) e,
-      ); lines_bound = omega (arith, c.requires.at_bound.1) }
+      );
+      lines_bound = omega (arith, c.requires.at_bound.1);
+    }
 
 pub returns : goal.returns
 returns c =

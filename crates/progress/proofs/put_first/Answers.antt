@@ -4,5 +4,8 @@ use Rattle.progress.proofs.put_first.Goals as goal
 
 pub returns : goal.returns
 returns c =
-    record { written = first_put c.args.first c.ranges.first c.put_byte-a.ensures c.put_byte-b.ensures
-          c.put_item.ensures.written; within = omega (arith, c.put_byte-a.ensures.next, c.put_byte-b.ensures.next, c.put_item.ensures.within) }
+    record {
+      written = first_put c.args.first c.ranges.first c.put_byte-a.ensures c.put_byte-b.ensures
+          c.put_item.ensures.written;
+      within = omega (arith, c.put_byte-a.ensures.next, c.put_byte-b.ensures.next, c.put_item.ensures.within);
+    }

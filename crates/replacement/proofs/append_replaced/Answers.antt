@@ -13,6 +13,9 @@ pub returns : goal.returns
 returns c =
     let s = c.args.work.now in
     let W = replaced (choice_of c.args.choice.now c.args.below)
-    (take c.args.n (drop c.args.from s)) in record { next = omega (arith, c.put_replaced-next.ensures.next); written = header_written W s c.put_replaced-next.new.work c.args.end c.put_replaced-next.result c.put_replaced-next.ensures.written
+    (take c.args.n (drop c.args.from s)) in record {
+      next = omega (arith, c.put_replaced-next.ensures.next);
+      written = header_written W s c.put_replaced-next.new.work c.args.end c.put_replaced-next.result c.put_replaced-next.ensures.written
           c.put_replaced-next.ensures.next
-          (at_arg (λ (z : ℤ). z) c.header.result (sfits_of c.header.type_inv) ∙ c.header.ensures) }
+          (at_arg (λ (z : ℤ). z) c.header.result (sfits_of c.header.type_inv) ∙ c.header.ensures);
+    }

@@ -16,19 +16,19 @@ loop-i-init c = (search rules, refl, refl)
 
 pub loop-i-preserved : goal.loop-i-preserved
 loop-i-preserved c = (
-      search rules,
-      c.set_at.auto.table ∙ c.loop-i.invariant.1,
-      ap
-          (λ (w : List ℕ). with_place_marks c.args.places.now w
-          (drop (c.loop-i.i + 1) c.args.clause.now))
-          (c.set_at.ensures
-          ∙ ap (λ (k : ℕ). set c.loop-i.marks k 1)
-          (answer (place_in c.args.places.now) (get_or c.args.clause.now c.loop-i.i (pos 0))
-          (sfits_of c.place_of-arg-1.given) c.place_of.ensures))
-          ∙ place_marks_step c.args.places.now c.loop-i.marks c.args.clause.now c.loop-i.i
-          c.loop-i-test.true
-          ∙ c.loop-i.invariant.2,
-    )
+  search rules,
+  c.set_at.auto.table ∙ c.loop-i.invariant.1,
+  ap
+      (λ (w : List ℕ). with_place_marks c.args.places.now w
+      (drop (c.loop-i.i + 1) c.args.clause.now))
+      (c.set_at.ensures
+      ∙ ap (λ (k : ℕ). set c.loop-i.marks k 1)
+      (answer (place_in c.args.places.now) (get_or c.args.clause.now c.loop-i.i (pos 0))
+      (sfits_of c.place_of-arg-1.given) c.place_of.ensures))
+      ∙ place_marks_step c.args.places.now c.loop-i.marks c.args.clause.now c.loop-i.i
+      c.loop-i-test.true
+      ∙ c.loop-i.invariant.2,
+)
 
 pub returns : goal.returns
 returns c =

@@ -20,7 +20,8 @@ pub put_instead-end-requires : goal.put_instead-end-requires
 put_instead-end-requires c =
     let k = choice_of c.args.choice.now c.args.below in
     let x = get_or c.loop-i.work (c.args.from + c.loop-i.i) (pos 0) in
-    let e = instead_arg k c.requires.n_bound.1 x c.place_of.result (sfits_of c.l-1.given) c.place_of.ensures in record { place_bound = (
+    let e = instead_arg k c.requires.n_bound.1 x c.place_of.result (sfits_of c.l-1.given) c.place_of.ensures in record {
+      place_bound = (
         omega (
           arith,
           answer (place_in c.args.places.now) x (sfits_of c.l-1.given) c.place_of.ensures,
@@ -28,9 +29,11 @@ put_instead-end-requires c =
           c.requires.n_bound.2.few,
         ),
         omega (arith, c.requires.n_bound.2.new),
-      ); place_in_bounds = writing_room c.loop-i.invariant c.loop-i-test.true c.requires.n_bound.0 (omega (arith, c.requires.work_in_bounds)) e
+      );
+      place_in_bounds = writing_room c.loop-i.invariant c.loop-i-test.true c.requires.n_bound.0 (omega (arith, c.requires.work_in_bounds)) e
           (rw (replaced_each k (take c.args.n (drop c.args.from c.args.work.now)))
-          c.requires.work_in_bounds) }
+          c.requires.work_in_bounds);
+    }
 
 pub loop-i-preserved : goal.loop-i-preserved
 loop-i-preserved c =
@@ -45,10 +48,13 @@ shape_of-work c = c.loop-i.invariant.size
 
 pub returns : goal.returns
 returns c =
-    record { next = (rw
-    (replaced_each (choice_of c.args.choice.now c.args.below)
-    (take c.args.n (drop c.args.from c.args.work.now))) at
-    (writing_end c.loop-i.invariant c.loop-i-test.false)).0; written = (rw
-    (replaced_each (choice_of c.args.choice.now c.args.below)
-    (take c.args.n (drop c.args.from c.args.work.now))) at
-    (writing_end c.loop-i.invariant c.loop-i-test.false)).1 }
+    record {
+      next = (rw
+          (replaced_each (choice_of c.args.choice.now c.args.below)
+          (take c.args.n (drop c.args.from c.args.work.now))) at
+          (writing_end c.loop-i.invariant c.loop-i-test.false)).0;
+      written = (rw
+          (replaced_each (choice_of c.args.choice.now c.args.below)
+          (take c.args.n (drop c.args.from c.args.work.now))) at
+          (writing_end c.loop-i.invariant c.loop-i-test.false)).1;
+    }

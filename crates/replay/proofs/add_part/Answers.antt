@@ -32,10 +32,13 @@ returns c =
     let d = take c.args.n (drop c.args.first w) in
     let m : length d ≡ c.args.n = length-take-le c.args.n (drop c.args.first w)
     (omega (arith, c.requires.0, l.order, l.within, l.room, length-drop c.args.first w)) in
-    let x : c.append_part-next.result ≡ c.args.end + (length d + 1) = omega (arith, c.append_part-next.ensures.next, m) in record { added = clause_added w c.append_part-next.new.work _ c.args.heads.now _ c.args.store c.args.end
+    let x : c.append_part-next.result ≡ c.args.end + (length d + 1) = omega (arith, c.append_part-next.ensures.next, m) in record {
+      added = clause_added w c.append_part-next.new.work _ c.args.heads.now _ c.args.store c.args.end
           c.args.links c.append_part-next.result d l (omega (arith, m, c.requires.2)) x
           (omega (arith, x, m, c.requires.1)) c.append_part-next.ensures.written c.index_entry.ensures.linked
-          c.index_entry.ensures.newest; linked = linked_added w c.append_part-next.new.work _ c.args.heads.now _ c.args.store c.args.end
+          c.index_entry.ensures.newest;
+      linked = linked_added w c.append_part-next.new.work _ c.args.heads.now _ c.args.store c.args.end
           c.args.links c.append_part-next.result d l (omega (arith, m, c.requires.2)) x
           (omega (arith, x, m, c.requires.1)) c.append_part-next.ensures.written c.index_entry.ensures.linked
-          c.index_entry.ensures.newest }
+          c.index_entry.ensures.newest;
+    }

@@ -13,14 +13,14 @@ loop-at-init c =
 
 pub index_entry-requires : goal.index_entry-requires
 index_entry-requires c = (
-      omega (arith, c.loop-at-test.true),
-      c.requires.within,
-      link_inside c.args.work.now c.loop-at.work c.args.heads.now c.loop-at.heads c.args.store
-          c.args.end c.args.links c.loop-at.at c.requires c.loop-at.invariant c.loop-at-test.true,
-      c.loop-at.invariant.table,
-      entry_rest c.args.work.now c.loop-at.work c.args.heads.now c.loop-at.heads c.args.store
-          c.args.end c.args.links c.loop-at.at c.requires c.loop-at.invariant c.loop-at-test.true,
-    )
+  omega (arith, c.loop-at-test.true),
+  c.requires.within,
+  link_inside c.args.work.now c.loop-at.work c.args.heads.now c.loop-at.heads c.args.store
+      c.args.end c.args.links c.loop-at.at c.requires c.loop-at.invariant c.loop-at-test.true,
+  c.loop-at.invariant.table,
+  entry_rest c.args.work.now c.loop-at.work c.args.heads.now c.loop-at.heads c.args.store
+      c.args.end c.args.links c.loop-at.at c.requires c.loop-at.invariant c.loop-at-test.true,
+)
 
 pub slice_bounds-next_at-count : goal.slice_bounds-next_at-count
 slice_bounds-next_at-count c = c.requires.order
@@ -58,5 +58,8 @@ shape_of-heads c =
 
 pub returns : goal.returns
 returns c =
-    record { linked = indexing_end c.args.work.now c.loop-at.work c.args.heads.now c.loop-at.heads c.args.store
-          c.args.end c.args.links c.loop-at.at c.requires c.loop-at.invariant c.loop-at-test.false; kept = c.loop-at.invariant.kept }
+    record {
+      linked = indexing_end c.args.work.now c.loop-at.work c.args.heads.now c.loop-at.heads c.args.store
+          c.args.end c.args.links c.loop-at.at c.requires c.loop-at.invariant c.loop-at-test.false;
+      kept = c.loop-at.invariant.kept;
+    }

@@ -56,7 +56,10 @@ bounds-heads-key-2 c =
 
 pub returns : goal.returns
 returns c =
-    record { linked = ap (set c.args.work.now (c.args.links + c.args.at))
+    record {
+      linked = ap (set c.args.work.now (c.args.links + c.args.at))
           (at_arg (λ (z : ℤ). z) c.header.result (sfits_of c.header.type_inv)
           ∙ c.header.ensures
-          ∙ ap (λ (k : ℕ). header_of (get_or c.args.heads.now k 0)) c.key_at-key.ensures); newest = ap (λ (k : ℕ). set c.args.heads.now k (c.args.at + 1)) c.key_at-key.ensures }
+          ∙ ap (λ (k : ℕ). header_of (get_or c.args.heads.now k 0)) c.key_at-key.ensures);
+      newest = ap (λ (k : ℕ). set c.args.heads.now k (c.args.at + 1)) c.key_at-key.ensures;
+    }

@@ -22,10 +22,13 @@ replay_lines-requires c =
 pub returns : goal.returns
 returns c =
     let p = copy_laid_out c.args.work.now _ c.args.n c.args.m c.requires c.copy_up.ensures
-    in record { result = copy_replays c.args.work.now _ c.args.n c.args.m c.requires c.copy_up.ensures
+    in record {
+      result = copy_replays c.args.work.now _ c.args.n c.args.m c.requires c.copy_up.ensures
           c.replay_lines.result _
           (indexed_replays _ c.args.n c.args.m _ _ p refl c.index_all.new.work c.index_all.auto.work
-          c.index_all.ensures.kept c.replay_lines.result _ c.replay_lines.ensures.result); kept = c.replay_lines.ensures.kept
+          c.index_all.ensures.kept c.replay_lines.result _ c.replay_lines.ensures.result);
+      kept = c.replay_lines.ensures.kept
           ∙ same_front _ c.args.n c.args.m _ _ p refl c.index_all.new.work c.index_all.auto.work
           c.index_all.ensures.kept
-          ∙ copy_front c.args.work.now _ c.args.n c.args.m c.requires c.copy_up.ensures }
+          ∙ copy_front c.args.work.now _ c.args.n c.args.m c.requires c.copy_up.ensures;
+    }

@@ -27,9 +27,13 @@ returns-then-is_negative c =
     let store = c.args.store in
     let end = c.args.end in
     let n : c.header_length-n.result ≡ size_at w at = answer header_literals (header_at w at)
-    (sfits_of c.header_length-arg-1.given) c.header_length-n.ensures in record { result = replays_deletion (stored (between store end w)) w at store end _ c.delete_part.result _ (omega arith)
+    (sfits_of c.header_length-arg-1.given) c.header_length-n.ensures in record {
+      result = replays_deletion (stored (between store end w)) w at store end _ c.delete_part.result _ (omega arith)
           (answered negative (header_at w at) (sfits_of c.is_negative-arg-1.given) c.is_negative.ensures c.if-is_negative.true)
-          (rw n at c.delete_part.ensures.result); kept = c.delete_part.ensures.kept; linked = c.delete_part.ensures.linked }
+          (rw n at c.delete_part.ensures.result);
+      kept = c.delete_part.ensures.kept;
+      linked = c.delete_part.ensures.linked;
+    }
 
 pub add_part-requires : goal.add_part-requires
 add_part-requires c =
@@ -54,8 +58,12 @@ returns c =
     let k : length (clause_at w at) ≡ size_at w at = length-take-le (size_at w at) (drop (at + 1) w)
     (omega (arith, c.requires.0, l.order, l.within, l.room, length-drop (at + 1) w)) in
     let a : ClauseAdded w store end (clause_at w at) c.add_part.result c.add_part.new.work = rw n at
-    c.add_part.ensures.added in record { result = replays_addition (stored (between store end w)) w at store (end + (length (clause_at w at) + 1))
+    c.add_part.ensures.added in record {
+      result = replays_addition (stored (between store end w)) w at store (end + (length (clause_at w at) + 1))
           (end + (size_at w at + 1)) (Replayed.Standing c.add_part.result) c.add_part.new.work (omega arith)
           (answered negative (header_at w at) (sfits_of c.is_negative-arg-1.given) c.is_negative.ensures c.if-is_negative.false)
           (addition_replays w c.add_part.new.work store end c.add_part.result (clause_at w at) l.order
-          (omega (arith, k, literals_within (header_at w at) (sfits_of c.header_length-arg-1.given))) l.formed a); kept = a.kept; linked = c.add_part.ensures.linked }
+          (omega (arith, k, literals_within (header_at w at) (sfits_of c.header_length-arg-1.given))) l.formed a);
+      kept = a.kept;
+      linked = c.add_part.ensures.linked;
+    }

@@ -51,11 +51,17 @@ shape_of-heads-in-NoClause c = c.replay_line.auto.heads ∙ c.loop-at.invariant.
 
 pub returns-in-NoClause : goal.returns-in-NoClause
 returns-in-NoClause c =
-    record { result = replaying_none c.args.work.now c.loop-at.work c.loop-at.heads c.args.lines c.args.store
+    record {
+      result = replaying_none c.args.work.now c.loop-at.work c.loop-at.heads c.args.lines c.args.store
           c.args.end c.args.links c.loop-at.filled c.loop-at.at c.loop-at.invariant c.loop-at-test.true
-          c.requires.0 _ c.replay_line.result c.in-NoClause.is c.replay_line.ensures.result; kept = c.replay_line.ensures.kept ∙ c.loop-at.invariant.kept }
+          c.requires.0 _ c.replay_line.result c.in-NoClause.is c.replay_line.ensures.result;
+      kept = c.replay_line.ensures.kept ∙ c.loop-at.invariant.kept;
+    }
 
 pub returns : goal.returns
 returns c =
-    record { result = replaying_end c.args.work.now _ c.loop-at.heads c.args.lines c.args.store
-          c.args.end c.args.links _ c.loop-at.at c.loop-at.invariant c.requires.0 c.loop-at-test.false; kept = c.loop-at.invariant.kept }
+    record {
+      result = replaying_end c.args.work.now _ c.loop-at.heads c.args.lines c.args.store
+          c.args.end c.args.links _ c.loop-at.at c.loop-at.invariant c.requires.0 c.loop-at-test.false;
+      kept = c.loop-at.invariant.kept;
+    }

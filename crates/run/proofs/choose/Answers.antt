@@ -8,10 +8,10 @@ slice_bounds-arrange-end-2 c = sym (length-take-le c.collect-n.result c.collect-
 
 pub arrange-requires : goal.arrange-requires
 arrange-requires c = (
-      c.requires.1,
-      store_proper c.requires.0,
-      choices_collected c.requires.0 c.collect-n.ensures,
-    )
+  c.requires.1,
+  store_proper c.requires.0,
+  choices_collected c.requires.0 c.collect-n.ensures,
+)
 
 pub returns : goal.returns
 returns c = chosen_arranged c.requires.0 c.collect-n.ensures c.arrange.ensures

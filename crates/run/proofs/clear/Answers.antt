@@ -14,5 +14,5 @@ returns c =
       indexed = c.delete_pure.ensures.index _ c.clear_clashes-q.ensures.indexed;
       table = c.clear_clashes-q.ensures.table;
       weighed = weighed_left c.requires.0 c.clear_clashes-q.ensures.runs c.delete_pure.ensures.runs
-              c.clear_clashes-q.ensures.weighed;
+          c.clear_clashes-q.ensures.weighed;
     }

@@ -7,12 +7,12 @@ use Rattle.run.proofs.run_indexed.Goals as goal
 
 pub clear-p-requires : goal.clear-p-requires
 clear-p-requires c = (
-      clear_ready (settings_of c.args.settings) c.requires.0
-          (step_is c.requires.0 c.requires.1 c.step_of-step.ensures),
-      c.requires.1,
-      refl,
-      refl,
-    )
+  clear_ready (settings_of c.args.settings) c.requires.0
+      (step_is c.requires.0 c.requires.1 c.step_of-step.ensures),
+  c.requires.1,
+  refl,
+  refl,
+)
 
 pub choose-n-requires : goal.choose-n-requires
 choose-n-requires c = (choosable (settings_of c.args.settings) c.requires.0 c.clear-p.ensures.runs _ refl, c.clear-p.ensures.indexed)
@@ -25,11 +25,11 @@ slice_bounds-take_all-end-3 c =
 
 pub take_all-requires : goal.take_all-requires
 take_all-requires c = (
-      take_ready (settings_of c.args.settings) c.requires.0 c.clear-p.ensures.runs c.choose-n.ensures refl
-          c.clear-p.ensures.weighed (step_is c.requires.0 c.requires.1 c.step_of-step.ensures),
-      c.clear-p.ensures.indexed,
-      c.clear-p.ensures.table,
-    )
+  take_ready (settings_of c.args.settings) c.requires.0 c.clear-p.ensures.runs c.choose-n.ensures refl
+      c.clear-p.ensures.weighed (step_is c.requires.0 c.requires.1 c.step_of-step.ensures),
+  c.clear-p.ensures.indexed,
+  c.clear-p.ensures.table,
+)
 
 pub returns : goal.returns
 returns c =

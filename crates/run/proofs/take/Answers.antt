@@ -10,10 +10,10 @@ use Rattle.run.proofs.take.Goals as goal
 
 pub loop-at-init : goal.loop-at-init
 loop-at-init c = (
-      turns_start c.args.log.now c.requires.0,
-      c.requires.1,
-      record { places_zero = c.requires.2; counts_zero = refl; long = refl },
-    )
+  turns_start c.args.log.now c.requires.0,
+  c.requires.1,
+  record { places_zero = c.requires.2; counts_zero = refl; long = refl },
+)
 
 pub slice_bounds-take_at-end : goal.slice_bounds-take_at-end
 slice_bounds-take_at-end c = sym (ap length c.loop-at.invariant.2.counts_zero ∙ length-replicate {A = ℕ} slots 0)
@@ -29,10 +29,10 @@ loop-at-smaller c = omega (arith, c.next_at-at.ensures, c.loop-at-test.true)
 
 pub loop-at-preserved : goal.loop-at-preserved
 loop-at-preserved c = (
-      rw c.next_at-at.ensures (turns_next c.loop-at.invariant.0 c.loop-at-test.true c.take_at-r.ensures.taken),
-      c.take_at-r.ensures.indexed,
-      c.take_at-r.ensures.lent,
-    )
+  rw c.next_at-at.ensures (turns_next c.loop-at.invariant.0 c.loop-at-test.true c.take_at-r.ensures.taken),
+  c.take_at-r.ensures.indexed,
+  c.take_at-r.ensures.lent,
+)
 
 pub shape_of-work : goal.shape_of-work
 shape_of-work c = c.loop-at.invariant.0.runs.size

@@ -31,13 +31,13 @@ slice_bounds-literals-end c =
 
 pub take_one-p-requires : goal.take_one-p-requires
 take_one-p-requires c = (
-      one_takeable c.requires.0 c.next_at-next.result c.next_below-below.result
-          (answered negative (header_at c.args.chosen.now c.args.at)
-          (sfits_of c.is_negative-arg-1.given) c.is_negative.ensures c.if-is_negative.false) c.next_at-next.ensures
-          c.next_below-below.ensures,
-      c.requires.1,
-      c.requires.2,
-    )
+  one_takeable c.requires.0 c.next_at-next.result c.next_below-below.result
+      (answered negative (header_at c.args.chosen.now c.args.at)
+      (sfits_of c.is_negative-arg-1.given) c.is_negative.ensures c.if-is_negative.false) c.next_at-next.ensures
+      c.next_below-below.ensures,
+  c.requires.1,
+  c.requires.2,
+)
 
 pub overflow_add-result : goal.overflow_add-result
 overflow_add-result c = omega (arith, c.requires.0.few)

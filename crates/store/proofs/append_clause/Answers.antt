@@ -25,10 +25,13 @@ shape_of-work c = c.copy_at.auto.store ∙ simp length-set
 pub returns : goal.returns
 returns c = let a = c.args in
     let d = le-leb (length a.clause.now) largest c.if-n-gt2147483647.false in
-    let e = le-leb (length a.clause.now + 1) (length a.work.now - a.end) c.if-work-end.false in record { end = rw (d, e) refl; written = rw (d, e)
+    let e = le-leb (length a.clause.now + 1) (length a.work.now - a.end) c.if-work-end.false in record {
+      end = rw (d, e) refl;
+      written = rw (d, e)
           (c.copy_at.ensures
           ∙ ap (λ (z : ℤ). sets (set a.work.now a.end z) (a.end + 1) a.clause.now)
           (at_arg (λ (z : ℤ). z) c.header.result (sfits_of c.header.type_inv) ∙ c.header.ensures)
           ∙ ap
           (λ (k : ℕ). sets (set a.work.now a.end (header_of (length a.clause.now))) k a.clause.now)
-          (add-one a.end)) }
+          (add-one a.end));
+    }

@@ -20,10 +20,10 @@ returns-then-is_negative c = let s = c.args.store.now in
 
 pub slice_bounds-same_set-end : goal.slice_bounds-same_set-end
 slice_bounds-same_set-end c = omega (
-      arith,
-      c.next_at-next.ensures,
-      (formed_next c.args.store.now c.args.at c.requires.0 c.requires.1).0,
-    )
+  arith,
+  c.next_at-next.ensures,
+  (formed_next c.args.store.now c.args.at c.requires.0 c.requires.1).0,
+)
 
 pub returns-then-same_set : goal.returns-then-same_set
 returns-then-same_set c = let s = c.args.store.now in

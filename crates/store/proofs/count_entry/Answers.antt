@@ -17,10 +17,10 @@ returns-then-is_negative c = rw
 
 pub slice_bounds-count_clause-end : goal.slice_bounds-count_clause-end
 slice_bounds-count_clause-end c = omega (
-      arith,
-      c.next_at-next.ensures,
-      (formed_next c.args.store.now c.args.at c.requires.0 c.requires.1).0,
-    )
+  arith,
+  c.next_at-next.ensures,
+  (formed_next c.args.store.now c.args.at c.requires.0 c.requires.1).0,
+)
 
 pub returns : goal.returns
 returns c = let s = c.args.store.now in

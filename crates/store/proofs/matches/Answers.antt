@@ -18,10 +18,10 @@ returns-then-is_negative c = matches_deleted c.args.store.now c.args.at c.requir
 
 pub slice_bounds-same_set-end : goal.slice_bounds-same_set-end
 slice_bounds-same_set-end c = omega (
-      arith,
-      c.next_at-next.ensures,
-      (formed_next c.args.store.now c.args.at c.requires.at_in_bounds c.requires.formed).0,
-    )
+  arith,
+  c.next_at-next.ensures,
+  (formed_next c.args.store.now c.args.at c.requires.at_in_bounds c.requires.formed).0,
+)
 
 pub returns : goal.returns
 returns c = let s = c.args.store.now in

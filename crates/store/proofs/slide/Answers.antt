@@ -17,10 +17,10 @@ returns-then-is_negative c = let e = answered negative (header_at c.args.store.n
 
 pub move_down-requires : goal.move_down-requires
 move_down-requires c = omega (
-      arith,
-      c.next_at.ensures,
-      (formed_next c.args.store.now c.args.from c.requires.1 c.requires.2).0,
-    )
+  arith,
+  c.next_at.ensures,
+  (formed_next c.args.store.now c.args.from c.requires.1 c.requires.2).0,
+)
 
 pub returns : goal.returns
 returns c = let a = c.args in

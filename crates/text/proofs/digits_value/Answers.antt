@@ -12,13 +12,13 @@ next_value-value-requires c = record { value_bound = search rules; le_b = digit_
 
 pub loop-i-preserved : goal.loop-i-preserved
 loop-i-preserved c = (
-      search rules,
-      omega arith,
-      rw c.next_value-value.ensures
-          (digits_step c.args.most (search rules) c.args.word.now c.loop-i.i c.loop-i.value
-          (search rules) (sym c.is_digit.ensures ∙ c.if-is_digit.true)
-          ∙ c.loop-i.invariant.2),
-    )
+  search rules,
+  omega arith,
+  rw c.next_value-value.ensures
+      (digits_step c.args.most (search rules) c.args.word.now c.loop-i.i c.loop-i.value
+      (search rules) (sym c.is_digit.ensures ∙ c.if-is_digit.true)
+      ∙ c.loop-i.invariant.2),
+)
 
 pub returns-else-is_digit : goal.returns-else-is_digit
 returns-else-is_digit c = digits_stop c.args.most (search rules) c.args.word.now c.loop-i.i c.loop-i.value (search rules)

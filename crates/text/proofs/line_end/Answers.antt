@@ -11,11 +11,11 @@ returns-then-text-i-eq10 c = record { after = search rules; within = search rule
 
 pub loop-i-preserved : goal.loop-i-preserved
 loop-i-preserved c = (
-      search rules,
-      search rules,
-      line_end_step c.args.text.now c.args.at c.loop-i.i (search rules) (search rules) c.if-text-i-eq10.false
-          c.loop-i.invariant.2,
-    )
+  search rules,
+  search rules,
+  line_end_step c.args.text.now c.args.at c.loop-i.i (search rules) (search rules) c.if-text-i-eq10.false
+      c.loop-i.invariant.2,
+)
 
 pub returns : goal.returns
 returns c = record { after = search rules; within = search rules; no_newline = c.loop-i.invariant.2; stops = λ h. absurd (omega arith) }

@@ -13,11 +13,11 @@ loop-i-init c = (search rules, refl, fill_none c.args.buf.now 0)
 
 pub loop-i-preserved : goal.loop-i-preserved
 loop-i-preserved c = (
-      search rules,
-      simp length-set c.loop-i.invariant.1,
-      ap (λ (l : List ℕ). set l c.loop-i.i 0) c.loop-i.invariant.2
-          ∙ fill_more c.loop-i.i 0 c.args.buf.now (search rules),
-    )
+  search rules,
+  simp length-set c.loop-i.invariant.1,
+  ap (λ (l : List ℕ). set l c.loop-i.i 0) c.loop-i.invariant.2
+      ∙ fill_more c.loop-i.i 0 c.args.buf.now (search rules),
+)
 
 pub returns : goal.returns
 returns c = let e : c.loop-i.i ≡ length c.args.buf.now = omega arith in

@@ -13,10 +13,8 @@ fn put_byte(buf: &mut [u8], at: usize, b: u8) -> usize {
 // Puts a word at a place.
 fn put_word(buf: &mut [u8], at: usize, word: &[u8]) -> usize {
     let mut next = at;
-    let mut i = 0;
-    while i < word.len() {
-        next = put_byte(buf, next, word[i]);
-        i += 1;
+    for b in word {
+        next = put_byte(buf, next, *b);
     }
     next
 }
@@ -31,9 +29,7 @@ fn put_number(buf: &mut [u8], at: usize, n: u32) -> usize {
 // Puts the clause 1..size.
 fn put_clause(buf: &mut [u8], at: usize, size: u32) -> usize {
     let mut next = at;
-    let mut l = 0;
-    while l < size {
-        l += 1;
+    for l in 1..=size {
         next = put_number(buf, next, l);
         next = put_byte(buf, next, 32);
     }
@@ -52,9 +48,7 @@ fn put_twice(buf: &mut [u8], at: usize, l: u32) -> usize {
 // Puts the clauses -1..-size, each twice: none of them is unique, and no literal is pure.
 fn put_negations(buf: &mut [u8], at: usize, size: u32) -> usize {
     let mut next = at;
-    let mut l = 0;
-    while l < size {
-        l += 1;
+    for l in 1..=size {
         next = put_twice(buf, next, l);
     }
     next
@@ -86,15 +80,13 @@ fn left_after(b: u8, left: usize) -> usize {
 // The place past some lines.
 pub fn past_lines(text: &[u8], lines: usize) -> usize {
     let mut left = lines;
-    let mut at = 0;
-    while at < text.len() {
+    for (at, b) in text.iter().enumerate() {
         if left == 0 {
             return at;
         }
-        left = left_after(text[at], left);
-        at += 1;
+        left = left_after(*b, left);
     }
-    at
+    text.len()
 }
 
 // Prints the bytes between two places.

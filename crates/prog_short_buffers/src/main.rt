@@ -8,21 +8,17 @@ use std::io;
 
 // Fills a buffer with a pattern.
 fn fill(buf: &mut [u8]) {
-    let mut i = 0;
-    while i < buf.len() {
-        buf[i] = 170;
-        i += 1;
+    for b in buf {
+        *b = 170;
     }
 }
 
 // Whether every byte is 0.
 fn is_zero(buf: &[u8]) -> bool {
-    let mut i = 0;
-    while i < buf.len() {
-        if buf[i] != 0 {
+    for b in buf {
+        if *b != 0 {
             return false;
         }
-        i += 1;
     }
     true
 }

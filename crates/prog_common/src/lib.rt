@@ -1,7 +1,7 @@
 // What the programs share: arguments, files, and the line of a refusal.
 #![tactic(auto)]
 
-ghost use Rattle.std.specs.Prelude.{◌≤◌, length};
+ghost use Rattle.std.specs.Prelude.{◌≡◌, ◌≤◌, length};
 ghost use Rattle.std.specs.Io.{ReadsAtMost};
 
 use formula_run::Tallied;
@@ -66,9 +66,11 @@ pub fn number_arg(rt: &impl Env, i: usize) -> usize {
     }
 }
 
-// Reads until a buffer is full or the input ends; the answer is how many bytes stand at the start of the buffer.
+// Reads until a buffer is full or the input ends; the answer is how many bytes stand at the start of the buffer. A read that fails
+// leaves a buffer of the same length.
 pub fn read_full(input: &mut impl Read, buf: &mut [u8]) -> io::Result<usize>
-    ensures { ReadsAtMost result buf.new }
+    ensures read { ReadsAtMost result buf.new }
+    ensures kept { length buf.new ≡ length buf.old }
 {
     let mut done = 0;
     while done < buf.len() {
@@ -83,7 +85,8 @@ pub fn read_full(input: &mut impl Read, buf: &mut [u8]) -> io::Result<usize>
 
 // Reads the file that an argument names into a buffer; the answer is its length, as far as the buffer reaches.
 pub fn read_file(rt: &(impl Env + Files), i: usize, buf: &mut [u8]) -> io::Result<usize>
-    ensures { ReadsAtMost result buf.new }
+    ensures read { ReadsAtMost result buf.new }
+    ensures kept { length buf.new ≡ length buf.old }
 {
     let mut path = [0u8; 4096];
     let n = put_arg(rt, i, &mut path);

@@ -1,3 +1,4 @@
+use Rattle.std.proofs.Common.{arith}
 use Rattle.call_reencode.specs.Outcome.{outcome}
 use Rattle.call_reencode.proofs.Call.{promised_done, promised_refused}
 use Rattle.call_reencode.proofs.reencode_rows.Goals as goal
@@ -11,7 +12,7 @@ returns-in-Done c =
       outcome = p.outcome;
       log_after = p.log_after;
       formula_after = p.formula_after;
-      fits = p.fits;
+      fits = omega (arith, p.fits);
       table_after = p.table_after;
     }
 
@@ -25,6 +26,6 @@ returns-in-Refused c =
       outcome = p.outcome;
       log_after = p.log_after;
       formula_after = p.formula_after;
-      fits = p.fits;
+      fits = omega (arith, p.fits);
       table_after = p.table_after;
     }

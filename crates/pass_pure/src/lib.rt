@@ -39,6 +39,7 @@ fn first_pure(counts: &[u32], clause: &[i32]) -> Pure
 }
 
 // The literal for which a clause is deleted, if it is.
+#[tactic(auto, using(crate::proofs::Tests::pure_yes, crate::proofs::Tests::pure_no))]
 fn pure_literal(counts: &[u32], clause: &[i32]) -> Pure
     ensures { result ≡ as_pure (pure_by counts.now clause.now) }
 {

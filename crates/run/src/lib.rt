@@ -267,6 +267,7 @@ fn step_of(newest: &[u32], end: usize) -> usize
 }
 
 // Takes the choices, if their variables stay within 70,000; their rows are written.
+#[tactic(auto, using(crate::proofs::Numbered::took_high))]
 fn take_all(
     work: &mut [i32],
     newest: &mut [u32],

@@ -18,7 +18,9 @@ use Rattle.theory_base.proofs.Tests.{by_test, of_true, to_true}
 use Rattle.theory_base.proofs.Members.{same_eq, same_refl, unlike, natAbs_neg, holds_snoc}
 use Rattle.theory_base.proofs.Slices.{drop_step, drop_end, getD_zeros}
 use Rattle.literals.specs.Literal.{index_of, negation}
-use Rattle.literals.proofs.Laws.{negation_small, index_injective, index_within}
+use mir.Syntax.{w32}
+use mir.Val.{SFits, of_z, to_z}
+use Rattle.literals.proofs.Laws.{answer, answer_negated, negation_small, index_injective, index_within}
 use Rattle.tables.specs.Sizes.{log_reach, log_size}
 use Rattle.tables.specs.Entries.{entry_of, with_entries}
 use Rattle.tables.specs.Stamps.{AtMost, Marks, Fresh}
@@ -212,3 +214,10 @@ module _ (l : ℤ) (h : nat_abs l ≤ log_reach) (table : List ℕ) (stamp : ℕ
       sym other ∙ ne_eqb b stamp m,
       rw e (marks_add table stamp here k l (index_inside log_reach table l room h)),
     )
+
+-- what the code says of a literal whose negation is marked
+pub opposed_marked : {l n : ℤ} {t : List ℕ} {stamp a b : ℕ} → nat_abs l ≤ log_reach → SFits w32 l → SFits w32 n →
+    a ≡ entry_of t (to_z w32 (of_z w32 l)) → (a ≡ stamp → ⊥) → n ≡ negation (to_z w32 (of_z w32 l)) → b ≡ entry_of t (to_z w32 (of_z w32 n)) → b ≡ stamp →
+    (c : Clause) → Marks t stamp c → (holds l c ≡ false) × (holds (neg_ℤ l) c ≡ true) × Marks t stamp c
+opposed_marked {l = l} {t = t} {stamp = stamp} h f k p n e q r c m =
+    mark_opposed l h t stamp (answer (entry_of t) l f p) c m n (answer_negated (entry_of t) l f k e q) r

@@ -165,6 +165,7 @@ pub fn is_unique(counts: &[u32], clause: &[i32]) -> bool
 }
 
 // Whether a clause has as many literals as a choice.
+#[tactic(auto, using(crate::proofs::Counting::size_short))]
 fn is_choice_size(clause: &[i32]) -> bool
     ensures { result ≡ choice_size clause.now }
 {
@@ -207,6 +208,7 @@ pub enum Marked {
 }
 
 // Marks a literal with the stamp of its clause or line if it is new there; says whether it is.
+#[tactic(auto, using(crate::proofs::Laws::opposed_marked))]
 pub fn mark(seen: &mut [u32], stamp: u32, l: i32) -> Marked
     requires l_bound { nat_abs l ≤ log_reach }
     requires log_size_in_bounds { log_size ≤ length seen.old }

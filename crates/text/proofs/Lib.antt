@@ -3,3 +3,4 @@ pub mod Numbers
 pub mod Words
 pub mod Output
 pub mod Writing
+pub mod FewDigits

@@ -105,6 +105,7 @@ fn digits_value(word: &[u8], most: u32) -> Natural
 }
 
 // The number that a word says: 0, or digits that begin with 1 to 9.
+#[tactic(auto, using(crate::proofs::Numbers::natural_none, crate::proofs::Numbers::natural_zero, crate::proofs::Numbers::natural_zeros))]
 fn natural_up_to(word: &[u8], most: u32) -> Natural
     requires { most ≤ 1000000 }
     ensures { result ≡ natural_class most (natural word.now) }
@@ -260,6 +261,7 @@ fn line_end(text: &[u8], at: usize) -> usize
 }
 
 // The end of a line that ends with LF, without a CR directly before it.
+#[tactic(auto, using(theory_text::proofs::TextLines::trimmed_cr, theory_text::proofs::TextLines::trimmed_empty))]
 fn without_cr(text: &[u8], start: usize, end: usize) -> usize
     requires { (start ≤ end) × (end ≤ length text.now) }
     ensures { Trimmed text.now start end result }
@@ -396,6 +398,7 @@ pub fn put_text(buf: &mut [u8], at: usize, text: &[u8]) -> usize
 // ---- clauses
 
 // How many digits a number of at most five has, found by comparing.
+#[tactic(auto, using(crate::proofs::FewDigits::one_digit, crate::proofs::FewDigits::two_digits, crate::proofs::FewDigits::three_digits, crate::proofs::FewDigits::four_digits, crate::proofs::FewDigits::five_digits))]
 fn few_digits(n: u32) -> usize
     requires { n < 100000 }
     ensures { result ≡ length (digits n) }

@@ -1,5 +1,5 @@
 use native.Mathlib.Omega.{arith}
-use borrow.Author.Rules.{sfits_of}
+use borrow.Author.Rules.{rules, sfits_of}
 use Rattle.literals.specs.Literal.{negative}
 use Rattle.literals.proofs.Laws.{answered}
 use Rattle.store.specs.Store.{header_at}
@@ -35,18 +35,18 @@ append-requires c =
     at_room c.args.counts.now c.args.store.now c.args.at c.args.chosen.now
     c.args.end c.requires.at_in_bounds_2 c.next_at-next.result c.next_at-next.ensures
     (answered negative (header_at c.args.store.now c.args.at) (sfits_of c.is_negative-arg-1.given)
-    c.is_negative.ensures c.if-is_negative.false) c.is_choice.ensures c.if-is_choice.true
+    c.is_negative.ensures c.if-is_negative.false) c.is_choice.ensures (search rules)
 
 pub returns-then-is_choice : goal.returns-then-is_choice
 returns-then-is_choice c =
     at_choice c.args.counts.now c.args.store.now c.args.at c.args.chosen.now
     c.args.end c.requires.at_in_bounds_2 c.next_at-next.result c.next_at-next.ensures
     (answered negative (header_at c.args.store.now c.args.at) (sfits_of c.is_negative-arg-1.given)
-    c.is_negative.ensures c.if-is_negative.false) c.is_choice.ensures c.if-is_choice.true c.append.ensures
+    c.is_negative.ensures c.if-is_negative.false) c.is_choice.ensures (search rules) c.append.ensures
 
 pub returns-else-is_choice : goal.returns-else-is_choice
 returns-else-is_choice c =
     at_other c.args.counts.now c.args.store.now c.args.at c.args.chosen.now
     c.args.end c.requires.at_in_bounds_2 c.next_at-next.result c.next_at-next.ensures
     (answered negative (header_at c.args.store.now c.args.at) (sfits_of c.is_negative-arg-1.given)
-    c.is_negative.ensures c.if-is_negative.false) c.is_choice.ensures c.if-is_choice.false
+    c.is_negative.ensures c.if-is_negative.false) c.is_choice.ensures (search rules)

@@ -1,11 +1,11 @@
 -- By the entries of the literal and of its negation (Laws, mark-repeated and its neighbours).
 use lib.IntN.{ℤ}
 use lib.ListN.{set}
-use borrow.Author.Rules.{sfits_of}
+use borrow.Author.Rules.{rules, sfits_of}
 use Rattle.literals.specs.Literal.{index_of}
 use Rattle.literals.proofs.Laws.{answer, answer_negated}
 use Rattle.tables.specs.Entries.{entry_of}
-use Rattle.tables.proofs.Laws.{mark_repeated, mark_opposed, mark_new}
+use Rattle.tables.proofs.Laws.{mark_repeated, mark_new}
 use Rattle.tables.proofs.mark.Goals as goal
 
 pub returns-then-entry_of-stamp : goal.returns-then-entry_of-stamp
@@ -13,17 +13,10 @@ returns-then-entry_of-stamp c = let t = c.args.seen.now in
     let a = answer (entry_of t) c.args.l c.ranges.l c.entry_of.ensures in
     λ here k. mark_repeated c.args.l c.requires.l_bound t c.args.stamp a here k c.if-entry_of-stamp.true
 
-pub returns-then-entry_of-stamp-2 : goal.returns-then-entry_of-stamp-2
-returns-then-entry_of-stamp-2 c = let t = c.args.seen.now in
-    let l = c.args.l in
-    let a = answer (entry_of t) l c.ranges.l c.entry_of.ensures in
-    let b = answer_negated (entry_of t) l c.ranges.l (sfits_of c.negated.type_inv) c.negated.ensures c.entry_of-2.ensures in
-    λ here k. mark_opposed l c.requires.l_bound t c.args.stamp a here k c.if-entry_of-stamp.false b c.if-entry_of-stamp-2.true
-
 pub returns : goal.returns
 returns c = let t = c.args.seen.now in
     let l = c.args.l in
     let a = answer (entry_of t) l c.ranges.l c.entry_of.ensures in
     let b = answer_negated (entry_of t) l c.ranges.l (sfits_of c.negated.type_inv) c.negated.ensures c.entry_of-2.ensures in
-    λ here k. mark_new l c.requires.l_bound t c.args.stamp a here k c.if-entry_of-stamp.false b c.if-entry_of-stamp-2.false c.requires.log_size_in_bounds
+    λ here k. mark_new l c.requires.l_bound t c.args.stamp a here k c.if-entry_of-stamp.false b (search rules) c.requires.log_size_in_bounds
     (answer (λ (z : ℤ). set t (index_of z) c.args.stamp) l c.ranges.l c.set_entry.ensures)

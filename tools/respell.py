@@ -29,6 +29,8 @@ OTHER = {
     "Formula-read": "FormulaOf",
     "Log-read": "LogOf",
 }
+# as port.py leaves them
+LEFT = {"Laid_out": "LaidOut", "one-Holds": "one_holds"}
 # an import that would have the name of a function of its crate: another name there
 CLASHES = {}
 
@@ -76,7 +78,7 @@ def table():
             code = "".join(PIECE.split(text)[::2])
             names.update(w for w in re.findall(r"(?<![^\s(){};,@])%s" % WORD, code) if re.match(r"[^\W\d]\S*-", w) and w not in library)
     names -= AMBIGUOUS
-    turned = {n: respelled(n) for n in names if respelled(n) != n}
+    turned = {n: respelled(n) for n in names if respelled(n) != n} | LEFT
     together = collections.defaultdict(set)
     for name in names | set(imported):
         together[turned.get(name, name)].add(name)

@@ -101,7 +101,7 @@ pub fn has_true(marks: &[u8], clause: &[i32]) -> bool
 // ---- reading an answer
 
 // What is read: nothing yet, the `s` line, the closing 0, or the number of the first fault.
-#[derive(Drop)]
+#[derive(Clone, Copy)]
 enum Progress {
     Waiting,
     Open,
@@ -110,7 +110,7 @@ enum Progress {
 }
 
 // The outcome of reading an answer.
-#[derive(Drop)]
+#[derive(Clone, Copy)]
 pub enum AnswerRead {
     Answer,
     Fault(u8),

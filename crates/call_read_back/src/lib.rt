@@ -9,7 +9,7 @@ ghost use Rattle.call_read_back.specs.Outcome.{outcome, read_back_of, Reads};
 use dimacs::FormulaRead;
 
 // V, the clauses and the literals of the formula read back, or the number of the refusal.
-#[derive(Drop)]
+#[derive(Clone, Copy)]
 pub enum ReadBack {
     Read(u32, u32, u32),
     Refused(u8),

@@ -54,7 +54,7 @@ fn reencode_into(
 // ---- the call on rows: what is refused leaves zeros
 
 // The outcome, and how many records of the table are to be filled from the rows.
-#[derive(Drop)]
+#[derive(Clone, Copy)]
 pub struct Made {
     pub answer: Tallied,
     pub records: usize,

@@ -167,7 +167,7 @@ pub fn carry_forward(marks: &mut [u8], lines: &[i32])
 // ---- an answer or a plan carried and written
 
 // The outcome: how many bytes the line has, or the number of the refusal.
-#[derive(Drop)]
+#[derive(Clone, Copy)]
 pub enum Carried {
     Line(usize),
     Refused(u8),

@@ -65,14 +65,14 @@ pub fn workspace_need(variables: u32, clauses: u32, literals: u32) -> usize
 // ---- the header
 
 // V and C, or the number of a fault.
-#[derive(Drop)]
+#[derive(Clone, Copy)]
 enum Counts {
     Numbers(u32, u32),
     Fault(u8),
 }
 
 // V, C and the place past the header line, or the number of a fault.
-#[derive(Drop)]
+#[derive(Clone, Copy)]
 enum Header {
     Numbers(u32, u32, usize),
     Fault(u8),
@@ -187,7 +187,7 @@ fn read_header(text: &[u8], most: Limits) -> Header
 // ---- a clause
 
 // What a word of a clause says: its end, a literal, or the number of a fault.
-#[derive(Drop)]
+#[derive(Clone, Copy)]
 enum Item {
     Zero,
     Literal(i32),
@@ -222,7 +222,7 @@ fn ended(count: usize) -> u8
 }
 
 // The place past a clause that is left out, or the number of a fault.
-#[derive(Drop)]
+#[derive(Clone, Copy)]
 enum Skipped {
     To(usize),
     Fault(u8),
@@ -256,7 +256,7 @@ fn skip_clause(text: &[u8], from: usize, variables: u32) -> Skipped
 }
 
 // The number of literals held with one more, or its negation is held.
-#[derive(Drop)]
+#[derive(Clone, Copy)]
 enum Held {
     Count(usize),
     Opposed,
@@ -282,7 +282,7 @@ fn hold_literal(seen: &mut [u32], stamp: u32, held: &mut [i32], n: usize, l: i32
 
 // A clause's literals: the place past it and how many are held, the place past a clause that is left out, or the number of a
 // fault.
-#[derive(Drop)]
+#[derive(Clone, Copy)]
 enum Gathered {
     Kept(usize, usize),
     LeftOut(usize),
@@ -345,7 +345,7 @@ fn gather_clause(
 
 // How the reading of a clause ends: the place past it, and of what is kept the literals and the elements that are stored; or
 // the number of a fault.
-#[derive(Drop)]
+#[derive(Clone, Copy)]
 enum ClauseRead {
     Done(usize, usize, usize),
     Fault(u8),
@@ -384,7 +384,7 @@ fn read_clause(
 // ---- the formula
 
 // V, C, L and how many elements of a store the clauses fill, or the number of the first fault.
-#[derive(Drop)]
+#[derive(Clone, Copy)]
 pub enum FormulaRead {
     Formula(u32, u32, u32, usize),
     Fault(u8),

@@ -51,7 +51,7 @@ pub fn log_line(log: &mut [u8], at: usize, is_deletion: bool, clause: &[i32]) ->
 // ---- reading kept lines
 
 // A word of a line and the place past it and the byte after it.
-#[derive(Drop)]
+#[derive(Clone, Copy)]
 enum LineWord {
     // a literal of a variable up to 70,000, a blank after it
     Literal(usize, i32),
@@ -125,7 +125,7 @@ fn read_word(text: &[u8], at: usize) -> LineWord
 }
 
 // A line read: the place past it, how many literals, the highest variable.
-#[derive(Drop)]
+#[derive(Clone, Copy)]
 enum LineRead {
     Line(usize, usize, u32),
     Fault,
@@ -222,7 +222,7 @@ fn read_line(text: &[u8], seen: &mut [u32], stamp: u32, store: &mut [i32], to: u
 
 // The kept lines of a log: how many numbers, zeros counted, the highest variable, and how many elements their entries fill; or the
 // number of the fault.
-#[derive(Drop)]
+#[derive(Clone, Copy)]
 pub enum LogRead {
     Kept(usize, u32, usize),
     Fault(u8),

@@ -24,7 +24,7 @@ pub struct Tally {
 }
 
 // The outcome of reencoding or of its sizes: the result, or the number of the refusal.
-#[derive(Drop)]
+#[derive(Clone, Copy)]
 pub enum Tallied {
     Done(Tally),
     Refused(u8),

@@ -13,7 +13,7 @@ use drat::LogRead;
 // ---- what they say
 
 // What is read: V, N, G, how many elements the lines fill, and X; or the number of the first fault.
-#[derive(Drop)]
+#[derive(Clone, Copy)]
 enum Words {
     Read(u32, usize, usize, usize, u32),
     Fault(u8),
@@ -74,7 +74,7 @@ fn is_short(size: usize, n: usize, g: usize, x: u32) -> bool
 // ---- the texts
 
 // The texts: the highest variable of the line to be written, the place past the formula and the place past the lines; or the number of the first fault.
-#[derive(Drop)]
+#[derive(Clone, Copy)]
 pub enum Texts {
     Read(u32, usize, usize),
     Fault(u8),

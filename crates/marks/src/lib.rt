@@ -8,7 +8,7 @@ ghost use Rattle.marks.specs.Marks.{digit, WithMark, WithoutMark, lowest_from as
 pub const INPUT_WORDS: usize = 251;
 
 // The lowest marked variable.
-#[derive(Drop)]
+#[derive(Clone, Copy)]
 pub enum Lowest {
     At(u32),
     Nothing,

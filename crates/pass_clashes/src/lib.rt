@@ -127,7 +127,7 @@ fn unmark_variables(marks: &mut [u32], clause: &[i32])
 // ---- the clauses of a clash
 
 // Where the two clauses of a clash are.
-#[derive(Drop)]
+#[derive(Clone, Copy)]
 pub struct Places {
     pub one: usize,
     pub other: usize,
@@ -365,7 +365,7 @@ fn resolve(
 // ---- all clashes
 
 // How far the search for marks is: what is done, and the word of the last mark found, or the number of words where none is left.
-#[derive(Drop)]
+#[derive(Clone, Copy)]
 pub struct Scan {
     pub progress: Progress,
     pub word: usize,

@@ -8,7 +8,7 @@ ghost use Rattle.store.specs.Store.{stored};
 ghost use Rattle.pass_number.specs.Numbering.{OneReady, NumberedOne, AtReady, NumberedAt, AllReady, NumberedAll};
 
 // How many choices are numbered, and the highest variable used after them.
-#[derive(Drop)]
+#[derive(Clone, Copy)]
 pub struct Numbered {
     pub choices: usize,
     pub highest: u32,

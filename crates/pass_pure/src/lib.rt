@@ -15,7 +15,7 @@ ghost use Rattle.pass_pure.specs.Pass.{pure_by, as_pure, pure_at, Step, Passable
 use progress::Progress;
 
 // What was found in a clause: its first pure literal.
-#[derive(Drop)]
+#[derive(Clone, Copy)]
 pub enum Pure {
     Literal(i32),
     Nothing,

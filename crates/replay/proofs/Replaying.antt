@@ -22,7 +22,7 @@ use Rattle.replay.specs.declared.Replayed.TheVariants as Replayed
 use Rattle.drat.specs.Lines.{line_of}
 use Rattle.drat.specs.Loaded.{Loaded, lines_in, line_at, past_line}
 use Rattle.theory_base.specs.Slices.{between}
-use Rattle.replay.specs.Replayed.{Replayable, Laid_out, ClauseAdded, Replays}
+use Rattle.replay.specs.Replayed.{Replayable, LaidOut, ClauseAdded, Replays}
 use Rattle.replay.specs.Index.{keys, Linkable, Linked, LinkedAfter}
 use Rattle.theory_base.proofs.Slices.{sets_before}
 use Rattle.theory_base.proofs.Parts.{drop_take, length_between, between_none, sets_between, between_same}
@@ -89,7 +89,7 @@ pub record Replaying (old work : List ℤ) (heads : List ℕ) (lines store first
   pub linked : Linked work heads store end links
   pub same : replay (stored (between store end work)) (lines_in (drop at (take store old))) ≡ replay (stored (between store first old)) (lines_in (between lines store old))
 
-pub replaying_start : (work : List ℤ) (heads : List ℕ) (lines store first links : ℕ) → Laid_out work lines store first → first + numbers_in (lines_in (between lines store work)) ≤ links → Linked work heads store first links
+pub replaying_start : (work : List ℤ) (heads : List ℕ) (lines store first links : ℕ) → LaidOut work lines store first → first + numbers_in (lines_in (between lines store work)) ≤ links → Linked work heads store first links
     → Replaying work work heads lines store first links first lines
 replaying_start work heads lines store first links p n l = record {
   inside = p.before;
@@ -101,7 +101,7 @@ replaying_start work heads lines store first links p n l = record {
   same = ap (λ (s : List ℤ). replay (stored (between store first work)) (lines_in s)) (drop_take lines store work);
 }
 
-module _ (old work : List ℤ) (heads : List ℕ) (lines store first links end at : ℕ) (i : Replaying old work heads lines store first links end at) (h : at < store) (p : Laid_out old lines store first) where
+module _ (old work : List ℤ) (heads : List ℕ) (lines store first links end at : ℕ) (i : Replaying old work heads lines store first links end at) (h : at < store) (p : LaidOut old lines store first) where
   abbrev front : List ℤ
   front = take store old
 
@@ -163,7 +163,7 @@ module _ (old work : List ℤ) (heads : List ℕ) (lines store first links end a
       let q : replay_line (stored (between store end work)) (line_at work at) ≡ fault 32 = rw e at x in
       sym line_first ∙ replay_refused (stored (between store end work)) (line_at work at) (lines_in (drop (past_line work at) front)) 32 q
 
-pub replaying_end : (old work : List ℤ) (heads : List ℕ) (lines store first links end at : ℕ) → Replaying old work heads lines store first links end at → Laid_out old lines store first → store ≤ at
+pub replaying_end : (old work : List ℤ) (heads : List ℕ) (lines store first links end at : ℕ) → Replaying old work heads lines store first links end at → LaidOut old lines store first → store ≤ at
     → Replays (replay (stored (between store first old)) (lines_in (between lines store old))) store (length old) (Replayed.Standing end) work
 unfolding replay through
 replaying_end old work heads lines store first links end at i p h =
@@ -171,7 +171,7 @@ replaying_end old work heads lines store first links end at i p h =
     (stored (between store end work), sym (rw e at i.same), record { order = i.linked.order; small = omega (arith, i.linked.within, i.linked.room, i.len); formed = i.linked.formed; same = refl })
 
 -- ---- with an index: the links begin in the middle of the room behind the lines, and only what lies there is changed
-module _ (old : List ℤ) (lines store first links : ℕ) (p : Laid_out old lines store first) (e : links ≡ store + (length old - store) / 2) where
+module _ (old : List ℤ) (lines store first links : ℕ) (p : LaidOut old lines store first) (e : links ≡ store + (length old - store) / 2) where
   -- what stands and what the lines add fit before the links, and as many links behind them
   links_room : (first + numbers_in (lines_in (between lines store old)) ≤ links) × (links + (links - store) ≤ length old)
   links_room = (omega (arith, e, p.room, p.behind), omega (arith, e, p.room, p.behind))
@@ -192,7 +192,7 @@ module _ (old : List ℤ) (lines store first links : ℕ) (p : Laid_out old line
         ∙ ap (take store) k
         ∙ take-take store links old (omega (arith, links_room.0, p.behind))
 
-    pub still_laid_out : Laid_out work lines store first
+    pub still_laid_out : LaidOut work lines store first
     still_laid_out = record {
       before = p.before;
       behind = p.behind;
@@ -230,7 +230,7 @@ module _ (old work : List ℤ) (n m : ℕ) (p : Replayable old n m) (e : work �
       ∙ sets_between m m old (take n old) (omega arith) (omega (arith, formula_length, p.room))
       ∙ ap (λ (r : List ℤ). r ++ take n old) (between_none m old)
 
-  pub copy_laid_out : Laid_out work n m (m + n)
+  pub copy_laid_out : LaidOut work n m (m + n)
   copy_laid_out = record {
     before = p.before;
     behind = omega arith;

@@ -17,7 +17,7 @@ pub record Replayable (work : List ℤ) (n m : ℕ) : Type 0 where
   pub loaded : Loaded (between n m work)
 
 -- the lines lie before `store`, the clauses that they change at store..end, with room for what the lines add, and for as many links
-pub record Laid_out (work : List ℤ) (lines store end : ℕ) : Type 0 where
+pub record LaidOut (work : List ℤ) (lines store end : ℕ) : Type 0 where
   pub before : lines ≤ store
   pub behind : store ≤ end
   pub room : store + 2 * ((end - store) + numbers_in (lines_in (between lines store work))) ≤ length work

@@ -11,7 +11,7 @@ ghost use Rattle.store.specs.Store.{Formed, stored, entry, size_at, begins_with,
 ghost use Rattle.store.specs.declared.Found.TheVariants.{At};
 ghost use Rattle.drat.specs.Loaded.{lines_in, line_at, past_line};
 ghost use Rattle.replay.specs.Index.{keys, lowest_index, greatest_index, key_of, key_at, Indexed, Linkable, Linked, LinkedAfter};
-ghost use Rattle.replay.specs.Replayed.{Replayable, Laid_out, ClauseAdded, Replays};
+ghost use Rattle.replay.specs.Replayed.{Replayable, LaidOut, ClauseAdded, Replays};
 
 // ---- an index of the clauses by key: a table of the last entry of each key, and a link from each entry to the one before it with the same key
 
@@ -138,7 +138,7 @@ fn find_clause(
 // ---- replaying the lines
 
 // The outcome of a replay: the place past what stands, or a deletion without its clause.
-#[derive(Drop)]
+#[derive(Clone, Copy)]
 pub enum Replayed {
     Standing(usize),
     NoClause,
@@ -242,7 +242,7 @@ fn replay_lines(
     end: usize,
     links: usize,
 ) -> Replayed
-    requires { Laid_out work.old lines store end × (end + numbers_in (lines_in (between lines store work.old)) ≤ links) × Linked work.old heads.old store end links }
+    requires { LaidOut work.old lines store end × (end + numbers_in (lines_in (between lines store work.old)) ≤ links) × Linked work.old heads.old store end links }
     ensures result { Replays (replay_all (stored (between store end work.old)) (lines_in (between lines store work.old))) store (length work.old) result work.new }
     ensures kept { take store work.new ≡ take store work.old }
 {

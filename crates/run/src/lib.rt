@@ -29,14 +29,14 @@ pub enum Form {
 }
 
 // The order in which a choice's literals are taken: as they stand, or aligned.
-#[derive(Drop)]
+#[derive(Clone, Copy)]
 pub enum Arrangement {
     AsListed,
     Alignment,
 }
 
 // What the caller asks for; the step is from 1 to 100.
-#[derive(Drop)]
+#[derive(Clone, Copy)]
 pub struct Settings {
     pub form: Form,
     pub arrangement: Arrangement,
@@ -50,7 +50,7 @@ const LIST: usize = 20000;
 pub const ROW_NUMBERS: usize = 4800;
 
 // How far a run has come, how many choices it took, and the highest variable used.
-#[derive(Drop)]
+#[derive(Clone, Copy)]
 pub struct Reached {
     pub progress: Progress,
     pub choices: usize,
@@ -58,7 +58,7 @@ pub struct Reached {
 }
 
 // The outcome of a run: how far it came, or the number of the refusal.
-#[derive(Drop)]
+#[derive(Clone, Copy)]
 pub enum Ran {
     Done(Reached),
     Refused(u8),

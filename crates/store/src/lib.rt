@@ -10,14 +10,14 @@ ghost use Rattle.tables.specs.Entries.{tallied_all};
 ghost use Rattle.store.specs.declared.Found.TheVariants.{At};
 ghost use Rattle.store.specs.Store.{Formed, stored, past, marked, tallied_at, begins_with, place_of, end_after, with_entry, slid, slid_to, Compacted};
 
-#[derive(Drop)]
+#[derive(Clone, Copy)]
 pub enum Found {
     // the place of the entry
     At(usize),
     Nothing,
 }
 
-#[derive(Drop)]
+#[derive(Clone, Copy)]
 pub enum Added {
     // the place past the entry
     To(usize),

@@ -200,7 +200,7 @@ pub fn is_deletable(counts: &[u32], clause: &[i32]) -> bool
 // ---- stamps: which literals of a clause or line are read
 
 // What a literal is among those read before it: new, there already, or its negation is.
-#[derive(Drop)]
+#[derive(Clone, Copy)]
 pub enum Marked {
     New,
     Repeated,

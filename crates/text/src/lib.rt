@@ -54,7 +54,7 @@ pub fn is_digit(b: u8) -> bool
 // ---- numbers
 
 // What a word says as a number without a sign.
-#[derive(Drop)]
+#[derive(Clone, Copy)]
 pub enum Natural {
     Value(u32),
     // a number above what is asked for
@@ -63,7 +63,7 @@ pub enum Natural {
 }
 
 // What a word says as a number.
-#[derive(Drop)]
+#[derive(Clone, Copy)]
 pub enum Number {
     Value(i32),
     // a number whose absolute value is above 70,000
@@ -165,7 +165,7 @@ pub fn read_number(word: &[u8]) -> Number
 // ---- words
 
 // A word's start and the place past it, or the text's end.
-#[derive(Drop)]
+#[derive(Clone, Copy)]
 pub enum Word {
     At(usize, usize),
     End,
@@ -235,7 +235,7 @@ pub fn next_word_of_line(line: &[u8], at: usize) -> Word
 // ---- lines
 
 // A line of a text without its end, and the place past it; or the text's end.
-#[derive(Drop)]
+#[derive(Clone, Copy)]
 pub enum Line {
     Text {
         start: usize,

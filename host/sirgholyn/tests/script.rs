@@ -90,10 +90,11 @@ fn what_is_newer_is_built_again() {
     let remove = |name: &str| fs::remove_file(checkout.path(name)).unwrap();
     let write = |name: &str, text: &str| checkout.write(name, text);
     #[rustfmt::skip]
-    let rows: [(&str, &dyn Fn(), &[&str]); 16] = [
+    let rows: [(&str, &dyn Fn(), &[&str]); 17] = [
         ("a source of the library", &|| write("crates/text/src/lib.rt", "new"), &BUILT),
         ("one more", &|| write("crates/text/specs/More.antt", ""), &BUILT),
         ("one less", &|| remove("crates/text/src/removed.rt"), &BUILT),
+        ("a folder less", &|| fs::remove_dir_all(checkout.path("crates/text/specs")).unwrap(), &BUILT),
         ("the crates", &|| write("crates.txt", CRATES), &BUILT),
         ("the pinned toolchain", &|| write("TOOLCHAIN", "kit-7 logic 0123\n"), &BUILT),
         ("no archive", &|| remove("target/staticlib/libexports.a"), &BUILT),

@@ -3,10 +3,6 @@ use mathlib.Core.Path.{sym, ◌∙◌}
 use Rattle.pass_clashes.proofs.Scanning.{step_room, scanned_none, none_fewer, lowest_small, there_clashes, light_there, resolvable, scanned_clash, clash_fewer}
 use Rattle.pass_clashes.proofs.clear_next.Goals as goal
 
--- a pair by its parts
-both : {A B C : Type 0} → (A → B → C) → A × B → C
-both f p = f p.0 p.1
-
 pub make_room-p-requires : goal.make_room-p-requires
 make_room-p-requires c = (c.requires.0.indexed, step_room c.requires.0)
 
@@ -28,12 +24,12 @@ returns-in-At c =
     let e = sym c.lowest_from.ensures ∙ c.in-At.is in
     let k = c.make_room-p.ensures.runs c.args.log.now in
     let h = c.find_clash-at.ensures (there_clashes c.requires.0 e k) in
-    both (λ x y. record { scanned = x; fewer = y }) (rw c.word_of.ensures (
-      scanned_clash c.requires.0 e k h c.resolve-q.ensures.runs c.resolve-q.new.marks
+    record {
+      scanned = rw c.word_of.ensures (scanned_clash c.requires.0 e k h c.resolve-q.ensures.runs c.resolve-q.new.marks
           c.resolve-q.ensures.ended c.resolve-q.auto.marks c.resolve-q.ensures.indexed
-          c.resolve-q.ensures.table c.resolve-q.ensures.weights,
-      clash_fewer c.requires.0 e k h c.resolve-q.ensures.runs,
-    ))
+          c.resolve-q.ensures.table c.resolve-q.ensures.weights);
+      fewer = rw c.word_of.ensures (clash_fewer c.requires.0 e k h c.resolve-q.ensures.runs);
+    }
 
 pub returns-in-Nothing : goal.returns-in-Nothing
 returns-in-Nothing c =

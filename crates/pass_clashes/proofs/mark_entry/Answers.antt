@@ -7,10 +7,6 @@ use Rattle.store.proofs.Laws.{formed_next}
 use Rattle.pass_clashes.proofs.Marking.{part_deleted, part_tested, part_none}
 use Rattle.pass_clashes.proofs.mark_entry.Goals as goal
 
--- a pair by its parts
-both : {A B C : Type 0} → (A → B → C) → A × B → C
-both f p = f p.0 p.1
-
 pub returns-then-is_negative : goal.returns-then-is_negative
 returns-then-is_negative c =
     let s = c.args.store.now in
@@ -58,7 +54,7 @@ returns-then-is_unique c =
     let e = part_tested c.args.counts.now s c.args.at
     (answered negative (header_at s c.args.at) (sfits_of c.is_negative-arg-1.given) c.is_negative.ensures
     c.if-is_negative.false) c.next_at-next.result c.next_at-next.ensures c.is_unique.ensures c.if-is_unique.true in
-    both (λ x y. record { table = x; marks = y }) (rw e (c.set_entries.ensures, c.mark_variables.ensures))
+    record { table = rw e c.set_entries.ensures; marks = rw e c.mark_variables.ensures }
 
 pub returns-else-is_unique : goal.returns-else-is_unique
 returns-else-is_unique c =

@@ -8,9 +8,6 @@ use Rattle.answer.specs.Table.{marked}
 use Rattle.theory_base.proofs.Slices.{any_hit, any_miss, any_end}
 use Rattle.answer.proofs.has_true.Goals as goal
 
-pub loop-i-init : goal.loop-i-init
-loop-i-init c = refl
-
 pub returns-then-true_literal : goal.returns-then-true_literal
 unfolding has_true
 returns-then-true_literal c =

@@ -9,14 +9,9 @@ use Rattle.dimacs.proofs.put_entry.Goals as goal
 
 pub returns-then-is_negative : goal.returns-then-is_negative
 returns-then-is_negative c =
-    record {
-      written = (entry_deleted c.args.store.now c.args.at c.args.buf.now c.args.end
-          (answered negative (header_at c.args.store.now c.args.at)
-          (sfits_of c.is_negative-arg-1.given) c.is_negative.ensures c.if-is_negative.true)).0;
-      within = (entry_deleted c.args.store.now c.args.at c.args.buf.now c.args.end
-          (answered negative (header_at c.args.store.now c.args.at)
-          (sfits_of c.is_negative-arg-1.given) c.is_negative.ensures c.if-is_negative.true)).1;
-    }
+    let done = entry_deleted c.args.store.now c.args.at c.args.buf.now c.args.end
+    (answered negative (header_at c.args.store.now c.args.at)
+    (sfits_of c.is_negative-arg-1.given) c.is_negative.ensures c.if-is_negative.true) in record { written = done.0; within = done.1 }
 
 pub slice_bounds-put_clause-end : goal.slice_bounds-put_clause-end
 slice_bounds-put_clause-end c =

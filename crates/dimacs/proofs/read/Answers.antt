@@ -16,18 +16,10 @@ read_clauses-requires c =
 
 pub returns-in-Fault : goal.returns-in-Fault
 returns-in-Fault c =
-    record {
-      outcome = (header_fault c.args.most c.args.text.now _ c.read_header.ensures c.args.store.now c.args.store.now
-          c.in-Fault.is).0;
-      stored = (header_fault c.args.most c.args.text.now _ c.read_header.ensures c.args.store.now c.args.store.now
-          c.in-Fault.is).1;
-    }
+    let done = header_fault c.args.most c.args.text.now _ c.read_header.ensures c.args.store.now c.args.store.now
+    c.in-Fault.is in record { outcome = done.0; stored = done.1 }
 
 pub returns-in-Numbers : goal.returns-in-Numbers
 returns-in-Numbers c =
-    record {
-      outcome = (header_clauses c.args.most c.args.text.now _ c.read_header.ensures c.in-Numbers.is
-          (rest_is c.args.text.now _) _ c.args.store.now _ (c.read_clauses.ensures.outcome, c.read_clauses.ensures.stored)).0;
-      stored = (header_clauses c.args.most c.args.text.now _ c.read_header.ensures c.in-Numbers.is
-          (rest_is c.args.text.now _) _ c.args.store.now _ (c.read_clauses.ensures.outcome, c.read_clauses.ensures.stored)).1;
-    }
+    let done = header_clauses c.args.most c.args.text.now _ c.read_header.ensures c.in-Numbers.is
+    (rest_is c.args.text.now _) _ c.args.store.now _ (c.read_clauses.ensures.outcome, c.read_clauses.ensures.stored) in record { outcome = done.0; stored = done.1 }

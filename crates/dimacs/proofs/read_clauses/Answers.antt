@@ -58,12 +58,8 @@ shape_of-store-in-Fault c =
 
 pub returns-in-Fault : goal.returns-in-Fault
 returns-in-Fault c =
-    record {
-      outcome = (reading_fault c.loop-done.invariant.0 c.loop-done-test.true (rest_is c.args.text.now c.loop-done.at) c.lower-to.ensures _ _
-          _ c.read_clause.ensures c.in-Fault.is).0;
-      stored = (reading_fault c.loop-done.invariant.0 c.loop-done-test.true (rest_is c.args.text.now c.loop-done.at) c.lower-to.ensures _ _
-          _ c.read_clause.ensures c.in-Fault.is).1;
-    }
+    let done = reading_fault c.loop-done.invariant.0 c.loop-done-test.true (rest_is c.args.text.now c.loop-done.at) c.lower-to.ensures _ _
+    _ c.read_clause.ensures c.in-Fault.is in record { outcome = done.0; stored = done.1 }
 
 pub loop-done-preserved : goal.loop-done-preserved
 loop-done-preserved c = (
@@ -99,25 +95,15 @@ shape_of-store-in-At c = c.loop-done.invariant.0.size
 
 pub returns-in-At : goal.returns-in-At
 returns-in-At c =
-    record {
-      outcome = (reading_more c.loop-done.invariant.0 (omega arith)
-          (word_answer blank c.args.text.now c.loop-done.at
-          (sym c.in-At.is ∙ c.next_word.ensures)).words).0;
-      stored = (reading_more c.loop-done.invariant.0 (omega arith)
-          (word_answer blank c.args.text.now c.loop-done.at
-          (sym c.in-At.is ∙ c.next_word.ensures)).words).1;
-    }
+    let done = reading_more c.loop-done.invariant.0 (omega arith)
+    (word_answer blank c.args.text.now c.loop-done.at
+    (sym c.in-At.is ∙ c.next_word.ensures)).words in record { outcome = done.0; stored = done.1 }
 
 pub shape_of-store-in-End : goal.shape_of-store-in-End
 shape_of-store-in-End c = c.loop-done.invariant.0.size
 
 pub returns-in-End : goal.returns-in-End
 returns-in-End c =
-    record {
-      outcome = (reading_end c.loop-done.invariant.0 (omega arith)
-          (word_answer blank c.args.text.now c.loop-done.at
-          (sym c.in-End.is ∙ c.next_word.ensures))).0;
-      stored = (reading_end c.loop-done.invariant.0 (omega arith)
-          (word_answer blank c.args.text.now c.loop-done.at
-          (sym c.in-End.is ∙ c.next_word.ensures))).1;
-    }
+    let done = reading_end c.loop-done.invariant.0 (omega arith)
+    (word_answer blank c.args.text.now c.loop-done.at
+    (sym c.in-End.is ∙ c.next_word.ensures)) in record { outcome = done.0; stored = done.1 }

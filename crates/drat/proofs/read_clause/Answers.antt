@@ -50,12 +50,8 @@ shape_of-store-in-Repeated c = store_length c.loop-next.invariant.1
 pub returns-in-Repeated : goal.returns-in-Repeated
 returns-in-Repeated c =
     let m = word_argument c.args.text.now c.loop-next.at (sym c.read_word.ensures ∙ c.in-Literal.is) in
-    record {
-      read = (reading_repeated c.loop-next.invariant.1 m _ _ (c.mark.ensures c.loop-next.invariant.1.c c.loop-next.invariant.1.marks)
-          c.in-Repeated.is).0;
-      table = (reading_repeated c.loop-next.invariant.1 m _ _ (c.mark.ensures c.loop-next.invariant.1.c c.loop-next.invariant.1.marks)
-          c.in-Repeated.is).1;
-    }
+    let done = reading_repeated c.loop-next.invariant.1 m _ _ (c.mark.ensures c.loop-next.invariant.1.c c.loop-next.invariant.1.marks)
+    c.in-Repeated.is in record { read = done.0; table = done.1 }
 
 pub shape_of-store-in-Opposed : goal.shape_of-store-in-Opposed
 shape_of-store-in-Opposed c = store_length c.loop-next.invariant.1
@@ -63,12 +59,8 @@ shape_of-store-in-Opposed c = store_length c.loop-next.invariant.1
 pub returns-in-Opposed : goal.returns-in-Opposed
 returns-in-Opposed c =
     let m = word_argument c.args.text.now c.loop-next.at (sym c.read_word.ensures ∙ c.in-Literal.is) in
-    record {
-      read = (reading_opposed c.loop-next.invariant.1 m _ _ (c.mark.ensures c.loop-next.invariant.1.c c.loop-next.invariant.1.marks)
-          c.in-Opposed.is).0;
-      table = (reading_opposed c.loop-next.invariant.1 m _ _ (c.mark.ensures c.loop-next.invariant.1.c c.loop-next.invariant.1.marks)
-          c.in-Opposed.is).1;
-    }
+    let done = reading_opposed c.loop-next.invariant.1 m _ _ (c.mark.ensures c.loop-next.invariant.1.c c.loop-next.invariant.1.marks)
+    c.in-Opposed.is in record { read = done.0; table = done.1 }
 
 pub overflow_add-to-in-End : goal.overflow_add-to-in-End
 overflow_add-to-in-End c =

@@ -5,9 +5,6 @@ use Rattle.theory_text.proofs.Runs.{run_step, run_stop, run_stop_end}
 use Rattle.drat.proofs.Words.{goes_on, blank_stops, newline_stops}
 use Rattle.drat.proofs.word_end.Goals as goal
 
-pub loop-i-init : goal.loop-i-init
-loop-i-init c = refl
-
 pub returns-then-b-eq32 : goal.returns-then-b-eq32
 returns-then-b-eq32 c = run_stop _ c.args.text.now c.loop-i.i (search rules) (blank_stops _ c.if-b-eq32.true) ∙ c.loop-i.invariant
 

@@ -54,17 +54,6 @@ shape_of-newest c = c.loop-i.invariant.reach
 
 pub returns : goal.returns
 returns c =
-    record {
-      indexed = (entering_end c.args.work.now c.args.newest.now c.args.at c.args.next
-          c.requires.indexed_2.0 c.requires.indexed_2.1 c.requires.at_in_bounds c.loop-i.work c.loop-i.newest c.loop-i.i c.loop-i.invariant
-          c.loop-i-test.false).0;
-      kept = (entering_end c.args.work.now c.args.newest.now c.args.at c.args.next
-          c.requires.indexed_2.0 c.requires.indexed_2.1 c.requires.at_in_bounds c.loop-i.work c.loop-i.newest c.loop-i.i c.loop-i.invariant
-          c.loop-i-test.false).1.0;
-      nodes = (entering_end c.args.work.now c.args.newest.now c.args.at c.args.next
-          c.requires.indexed_2.0 c.requires.indexed_2.1 c.requires.at_in_bounds c.loop-i.work c.loop-i.newest c.loop-i.i c.loop-i.invariant
-          c.loop-i-test.false).1.1.0;
-      below = (entering_end c.args.work.now c.args.newest.now c.args.at c.args.next
-          c.requires.indexed_2.0 c.requires.indexed_2.1 c.requires.at_in_bounds c.loop-i.work c.loop-i.newest c.loop-i.i c.loop-i.invariant
-          c.loop-i-test.false).1.1.1;
-    }
+    let done = entering_end c.args.work.now c.args.newest.now c.args.at c.args.next
+    c.requires.indexed_2.0 c.requires.indexed_2.1 c.requires.at_in_bounds c.loop-i.work c.loop-i.newest c.loop-i.i c.loop-i.invariant
+    c.loop-i-test.false in record { indexed = done.0; kept = done.1.0; nodes = done.1.1.0; below = done.1.1.1 }

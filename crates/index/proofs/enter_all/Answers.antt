@@ -38,9 +38,5 @@ shape_of-newest c = c.loop-at.invariant.indexed.size ∙ sym c.requires.at_most.
 
 pub returns : goal.returns
 returns c =
-    record {
-      indexed = (filling_end c.args.work.now c.args.end c.requires.formed.0 c.requires.formed.1 c.loop-at.work
-          c.loop-at.newest c.loop-at.at c.loop-at.invariant c.loop-at-test.false).0;
-      kept = (filling_end c.args.work.now c.args.end c.requires.formed.0 c.requires.formed.1 c.loop-at.work
-          c.loop-at.newest c.loop-at.at c.loop-at.invariant c.loop-at-test.false).1;
-    }
+    let done = filling_end c.args.work.now c.args.end c.requires.formed.0 c.requires.formed.1 c.loop-at.work
+    c.loop-at.newest c.loop-at.at c.loop-at.invariant c.loop-at-test.false in record { indexed = done.0; kept = done.1 }

@@ -22,4 +22,4 @@ pub shape_of-log : goal.shape_of-log
 shape_of-log c = c.loop-i.invariant.size
 
 pub returns : goal.returns
-returns c = record { written = (others_end c.ranges.first c.loop-i.invariant c.loop-i-test.false).0; within = (others_end c.ranges.first c.loop-i.invariant c.loop-i-test.false).1 }
+returns c = let done = others_end c.ranges.first c.loop-i.invariant c.loop-i-test.false in record { written = done.0; within = done.1 }

@@ -10,12 +10,8 @@ put_if-requires c =
 
 pub returns-then-place-eq0 : goal.returns-then-place-eq0
 returns-then-place-eq0 c =
-    record {
-      next = (none_put c.args.size c.args.below c.args.place c.args.l c.ranges.l
-          c.if-place-eq0.true c.args.work.now c.args.to c.put_if.ensures.next c.put_if.ensures.written).0;
-      written = (none_put c.args.size c.args.below c.args.place c.args.l c.ranges.l
-          c.if-place-eq0.true c.args.work.now c.args.to c.put_if.ensures.next c.put_if.ensures.written).1;
-    }
+    let done = none_put c.args.size c.args.below c.args.place c.args.l c.ranges.l
+    c.if-place-eq0.true c.args.work.now c.args.to c.put_if.ensures.next c.put_if.ensures.written in record { next = done.0; written = done.1 }
 
 pub put_if-a-requires : goal.put_if-a-requires
 put_if-a-requires c =
@@ -32,13 +28,7 @@ put_if-requires-2 c =
 
 pub returns : goal.returns
 returns c =
-    record {
-      next = (some_put c.args.size c.args.below c.args.place c.args.l c.if-place-eq0.false
-          c.requires.place_bound.0 c.requires.place_bound.1 c.signed-before.result (sfits_of c.signed-before.type_inv) c.signed-before.ensures
-          c.args.work.now c.args.to c.put_if-a.ensures.next c.put_if-a.ensures.written c.signed-after.result
-          (sfits_of c.signed-after.type_inv) c.signed-after.ensures c.put_if-2.ensures.next c.put_if-2.ensures.written).0;
-      written = (some_put c.args.size c.args.below c.args.place c.args.l c.if-place-eq0.false
-          c.requires.place_bound.0 c.requires.place_bound.1 c.signed-before.result (sfits_of c.signed-before.type_inv) c.signed-before.ensures
-          c.args.work.now c.args.to c.put_if-a.ensures.next c.put_if-a.ensures.written c.signed-after.result
-          (sfits_of c.signed-after.type_inv) c.signed-after.ensures c.put_if-2.ensures.next c.put_if-2.ensures.written).1;
-    }
+    let done = some_put c.args.size c.args.below c.args.place c.args.l c.if-place-eq0.false
+    c.requires.place_bound.0 c.requires.place_bound.1 c.signed-before.result (sfits_of c.signed-before.type_inv) c.signed-before.ensures
+    c.args.work.now c.args.to c.put_if-a.ensures.next c.put_if-a.ensures.written c.signed-after.result
+    (sfits_of c.signed-after.type_inv) c.signed-after.ensures c.put_if-2.ensures.next c.put_if-2.ensures.written in record { next = done.0; written = done.1 }

@@ -48,13 +48,7 @@ shape_of-work c = c.loop-i.invariant.size
 
 pub returns : goal.returns
 returns c =
-    record {
-      next = (rw
-          (replaced_each (choice_of c.args.choice.now c.args.below)
-          (take c.args.n (drop c.args.from c.args.work.now))) at
-          (writing_end c.loop-i.invariant c.loop-i-test.false)).0;
-      written = (rw
-          (replaced_each (choice_of c.args.choice.now c.args.below)
-          (take c.args.n (drop c.args.from c.args.work.now))) at
-          (writing_end c.loop-i.invariant c.loop-i-test.false)).1;
-    }
+    let done = rw
+    (replaced_each (choice_of c.args.choice.now c.args.below)
+    (take c.args.n (drop c.args.from c.args.work.now))) at
+    (writing_end c.loop-i.invariant c.loop-i-test.false) in record { next = done.0; written = done.1 }

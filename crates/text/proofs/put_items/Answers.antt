@@ -17,4 +17,4 @@ pub shape_of-buf : goal.shape_of-buf
 shape_of-buf c = c.loop-i.invariant.size
 
 pub returns : goal.returns
-returns c = record { written = (items_end c.loop-i.invariant c.loop-i-test.false).0; within = (items_end c.loop-i.invariant c.loop-i-test.false).1 }
+returns c = let done = items_end c.loop-i.invariant c.loop-i-test.false in record { written = done.0; within = done.1 }

@@ -3,9 +3,6 @@ use Rattle.theory_text.proofs.Runs.{run_step, run_stop, run_stop_end}
 use mathlib.Core.Path.{sym, ◌∙◌, refl}
 use Rattle.text.proofs.run_end.Goals as goal
 
-pub loop-i-init : goal.loop-i-init
-loop-i-init c = refl
-
 pub loop-i-preserved : goal.loop-i-preserved
 loop-i-preserved c = run_step _ c.args.text.now c.loop-i.i (search rules) (sym c.belongs.ensures ∙ c.if-belongs.true)
     ∙ c.loop-i.invariant

@@ -14,12 +14,9 @@ use Rattle.definition.specs.Text.{Bytes, bytes, same_bytes, words_by, TextLine, 
 use Rattle.definition.specs.Literals.{Clause, holds}
 use Rattle.definition.specs.Answer.{Answer, begins_with, space_or_tab, read_answer_word, read_answer_line, read_answer}
 use Rattle.text.specs.declared.Number.{Number}
-use Rattle.text.specs.declared.Number.TheVariants as Number
 use Rattle.text.specs.Numbers.{number_class}
 use Rattle.answer.specs.declared.Progress.{Progress}
-use Rattle.answer.specs.declared.Progress.TheVariants as Progress
 use Rattle.answer.specs.declared.AnswerRead.{AnswerRead}
-use Rattle.answer.specs.declared.AnswerRead.TheVariants as AnswerRead
 use Rattle.answer.specs.Table.{Table, naming}
 use Rattle.theory_base.specs.Slices.{between}
 use Rattle.theory_text.specs.TextLines.{FirstLine}

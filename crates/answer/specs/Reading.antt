@@ -7,9 +7,7 @@ use Rattle.definition.specs.Literals.{Clause, holds}
 use Rattle.definition.specs.Literals as Literals
 use Rattle.definition.specs.Answer.{Answer}
 use Rattle.answer.specs.declared.Progress.{Progress}
-use Rattle.answer.specs.declared.Progress.TheVariants as Progress
 use Rattle.answer.specs.declared.AnswerRead.{AnswerRead}
-use Rattle.answer.specs.declared.AnswerRead.TheVariants as AnswerRead
 use Rattle.answer.specs.Table.{Table}
 
 -- before the `s` line, after it, after the closing `0`

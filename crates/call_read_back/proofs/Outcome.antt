@@ -15,14 +15,12 @@ use Rattle.definition.specs.Calls.{workspace_need, numbers_of, read_back, buffer
 use Rattle.theory_text.proofs.Accepted.{accepted, read_highest}
 use Rattle.dimacs.specs.declared.Limits as Code
 use Rattle.dimacs.specs.declared.FormulaRead.{FormulaRead}
-use Rattle.dimacs.specs.declared.FormulaRead.TheVariants as FormulaRead
 use Rattle.dimacs.specs.Limits.{limits_of}
 use Rattle.dimacs.specs.Entries.{entries_of}
 use Rattle.dimacs.specs.Outcome.{read_of, Filled}
 use Rattle.dimacs.proofs.Entries.{entries_numbers}
 use Rattle.dimacs.proofs.Outcome.{FormulaIs, formula_answer}
 use Rattle.call_read_back.specs.declared.ReadBack.{ReadBack}
-use Rattle.call_read_back.specs.declared.ReadBack.TheVariants as ReadBack
 use Rattle.call_read_back.specs.Outcome.{outcome, read_back_of, Reads}
 
 -- ---- by the reader's answer

@@ -7,7 +7,6 @@ use Rattle.definition.specs.Reading.{Input}
 use Rattle.definition.specs.Calls.{read_back}
 use Rattle.dimacs.specs.Entries.{entries_of}
 use Rattle.call_read_back.specs.declared.ReadBack.{ReadBack}
-use Rattle.call_read_back.specs.declared.ReadBack.TheVariants as ReadBack
 
 -- the call's outcome, by the store and the text that it is lent
 abbrev pub outcome : List ℤ → Bytes → Checked Input

@@ -17,7 +17,6 @@ use Rattle.definition.specs.Reading.{Limits, Input, as_read, Reader, kept_of, re
 use Rattle.theory_base.proofs.Tests.{by_test}
 use Rattle.theory_base.proofs.Clauses.{literals-++, opposed_with}
 use Rattle.dimacs.specs.declared.Item.{Item}
-use Rattle.dimacs.specs.declared.Item.TheVariants as Item
 use Rattle.dimacs.specs.Clause.{number_item, ClauseIsRead, finished, ended, clause_by, first_clause, past_by, past_clause, KeptRead, kept_within, first_kept}
 
 abbrev reader : ℕ → Formula → Clause → Reader

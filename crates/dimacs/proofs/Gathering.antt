@@ -38,11 +38,8 @@ use Rattle.tables.proofs.Laws.{marks_start}
 use Rattle.dimacs.specs.Entries.{entry}
 use Rattle.dimacs.specs.Clause.{number_item, ClauseIsRead, ended, clause_by, first_clause, past_by, past_clause, SkipPost, Holding, HoldPost, Kept, left_out, GatherPost}
 use Rattle.dimacs.specs.declared.Item.{Item}
-use Rattle.dimacs.specs.declared.Item.TheVariants as Item
 use Rattle.dimacs.specs.declared.Skipped.{Skipped}
-use Rattle.dimacs.specs.declared.Skipped.TheVariants as Skipped
 use Rattle.dimacs.specs.declared.Held.{Held}
-use Rattle.dimacs.specs.declared.Held.TheVariants as Held
 use Rattle.dimacs.proofs.Clauses.{RestOf, opposed_rest}
 
 -- ---- a word by itself

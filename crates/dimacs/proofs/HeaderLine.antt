@@ -20,7 +20,6 @@ use Rattle.theory_text.specs.HeaderLine.{marker, read_counts}
 use Rattle.theory_text.proofs.HeaderLine.{header_first, header_marked, header_unmarked, header_short, header_counts, fields_after}
 use Rattle.text.specs.Numbers.{natural_class}
 use Rattle.text.specs.declared.Natural.{Natural}
-use Rattle.text.specs.declared.Natural.TheVariants as Natural
 use Rattle.dimacs.specs.declared.Limits as Code
 use Rattle.dimacs.specs.declared.Counts.TheVariants as Counts
 use Rattle.dimacs.specs.declared.Header.TheVariants as Answer

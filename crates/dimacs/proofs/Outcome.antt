@@ -7,7 +7,6 @@ use Rattle.definition.specs.Reading.{Input}
 use Rattle.definition.specs.Calls.{numbers_of}
 use Rattle.dimacs.specs.Outcome.{read_of}
 use Rattle.dimacs.specs.declared.FormulaRead.{FormulaRead}
-use Rattle.dimacs.specs.declared.FormulaRead.TheVariants as FormulaRead
 
 -- the formula of V, C and L, and the elements that it fills
 pub record FormulaIs (o : Checked Input) (v c l filled : ℕ) : Type 0 where

@@ -23,11 +23,8 @@ use Rattle.theory_text.proofs.Runs.{words_blank}
 use Rattle.tables.specs.Stamps.{AtMost, Fresh}
 use Rattle.tables.proofs.Laws.{zeros_at_most, fresh_more}
 use Rattle.dimacs.specs.declared.Gathered.{Gathered}
-use Rattle.dimacs.specs.declared.Gathered.TheVariants as Gathered
 use Rattle.dimacs.specs.declared.ClauseRead.{ClauseRead}
-use Rattle.dimacs.specs.declared.ClauseRead.TheVariants as ClauseRead
 use Rattle.dimacs.specs.declared.FormulaRead.{FormulaRead}
-use Rattle.dimacs.specs.declared.FormulaRead.TheVariants as FormulaRead
 use Rattle.dimacs.specs.declared.Limits as Code
 use Rattle.dimacs.specs.declared.Header as CodeHeader
 use Rattle.dimacs.specs.declared.Header.TheVariants as FoundHeader

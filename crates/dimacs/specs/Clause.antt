@@ -15,15 +15,10 @@ use Rattle.theory_base.specs.Clauses.{Proper}
 use Rattle.tables.specs.Stamps.{AtMost, Marks}
 use Rattle.dimacs.specs.Entries.{entry, entries}
 use Rattle.dimacs.specs.declared.Item.{Item}
-use Rattle.dimacs.specs.declared.Item.TheVariants as Item
 use Rattle.dimacs.specs.declared.Skipped.{Skipped}
-use Rattle.dimacs.specs.declared.Skipped.TheVariants as Skipped
 use Rattle.dimacs.specs.declared.Held.{Held}
-use Rattle.dimacs.specs.declared.Held.TheVariants as Held
 use Rattle.dimacs.specs.declared.Gathered.{Gathered}
-use Rattle.dimacs.specs.declared.Gathered.TheVariants as Gathered
 use Rattle.dimacs.specs.declared.ClauseRead.{ClauseRead}
-use Rattle.dimacs.specs.declared.ClauseRead.TheVariants as ClauseRead
 
 -- ---- a word: 3, the clause's end, 4, or a literal
 abbrev pub number_item : ℕ → Option ℤ → Item

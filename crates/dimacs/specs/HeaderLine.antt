@@ -4,10 +4,8 @@ use Rattle.definition.specs.Checked.{Checked, fault, value}
 use Rattle.definition.specs.Text.{Bytes, words}
 use Rattle.definition.specs.Reading.{Header}
 use Rattle.text.specs.declared.Natural.{Natural}
-use Rattle.text.specs.declared.Natural.TheVariants as Natural
 use Rattle.dimacs.specs.declared.Limits.{Limits}
 use Rattle.dimacs.specs.declared.Counts.{Counts}
-use Rattle.dimacs.specs.declared.Counts.TheVariants as Counts
 use Rattle.dimacs.specs.declared.Header as Code
 use Rattle.dimacs.specs.declared.Header.TheVariants as Header
 

@@ -8,7 +8,6 @@ use Rattle.definition.specs.Reading.{Header, Input}
 use Rattle.definition.specs.Calls.{numbers_of}
 use Rattle.dimacs.specs.Entries.{entries_of}
 use Rattle.dimacs.specs.declared.FormulaRead.{FormulaRead}
-use Rattle.dimacs.specs.declared.FormulaRead.TheVariants as FormulaRead
 
 -- a header before a text
 abbrev pub header_of : ℕ → ℕ → Bytes → Header

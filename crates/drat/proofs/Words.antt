@@ -11,7 +11,6 @@ use Rattle.definition.specs.Text.{Bytes, bytes, is, same_bytes, number}
 use Rattle.text.specs.Numbers.{number_class}
 use Rattle.theory_text.specs.Runs.{run_end}
 use Rattle.text.specs.declared.Number.{Number}
-use Rattle.text.specs.declared.Number.TheVariants as Number
 use Rattle.drat.specs.declared.LineWord.TheVariants as Word
 use Rattle.drat.specs.Reading.{stops, literal_answer, last_answer, word_answer, line_word}
 

@@ -11,7 +11,6 @@ use Rattle.definition.specs.LogReading.{numbers_in}
 use Rattle.text.specs.Numbers.{number_class}
 use Rattle.theory_text.specs.Runs.{run_end, leading}
 use Rattle.text.specs.declared.Number.{Number}
-use Rattle.text.specs.declared.Number.TheVariants as Number
 use Rattle.drat.specs.declared.LineWord.{LineWord}
 use Rattle.drat.specs.declared.LineWord.TheVariants as Word
 use Rattle.drat.specs.declared.LineRead.{LineRead}

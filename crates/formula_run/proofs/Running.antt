@@ -27,7 +27,6 @@ use Rattle.dimacs.specs.Entries.{entries}
 use Rattle.dimacs.specs.Outcome.{read_of, Filled}
 use Rattle.dimacs.specs.declared.Limits as CodeLimits
 use Rattle.dimacs.specs.declared.FormulaRead.{FormulaRead}
-use Rattle.dimacs.specs.declared.FormulaRead.TheVariants as FormulaRead
 use Rattle.dimacs.proofs.Entries.{entries_formed, entries_stored, entries_numbers}
 use Rattle.dimacs.proofs.Outcome.{FormulaIs, formula_answer}
 use Rattle.progress.specs.Progress.{standing}

@@ -18,7 +18,6 @@ use Rattle.store.specs.declared.Found.TheVariants.{At, Nothing}
 use Rattle.store.proofs.Laws.{added_formed, added_stored, prefix_clause}
 use Rattle.store.proofs.Finding.{hit, deleted_hit, deleted_miss}
 use Rattle.replay.specs.declared.Replayed.{Replayed}
-use Rattle.replay.specs.declared.Replayed.TheVariants as Replayed
 use Rattle.drat.specs.Lines.{line_of}
 use Rattle.drat.specs.Loaded.{Loaded, lines_in, line_at, past_line}
 use Rattle.theory_base.specs.Slices.{between}

@@ -6,7 +6,6 @@ use Rattle.tables.specs.Sizes.{log_size}
 use Rattle.literals.specs.Literal.{largest, index_of, header_literals}
 use Rattle.store.specs.Store.{Formed, header_at, clause_at, Place}
 use Rattle.replay.specs.declared.Replayed.{Replayed}
-use Rattle.replay.specs.declared.Replayed.TheVariants as Replayed
 use Rattle.theory_base.specs.Slices.{between}
 
 -- the greatest index that counts, and how many keys there are

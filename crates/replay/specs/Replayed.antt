@@ -7,7 +7,6 @@ use Rattle.store.specs.Store.{Formed, stored, entry}
 use Rattle.theory_base.specs.Slices.{between}
 use Rattle.drat.specs.Loaded.{Loaded, lines_in}
 use Rattle.replay.specs.declared.Replayed.{Replayed}
-use Rattle.replay.specs.declared.Replayed.TheVariants as Replayed
 
 -- the formula lies before n, the lines at n..m, with room behind them for a copy of the formula and what the lines add, and for as many links
 pub record Replayable (work : List ℤ) (n m : ℕ) : Type 0 where

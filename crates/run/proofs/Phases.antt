@@ -13,7 +13,6 @@ use Rattle.definition.specs.Reading.{Input, as_read, input_limits}
 use Rattle.definition.specs.Standing.{after}
 use Rattle.definition.specs.Events.{TableRecord}
 use Rattle.definition.specs.Clearing.{clear_clashes}
-use Rattle.definition.specs.Counter.{choices}
 use Rattle.definition.specs.Reencoding.{lines, Settings, resolved_into, cleared, chosen, events, log, table, highest_used}
 use Rattle.definition.specs.Calls.{workspace_need, numbers_of}
 use Rattle.theory_base.specs.Clauses.{ProperAll, Fits}

@@ -4,7 +4,6 @@ use Rattle.definition.specs.Literals.{Clause, holds}
 use Rattle.tables.specs.Sizes.{log_reach}
 use Rattle.tables.specs.Entries.{entry_of}
 use Rattle.tables.specs.declared.Marked.{Marked}
-use Rattle.tables.specs.declared.Marked.TheVariants as Marked
 
 -- no entry is above the stamp
 abbrev pub AtMost : List ℕ → ℕ → Type 0

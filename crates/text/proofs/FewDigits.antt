@@ -1,7 +1,6 @@
 -- How many digits a number of at most five has, by the power of ten that it reaches.
 use mathlib.Core.Path.{◌≡◌, sym}
 use Prim.Native.Nat.{ℕ, ◌<◌, ◌≤◌}
-use native.Mathlib.Omega.{arith}
 use lib.ListN.{length}
 use Rattle.definition.specs.Text.{digits}
 use Rattle.theory_base.proofs.Digits.{count_one, count_exact}

@@ -16,9 +16,7 @@ use Rattle.definition.specs.Text.{Bytes, is, digit, digit_value, value_from, nat
 use Rattle.theory_base.proofs.Tests.{by_test, and_l, to_true, of_true}
 use Rattle.literals.proofs.Laws.{signed_small}
 use Rattle.text.specs.declared.Natural.{Natural}
-use Rattle.text.specs.declared.Natural.TheVariants as Natural
 use Rattle.text.specs.declared.Number.{Number}
-use Rattle.text.specs.declared.Number.TheVariants as Number
 use Rattle.text.specs.Numbers.{all_digits, natural_class, number_class, sign_value, with_sign}
 use Rattle.literals.specs.Literal.{signed_of}
 use Rattle.tables.specs.Sizes.{log_reach}

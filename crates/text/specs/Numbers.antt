@@ -8,9 +8,7 @@ use Rattle.definition.specs.Text as Text
 use Rattle.literals.specs.Literal.{signed_of}
 use Rattle.tables.specs.Sizes.{log_reach}
 use Rattle.text.specs.declared.Natural.{Natural}
-use Rattle.text.specs.declared.Natural.TheVariants as Natural
 use Rattle.text.specs.declared.Number.{Number}
-use Rattle.text.specs.declared.Number.TheVariants as Number
 
 -- the value of digits only, after digits of the value n
 unfoldable pub all_digits : ℕ → Bytes → Option ℕ

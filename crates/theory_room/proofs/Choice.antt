@@ -8,7 +8,6 @@ use native.Mathlib.Omega.{arith}
 use lib.ListN.{length}
 use lib.IntN.{ℤ, pos, negsuc, neg_ℤ, nat_abs}
 use Rattle.definition.specs.Literals.{Clause}
-use Rattle.definition.specs.Standing.{literals}
 use Rattle.definition.specs.Events.{Choice}
 use Rattle.definition.specs.Counter.{last_new, pairs, size, lit, counter}
 use Rattle.theory_base.proofs.Members.{natAbs_neg, proper_unopposed, same_variable}

@@ -1,5 +1,5 @@
 use borrow.Author.Rules.{rules, sfits_of}
-use mathlib.Core.Path.{refl, ◌∙◌}
+use mathlib.Core.Path.{◌∙◌}
 use lib.IntN.{pos}
 use lib.ListN.{get_or}
 use Rattle.definition.specs.Assignments.{true_in, has_true}

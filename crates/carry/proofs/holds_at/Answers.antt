@@ -3,7 +3,6 @@ use Prim.Native.Nat.{◌<◌}
 use native.Mathlib.Omega.{arith}
 use lib.ListN.{length}
 use borrow.Author.Rules.{sfits_of}
-use Rattle.definition.specs.Assignments.{has_true}
 use Rattle.theory_base.proofs.Tests.{by_test}
 use Rattle.literals.specs.Literal.{negative, header_literals}
 use Rattle.literals.proofs.Laws.{answer, answered}

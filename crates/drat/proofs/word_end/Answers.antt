@@ -1,6 +1,5 @@
 use borrow.Author.Rules.{rules}
-use mathlib.Core.Path.{refl, ◌∙◌}
-use mathlib.Core.Bool.{false}
+use mathlib.Core.Path.{◌∙◌}
 use Rattle.theory_text.proofs.Runs.{run_step, run_stop, run_stop_end}
 use Rattle.drat.proofs.Words.{goes_on, blank_stops, newline_stops}
 use Rattle.drat.proofs.word_end.Goals as goal

@@ -1,6 +1,6 @@
 use borrow.Author.Rules.{rules}
 use Rattle.theory_text.proofs.Runs.{run_step, run_stop, run_stop_end}
-use mathlib.Core.Path.{sym, ◌∙◌, refl}
+use mathlib.Core.Path.{sym, ◌∙◌}
 use Rattle.text.proofs.run_end.Goals as goal
 
 pub loop-i-preserved : goal.loop-i-preserved

@@ -65,7 +65,7 @@ module _ {old : Bytes} {at : ℕ} (a : Assignment) where
 
 -- ---- the whole line
 
-pub line_written : {l b1 b2 b3 b4 b5 : Bytes} {r1 r2 r3 r4 r5 : ℕ} (a : Assignment) (v : ℕ) →
-    Put l 0 (118 ∷ []) r1 b1 → Put b1 r1 (values_text a v) r2 b2 → Put b2 r2 (32 ∷ []) r3 b3 → Put b3 r3 (48 ∷ []) r4 b4 → Put b4 r4 (10 ∷ []) r5 b5 → Put l 0 (answer_text v a) r5 b5
+pub line_written : {l x y z : Bytes} {r q n : ℕ} (a : Assignment) (v : ℕ) →
+    Put l 0 (118 ∷ []) r x → Put x r (values_text a v) q y → Put y q (bytes " 0\n") n z → Put l 0 (answer_text v a) n z
 unfolding answer_text value_text bytes
-line_written a v p q s t u = put_then p (put_then q (put_then s (put_then t u)))
+line_written a v p q s = put_then p (put_then q s)

@@ -1,7 +1,7 @@
 -- The table of named literals: what its entries say, and one literal named more.
 use mathlib.Core.Path.{◌≡◌, refl, sym, ap, ◌∙◌, fun_ext}
 use mathlib.Core.Logic.{◌≢◌}
-use mathlib.Core.Bool.{true, false, not, cond, ◌||◌, or-false, or_comm}
+use mathlib.Core.Bool.{Bool, true, false, not, beq, cond, ◌||◌, or-false, or_comm}
 use mathlib.Core.List.{[], ◌∷◌, ◌++◌}
 use Prim.Native.Nat.{ℕ, zero, suc, ◌≤◌, ◌<◌}
 use native.Mathlib.Omega.{arith}
@@ -16,7 +16,6 @@ use Rattle.definition.specs.Text.{Bytes}
 use Rattle.definition.specs.Literals.{Clause, same, holds}
 use Rattle.definition.specs.Assignments.{true_in, sign, make_true}
 use Rattle.definition.specs.Calls.{assigned}
-use Rattle.theory_base.proofs.Tests.{differ}
 use Rattle.theory_base.proofs.Members.{unlike_false, holds_snoc}
 use Rattle.literals.specs.Literal.{negative}
 use Rattle.theory_base.proofs.Slices.{getD_zeros}
@@ -101,22 +100,17 @@ module _ (c : Clause) (m : Bytes) (t : Table c m) (l : ℤ) (h : nat_abs l < len
       bound v (yes q) = rw (q, entry_same m l h) (entry_at_most l)
       bound v (no n) = rw (entry_other m l h v n) (t.at_most v)
 
--- ---- the sign of a literal
+-- ---- whether a literal is true
 
-pub entry_negative : (l : ℤ) → negative l ≡ true → 2 ≡ entry_of l
-entry_negative (pos n) e = differ {b = true} tt (sym e)
-entry_negative (negsuc n) e = refl
-
-pub entry_positive : (l : ℤ) → negative l ≡ false → 1 ≡ entry_of l
-entry_positive (pos n) e = refl
-entry_positive (negsuc n) e = differ {b = true} tt e
-
-pub true_negative : (m : Bytes) (l : ℤ) → negative l ≡ true → not (eqb (get_or m (nat_abs l) 0) 1) ≡ true_in (marked m) l
+pub true_by_sign : (m : Bytes) (l : ℤ) → not (beq (eqb (get_or m (nat_abs l) 0) 1) (negative l)) ≡ true_in (marked m) l
 unfolding true_in marked
-true_negative m (pos n) e = differ {b = true} tt (sym e)
-true_negative m (negsuc n) e = refl
-
-pub true_positive : (m : Bytes) (l : ℤ) → negative l ≡ false → eqb (get_or m (nat_abs l) 0) 1 ≡ true_in (marked m) l
-unfolding true_in marked
-true_positive m (pos n) e = refl
-true_positive m (negsuc n) e = differ {b = true} tt e
+true_by_sign m (pos n) = go (eqb (get_or m n 0) 1)
+  where
+    go : (b : Bool) → not (beq b false) ≡ b
+    go true = refl
+    go false = refl
+true_by_sign m (negsuc n) = go (eqb (get_or m (suc n) 0) 1)
+  where
+    go : (b : Bool) → not (beq b true) ≡ not b
+    go true = refl
+    go false = refl

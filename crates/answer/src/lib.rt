@@ -13,6 +13,9 @@ ghost use Rattle.answer.specs.Table.{entry_of, marked, naming};
 ghost use Rattle.answer.specs.Output.{value_text, values_text};
 ghost use Rattle.answer.specs.Reading.{open_at, read_literal, Steps, StepsOpen, ReadAs, Ends};
 
+use refusals::Refusal;
+use text::NumberError;
+
 // How many entries a table of values has: one for each variable of a log, and one for 0.
 pub const VALUES: usize = 70001;
 
@@ -36,10 +39,7 @@ fn is_values(line: &[u8]) -> bool
 fn is_status(line: &[u8]) -> bool
     ensures { result ≡ same_bytes line.now (bytes "s SATISFIABLE") }
 {
-    if line.len() == 13 {
-        return text::begins(line, b"s SATISFIABLE");
-    }
-    false
+    line == b"s SATISFIABLE".as_slice()
 }
 
 // ---- a table of the literals named: an entry for each variable, 0 not named, 1 named true, 2 named false
@@ -48,11 +48,7 @@ fn is_status(line: &[u8]) -> bool
 fn entry_at(marks: &[u8], v: u32) -> u8
     ensures { result ≡ get_or marks.now v 0 }
 {
-    let i = v as usize;
-    if i < marks.len() {
-        return marks[i];
-    }
-    0
+    marks.get(v as usize).copied().unwrap_or(0)
 }
 
 // The entry that names a literal.
@@ -66,11 +62,7 @@ fn entry_of(l: i32) -> u8
 pub fn make_true(marks: &mut [u8], l: i32)
     ensures { marks.new ≡ naming l marks.old }
 {
-    let i = literals::variable(l) as usize;
-    let e = entry_of(l);
-    if i < marks.len() {
-        marks[i] = e;
-    }
+    slices::put(marks, literals::variable(l) as usize, entry_of(l));
 }
 
 // Whether a literal is true.
@@ -78,166 +70,124 @@ fn true_literal(marks: &[u8], l: i32) -> bool
     ensures { result ≡ true_in (marked marks.now) l }
 {
     let named_true = entry_at(marks, literals::variable(l)) == 1;
-    if literals::is_negative(l) {
-        return !named_true;
-    }
-    named_true
+    named_true != literals::is_negative(l)
 }
 
 // Whether a clause has a true literal.
 pub fn has_true(marks: &[u8], clause: &[i32]) -> bool
     ensures { result ≡ has_true (marked marks.now) clause.now }
 {
-    let mut i = 0;
-    while i < clause.len() {
-        if true_literal(marks, clause[i]) {
-            return true;
-        }
-        i += 1;
-    }
-    false
+    clause.iter().any(|l| true_literal(marks, *l))
 }
 
 // ---- reading an answer
 
-// What is read: nothing yet, the `s` line, the closing 0, or the number of the first fault.
-#[derive(Clone, Copy)]
-enum Progress {
+// How far an answer is read: nothing yet, the `s` line, the closing 0.
+#[derive(Clone, Copy, Debug, PartialEq, Eq)]
+enum State {
     Waiting,
     Open,
     Closed,
-    Fault(u8),
-}
-
-// The outcome of reading an answer.
-#[derive(Clone, Copy)]
-pub enum AnswerRead {
-    Answer,
-    Fault(u8),
 }
 
 // Reads a number of a `v ` line before the closing 0.
-fn read_literal(l: i32, x: u32, marks: &mut [u8]) -> Progress
+fn read_literal(l: i32, x: u32, marks: &mut [u8]) -> Result<State, Refusal>
     requires { x < length marks.old }
     ensures { StepsOpen (λ c. read_literal x c l) marks.old result marks.new }
 {
     let v = literals::variable(l);
     let named = entry_at(marks, v);
     if v == 0 {
-        return Progress::Closed;
+        return Ok(State::Closed);
     }
     if x < v {
-        return Progress::Fault(42);
+        return Err(Refusal::UnknownVariable);
     }
     if 0 < named {
-        return Progress::Fault(43);
+        return Err(Refusal::NamedTwice);
     }
     make_true(marks, l);
-    Progress::Open
+    Ok(State::Open)
 }
 
 // Reads a word of a `v ` line before the closing 0.
-fn read_open_word(word: &[u8], x: u32, marks: &mut [u8]) -> Progress
+fn read_open_word(word: &[u8], x: u32, marks: &mut [u8]) -> Result<State, Refusal>
     requires { (x ≤ log_reach) × (x < length marks.old) }
     ensures { StepsOpen (λ c. read_answer_word x (open_at c) word.now) marks.old result marks.new }
 {
     match text::read_number(word) {
-        text::Number::Value(l) => read_literal(l, x, marks),
-        text::Number::Large => Progress::Fault(42),
-        text::Number::NotANumber => Progress::Fault(41),
+        Ok(l) => read_literal(l, x, marks),
+        Err(NumberError::TooLarge) => Err(Refusal::UnknownVariable),
+        Err(NumberError::NotANumber) => Err(Refusal::BadLayout),
     }
 }
 
 // Reads a word of a `v ` line.
-fn read_word(state: Progress, word: &[u8], x: u32, marks: &mut [u8]) -> Progress
+fn read_word(state: State, word: &[u8], x: u32, marks: &mut [u8]) -> Result<State, Refusal>
     requires { (x ≤ log_reach) × (x < length marks.old) }
     ensures { Steps (λ a. read_answer_word x a word.now) state marks.old result marks.new }
 {
     match state {
-        Progress::Waiting => read_open_word(word, x, marks),
-        Progress::Open => read_open_word(word, x, marks),
-        Progress::Closed => Progress::Fault(41),
-        Progress::Fault(n) => Progress::Fault(n),
+        State::Waiting | State::Open => read_open_word(word, x, marks),
+        State::Closed => Err(Refusal::BadLayout),
     }
 }
 
 // Reads a `v ` line after the `s` line and before the closing 0, word by word.
-fn read_values(line: &[u8], x: u32, marks: &mut [u8]) -> Progress
+fn read_values(line: &[u8], x: u32, marks: &mut [u8]) -> Result<State, Refusal>
     requires { (x ≤ log_reach) × (x < length marks.old) }
     ensures { StepsOpen (λ c. through (read_answer_word x) (open_at c) (words_by space_or_tab (drop 2 line.now))) marks.old result marks.new }
 {
-    let mut state = Progress::Open;
+    let mut state = State::Open;
     let mut at: usize = 2;
-    loop {
-        match text::next_word_of_line(line, at) {
-            text::Word::At(start, end) => {
-                state = read_word(state, &line[start..end], x, marks);
-                at = end;
-            }
-            text::Word::End => {
-                return state;
-            }
-        }
+    // where a word ends shows only once it is found
+    while let Some(word) = text::next_word_of_line(line, at) {
+        state = read_word(state, &line[word.start..word.end], x, marks)?;
+        at = word.end;
     }
+    Ok(state)
 }
 
-// Reads a line of an answer; after a fault nothing is read.
-fn read_line(state: Progress, line: &[u8], x: u32, marks: &mut [u8]) -> Progress
+// Reads a line of an answer.
+fn read_line(state: State, line: &[u8], x: u32, marks: &mut [u8]) -> Result<State, Refusal>
     requires { (x ≤ log_reach) × (x < length marks.old) }
     ensures { Steps (λ a. read_answer_line x a line.now) state marks.old result marks.new }
 {
     if is_comment(line) {
-        return state;
+        return Ok(state);
     }
     match state {
-        Progress::Waiting => {
-            if is_status(line) {
-                return Progress::Open;
-            }
-            Progress::Fault(41)
-        }
-        Progress::Open => {
-            if is_values(line) {
-                return read_values(line, x, marks);
-            }
-            Progress::Fault(41)
-        }
-        Progress::Closed => Progress::Fault(41),
-        Progress::Fault(n) => Progress::Fault(n),
+        State::Waiting if is_status(line) => Ok(State::Open),
+        State::Open if is_values(line) => read_values(line, x, marks),
+        _ => Err(Refusal::BadLayout),
     }
 }
 
 // The outcome at the text's end: the closing 0 must have come.
-fn outcome(state: Progress) -> AnswerRead
+fn outcome(state: State) -> Result<(), Refusal>
     ensures { Ends state result }
 {
     match state {
-        Progress::Waiting => AnswerRead::Fault(41),
-        Progress::Open => AnswerRead::Fault(41),
-        Progress::Closed => AnswerRead::Answer,
-        Progress::Fault(n) => AnswerRead::Fault(n),
+        State::Waiting => Err(Refusal::BadLayout),
+        State::Open => Err(Refusal::BadLayout),
+        State::Closed => Ok(()),
     }
 }
 
 // Reads an answer with variables up to x into a table.
-pub fn read_answer(text: &[u8], x: u32, marks: &mut [u8]) -> AnswerRead
+pub fn read_answer(text: &[u8], x: u32, marks: &mut [u8]) -> Result<(), Refusal>
     requires { (x ≤ log_reach) × (x < length marks.old) }
     ensures { ReadAs (read_answer x text.now) result marks.new }
 {
-    text::zero_all(marks);
-    let mut state = Progress::Waiting;
+    marks.fill(0);
+    let mut state = State::Waiting;
     let mut at: usize = 0;
-    loop {
-        match text::next_line(text, at) {
-            text::Line::Text { start, end, next } => {
-                state = read_line(state, &text[start..end], x, marks);
-                at = next;
-            }
-            text::Line::End => {
-                return outcome(state);
-            }
-        }
+    // where a line ends shows only once it is found
+    while let Some(line) = text::next_line(text, at) {
+        state = read_line(state, &text[line.start..line.end], x, marks)?;
+        at = line.next;
     }
+    outcome(state)
 }
 
 // ---- the line of an assignment
@@ -249,7 +199,7 @@ fn put_value(buf: &mut [u8], at: usize, i: u32, marks: &[u8]) -> usize
 {
     let is_true = entry_at(marks, i) == 1;
     let l = literals::signed(!is_true, i);
-    let a = text::put_byte(buf, at, 32);
+    let a = text::put_byte(buf, at, b' ');
     text::put_literal(buf, a, l)
 }
 
@@ -259,10 +209,8 @@ fn put_values(buf: &mut [u8], at: usize, v: u32, marks: &[u8]) -> usize
     ensures { Put buf.old at (values_text (marked marks.now) v) result buf.new }
 {
     let mut a = at;
-    let mut i: u32 = 0;
-    while i < v {
+    for i in 0..v {
         a = put_value(buf, a, i + 1, marks);
-        i += 1;
     }
     a
 }
@@ -272,9 +220,7 @@ pub fn write_answer(buf: &mut [u8], v: u32, marks: &[u8]) -> usize
     requires { v < 2 ^ 31 }
     ensures { Put buf.old 0 (answer_text v (marked marks.now)) result buf.new }
 {
-    let a = text::put_byte(buf, 0, 118);
+    let a = text::put_byte(buf, 0, b'v');
     let b = put_values(buf, a, v, marks);
-    let c = text::put_byte(buf, b, 32);
-    let d = text::put_byte(buf, c, 48);
-    text::put_byte(buf, d, 10)
+    text::put_text(buf, b, b" 0\n")
 }

@@ -7,28 +7,36 @@ ghost use Rattle.theory_base.specs.Slices.{between};
 ghost use Rattle.store.specs.Store.{stored};
 ghost use Rattle.drat.specs.Loaded.{lines_in};
 ghost use Rattle.answer.specs.Table.{marked};
-ghost use Rattle.carry.specs.Carried.{carried_of, Carries, Carryable};
+ghost use Rattle.refusals.specs.Outcomes.{outcome as outcome_said, showing};
+ghost use Rattle.carry.specs.Carried.{Carries, Carryable};
 ghost use Rattle.call_carry_forward.specs.Outcome.{outcome, plan_text};
 
-use carry::Carried;
+use carry::Direction;
 use log_texts::Texts;
+use refusals::Refusal;
 
-// Tests a plan against the formula before n, replays the lines at n..m, carries the plan forward and writes its line for the variables 1 to x.
+// Tests a plan against the formula, replays the lines, carries the plan forward and writes its line.
 fn carry_tested(
     out: &mut [u8],
-    x: u32,
+    texts: Texts,
     work: &mut [i32],
-    n: usize,
-    m: usize,
     marks: &mut [u8],
-) -> Carried
-    requires { Carryable work.old n m x marks.old }
-    ensures { Carries (plan_text (length out.old) x (stored (take n work.old)) (lines_in (between n m work.old)) (marked marks.old)) out.old result out.new }
+) -> Result<usize, Refusal>
+    requires { Carryable work.old texts.formula_end texts.lines_end texts.variables marks.old }
+    ensures { Carries (plan_text (length out.old) texts.variables (stored (take texts.formula_end work.old)) (lines_in (between texts.formula_end texts.lines_end work.old)) (marked marks.old)) out.old result out.new }
 {
-    if carry::satisfied_before(marks, work, n) {
-        return carry::replay_and_carry(out, x, work, n, m, marks, true);
+    if !carry::satisfied_before(marks, work, texts.formula_end) {
+        return Err(Refusal::PlanFails);
     }
-    Carried::Refused(45)
+    carry::replay_and_carry(
+        out,
+        texts.variables,
+        work,
+        texts.formula_end,
+        texts.lines_end,
+        marks,
+        Direction::Forward,
+    )
 }
 
 // Carries forward; a refusal may leave part of a line in the buffer.
@@ -39,14 +47,13 @@ fn carry_texts(
     plan: &[u8],
     work: &mut [i32],
     out: &mut [u8],
-) -> Carried
+) -> Result<usize, Refusal>
     ensures { Carries (outcome work.old out.old kept formula.now log.now plan.now) out.old result out.new }
 {
     let mut marks = [0u8; answer::VALUES];
-    match log_texts::read_texts(formula, log, kept, plan, true, work, &mut marks) {
-        Texts::Fault(k) => Carried::Refused(k),
-        Texts::Read(x, n, m) => carry_tested(out, x, work, n, m, &mut marks),
-    }
+    let way = Direction::Forward;
+    let texts = log_texts::read_texts(formula, log, kept, plan, way, work, &mut marks)?;
+    carry_tested(out, texts, work, &mut marks)
 }
 
 // Carries a plan for a formula forward over the kept lines of the formula's log, and writes its line, or makes the buffer zero and answers the
@@ -58,8 +65,8 @@ pub fn carry_forward(
     plan: &[u8],
     work: &mut [i32],
     out: &mut [u8],
-) -> Carried
-    ensures outcome { result ≡ carried_of (outcome work.old out.old kept formula.now log.now plan.now) }
+) -> Result<usize, Refusal>
+    ensures outcome { outcome_said result ≡ showing (λ t. length t) (outcome work.old out.old kept formula.now log.now plan.now) }
     ensures buffer { out.new ≡ buffer_after 0 (outcome work.old out.old kept formula.now log.now plan.now) (λ t. t) out.old }
 {
     let r = carry_texts(formula, log, kept, plan, work, out);

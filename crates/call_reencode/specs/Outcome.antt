@@ -1,4 +1,4 @@
--- What the call answers: the definition's outcome. Number and values of each case are `formula_run`'s `outcome_of`.
+-- What the call answers: the definition's outcome. The values of its result are `formula_run`'s `result_of`, the numbers `refusals`'.
 use Rattle.std.specs.Prelude.{List, map, ℕ, ℤ, length}
 use Rattle.definition.specs.Checked.{Checked}
 use Rattle.definition.specs.Text.{Bytes}
@@ -11,10 +11,6 @@ use Rattle.run.specs.Settings.{settings_of}
 -- the outcome of a call: settings, text, workspace, both buffers and the number of the table's records
 abbrev pub outcome : Settings → Bytes → List ℤ → Bytes → Bytes → ℕ → Checked Reencoded
 outcome s text work log formula room = reencode (settings_of s) (length work) (length log) (length formula) room text
-
--- no input has more choices: each has five literals at least, and no variable stands in two
-abbrev pub most_choices : ℕ
-most_choices = 1600
 
 -- the records that are written
 abbrev pub shown_table : Reencoded → List ChoiceRecord

@@ -1,4 +1,4 @@
--- What the call answers: the definition's outcome. Number and values of each case are `formula_run`'s `tallied_of`.
+-- What the call answers: the definition's outcome. The values of its result are `formula_run`'s `tally_of`, the numbers `refusals`'.
 use Rattle.std.specs.Prelude.{List, ℤ, length}
 use Rattle.definition.specs.Checked.{Checked}
 use Rattle.definition.specs.Text.{Bytes}

@@ -1,5 +1,5 @@
 -- What testing an assignment and carrying it over lines answer, beside the definition's outcome; and what they ask of a workspace.
-use Rattle.std.specs.Prelude.{◌≡◌, Bool, true, false, not, ◌||◌, List, ℕ, ◌≤◌, ◌<◌, ◌^◌, ℤ, length, take}
+use Rattle.std.specs.Prelude.{◌≡◌, Bool, not, ◌||◌, List, ℕ, ◌≤◌, ◌<◌, ◌^◌, ℤ, length, Result, Ok, Err}
 use Rattle.definition.specs.Checked.{Checked, fault, value, ◌>>=◌, refuse_if}
 use Rattle.definition.specs.Literals.{Formula}
 use Rattle.definition.specs.Text.{Bytes}
@@ -7,12 +7,14 @@ use Rattle.definition.specs.Standing.{Line, highest_in, replay}
 use Rattle.definition.specs.Assignments.{Assignment, has_true, satisfies, carried_back, carried_forward}
 use Rattle.definition.specs.Calls.{fitting_line}
 use Rattle.theory_base.specs.Slices.{between}
-use Rattle.store.specs.Store.{Formed, deleted_at, clause_at}
+use Rattle.store.specs.Store.{deleted_at, clause_at}
 use Rattle.text.specs.Output.{Put}
-use Rattle.drat.specs.Loaded.{Loaded, lines_in}
+use Rattle.drat.specs.Loaded.{lines_in}
 use Rattle.replay.specs.Replayed.{Replayable}
-use Rattle.carry.specs.declared.Carried as Code
-use Rattle.carry.specs.declared.Carried.TheVariants as Carried
+use Rattle.refusals.specs.declared.Refusal.{Refusal}
+use Rattle.refusals.specs.Numbers.{number}
+use Rattle.carry.specs.declared.Direction.{Direction}
+use Rattle.carry.specs.declared.Direction.TheVariants.{Back, Forward}
 
 -- the clause at a place of a store is deleted or has a true literal
 abbrev pub holds_at : Assignment → List ℤ → ℕ → Bool
@@ -34,38 +36,22 @@ unfoldable pub carried_plan : ℕ → ℕ → List Line → Formula → Assignme
 carried_plan room x ss standing a = tested_text 46 room x standing (carried_forward a ss)
 
 -- forward or back
-abbrev pub carried_over : Bool → ℕ → ℕ → Formula → List Line → Formula → Assignment → Checked Bytes
-carried_over true room v f ss standing a = carried_plan room v ss standing a
-carried_over false room v f ss standing a = carried_answer room v f ss standing a
+abbrev pub carried_over : Direction → ℕ → ℕ → Formula → List Line → Formula → Assignment → Checked Bytes
+carried_over Forward room v f ss standing a = carried_plan room v ss standing a
+carried_over Back room v f ss standing a = carried_answer room v f ss standing a
 
 -- the lines are replayed over the formula before that: 32
-unfoldable pub replayed_text : Bool → ℕ → ℕ → Formula → List Line → Assignment → Checked Bytes
-replayed_text forward room v f ss a = replay f ss >>= λ standing. carried_over forward room v f ss standing a
+unfoldable pub replayed_text : Direction → ℕ → ℕ → Formula → List Line → Assignment → Checked Bytes
+replayed_text direction room v f ss a = replay f ss >>= λ standing. carried_over direction room v f ss standing a
 
 -- ---- what the code answers
 
--- number and values of each case
-abbrev pub carried_of : Checked Bytes → Code.Carried
-carried_of (fault n) = Carried.Refused n
-carried_of (value t) = Carried.Line (length t)
-
--- a fault, or the text written, which fits
-abbrev pub Carries : Checked Bytes → Bytes → Code.Carried → Bytes → Type 0
-Carries o old (Carried.Line n) new = (t : Bytes) × (o ≡ value t) × Put old 0 t n new × (n ≤ length old)
-Carries o old (Carried.Refused n) new = o ≡ fault n
+-- the text written, which fits, or a fault
+abbrev pub Carries : Checked Bytes → Bytes → Result ℕ Refusal → Bytes → Type 0
+Carries o old (Ok n) new = (t : Bytes) × (o ≡ value t) × Put old 0 t n new × (n ≤ length old)
+Carries o old (Err e) new = o ≡ fault (number e)
 
 -- ---- what is asked of a workspace
-
--- the formula before n, the lines at n..m, what stands at m..end; the table has every variable of the lines
-pub record Parts (work : List ℤ) (n m end v : ℕ) (marks : Bytes) : Type 0 where
-  pub before : n ≤ m
-  pub behind : m ≤ end
-  pub within : end ≤ length work
-  pub few : v < 2 ^ 31
-  pub formed : Formed (take n work)
-  pub loaded : Loaded (between n m work)
-  pub standing : Formed (between m end work)
-  pub named : highest_in (lines_in (between n m work)) < length marks
 
 -- the formula lies before n, the lines at n..m, with room for a replay, and the table has every variable of the lines
 pub record Carryable (work : List ℤ) (n m v : ℕ) (marks : Bytes) : Type 0 where

@@ -1,26 +1,12 @@
--- Counts written one after the other.
-use Rattle.std.proofs.Common.{◌≡◌, refl, List, [], ◌∷◌, ℕ, set}
+-- Counts written from the start on: those that fit, then what lay past them.
+use Rattle.std.proofs.Common.{◌≡◌, refl, ap, List, [], ◌∷◌, ◌++◌, ℕ, zero, suc, min, length, take, drop, arith}
 use Rattle.counts.specs.Counts.{overwritten}
 
--- one count, three counts, six counts
-pub one_count : (t : List ℕ) (a : ℕ) → set t 0 a ≡ overwritten (a ∷ []) t
+pub overwritten_is : {n : ℕ} (ns t : List ℕ) → n ≡ min (length t) (length ns) → take n ns ++ drop n t ≡ overwritten ns t
 unfolding overwritten
-one_count [] a = refl
-one_count (x ∷ t) a = refl
-
-pub three_counts : (t : List ℕ) (a b c : ℕ) → set (set (set t 0 a) 1 b) 2 c ≡ overwritten (a ∷ b ∷ c ∷ []) t
-unfolding overwritten
-three_counts [] a b c = refl
-three_counts (x ∷ []) a b c = refl
-three_counts (x ∷ y ∷ []) a b c = refl
-three_counts (x ∷ y ∷ z ∷ t) a b c = refl
-
-pub six_counts : (t : List ℕ) (a b c d e f : ℕ) → set (set (set (set (set (set t 0 a) 1 b) 2 c) 3 d) 4 e) 5 f ≡ overwritten (a ∷ b ∷ c ∷ d ∷ e ∷ f ∷ []) t
-unfolding overwritten
-six_counts [] a b c d e f = refl
-six_counts (x ∷ []) a b c d e f = refl
-six_counts (x ∷ y ∷ []) a b c d e f = refl
-six_counts (x ∷ y ∷ z ∷ []) a b c d e f = refl
-six_counts (x ∷ y ∷ z ∷ u ∷ []) a b c d e f = refl
-six_counts (x ∷ y ∷ z ∷ u ∷ v ∷ []) a b c d e f = refl
-six_counts (x ∷ y ∷ z ∷ u ∷ v ∷ w ∷ t) a b c d e f = refl
+overwritten_is {n = zero} [] t e = refl
+overwritten_is {n = suc n} [] t e = absurd (omega arith)
+overwritten_is {n = zero} (x ∷ ns) [] e = refl
+overwritten_is {n = suc n} (x ∷ ns) [] e = absurd (omega arith)
+overwritten_is {n = zero} (x ∷ ns) (b ∷ bs) e = absurd (omega arith)
+overwritten_is {n = suc n} (x ∷ ns) (b ∷ bs) e = ap (λ (l : List ℕ). x ∷ l) (overwritten_is {n = n} ns bs (omega arith))

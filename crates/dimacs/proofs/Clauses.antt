@@ -3,6 +3,7 @@ use mathlib.Core.Path.{◌≡◌, refl, sym, ◌∙◌}
 use mathlib.Core.Bool.{Bool, true, false, cond}
 use mathlib.Core.List.{List, [], ◌∷◌, ◌++◌}
 use mathlib.Core.Option.{Option, some, none}
+use Rattle.std.proofs.Common.{Option as Optional, Some, None}
 use Prim.Native.Nat.{ℕ, ◌+◌, ◌-◌, ◌≤◌, ◌<◌}
 use native.Mathlib.Omega.{arith}
 use lib.Dec.{eqb, ltb}
@@ -16,7 +17,6 @@ use Rattle.definition.specs.Text.{Bytes, number}
 use Rattle.definition.specs.Reading.{Limits, Input, as_read, Reader, kept_of, read_literal, end_clause, read_word, end_text}
 use Rattle.theory_base.proofs.Tests.{by_test}
 use Rattle.theory_base.proofs.Clauses.{literals-++, opposed_with}
-use Rattle.dimacs.specs.declared.Item.{Item}
 use Rattle.dimacs.specs.Clause.{number_item, ClauseIsRead, finished, ended, clause_by, first_clause, past_by, past_clause, KeptRead, kept_within, first_kept}
 
 abbrev reader : ℕ → Formula → Clause → Reader
@@ -51,16 +51,16 @@ module _ (most : Limits) (v c : ℕ) where
     room = most.literals - literals_of done
 
     -- the reader after a word
-    abbrev after_item : Clause → Item → Checked Reader
-    after_item here (Item.Fault n) = fault n
-    after_item here Item.Zero = end_clause most (reader count done here)
-    after_item here (Item.Literal l) = value (reader count done (with_literal l here))
+    abbrev after_item : Clause → Checked (Optional ℤ) → Checked Reader
+    after_item here (fault n) = fault n
+    after_item here (value None) = end_clause most (reader count done here)
+    after_item here (value (Some l)) = value (reader count done (with_literal l here))
 
     word_step : (here : Clause) (w : Bytes) → read_word most v c (reader count done here) w ≡ after_item here (number_item v (number w))
     unfolding read_word refuse_if or_fault ◌>>=◌ read_literal
     word_step here w = rw (lt-leb c count h) (step (number w))
       where
-        literal : (l : ℤ) (z a : Bool) → cond z (end_clause most (reader count done here)) (refuse_if a 4 (value (reader count done (with_literal l here)))) ≡ after_item here (cond z Item.Zero (cond a (Item.Fault 4) (Item.Literal l)))
+        literal : (l : ℤ) (z a : Bool) → cond z (end_clause most (reader count done here)) (refuse_if a 4 (value (reader count done (with_literal l here)))) ≡ after_item here (cond z (value None) (cond a (fault 4) (value (Some l))))
         literal l true a = refl
         literal l false true = refl
         literal l false false = refl
@@ -87,11 +87,11 @@ module _ (most : Limits) (v c : ℕ) where
     by_clause (l ∷ here) [] = rw (lt-ltb 0 (length (l ∷ here)) (omega arith)) refl
     by_clause here (w ∷ ws) = rw (word_step here w) (go (number_item v (number w)) (λ d. by_clause d ws))
       where
-        go : (i : Item) → ((d : Clause) → read_rest count done d ws ≡ on (first_kept v room d ws))
+        go : (i : Checked (Optional ℤ)) → ((d : Clause) → read_rest count done d ws ≡ on (first_kept v room d ws))
             → ((after_item here i >>= λ t. through (read_word most v c) t ws) >>= λ r. end_text c r >>= λ f. value (as_read v c f)) ≡ on (clause_by here ws (λ d. first_clause v d ws) i >>= kept_within room)
-        go (Item.Fault n) ih = refl
-        go Item.Zero ih = closed here ws
-        go (Item.Literal l) ih = ih (with_literal l here)
+        go (fault n) ih = refl
+        go (value None) ih = closed here ws
+        go (value (Some l)) ih = ih (with_literal l here)
 
 -- ---- a clause that is left out
 
@@ -116,7 +116,7 @@ unfolding first_clause past_clause
 opposed_rest v here [] e = rw (opposed_ended here e) refl
 opposed_rest v here (w ∷ ws) e = go (number_item v (number w)) (λ d q. opposed_rest v d ws q)
   where
-    go : (i : Item) → ((d : Clause) → opposed d ≡ true → RestOf (first_clause v d ws) (past_clause v ws)) → RestOf (clause_by here ws (λ d. first_clause v d ws) i) (past_by ws (past_clause v ws) i)
-    go (Item.Fault n) ih = refl
-    go Item.Zero ih = record { clause = here; is = refl; opposes = e }
-    go (Item.Literal l) ih = ih (with_literal l here) (opposed_with l here e)
+    go : (i : Checked (Optional ℤ)) → ((d : Clause) → opposed d ≡ true → RestOf (first_clause v d ws) (past_clause v ws)) → RestOf (clause_by here ws (λ d. first_clause v d ws) i) (past_by ws (past_clause v ws) i)
+    go (fault n) ih = refl
+    go (value None) ih = record { clause = here; is = refl; opposes = e }
+    go (value (Some l)) ih = ih (with_literal l here) (opposed_with l here e)

@@ -1,80 +1,71 @@
 -- The text of a header, and of the clauses that stand in a store. Assumes nothing.
 use mathlib.Core.Path.{◌≡◌, refl, sym, ap, ◌∙◌}
-use mathlib.Core.Bool.{true, false}
+use mathlib.Core.Bool.{Bool, true, false, cond}
 use mathlib.Core.List.{List, [], ◌∷◌, ◌++◌, append-nil, append_assoc}
-use Prim.Native.Nat.{ℕ, ◌+◌, ◌*◌, ◌-◌, ◌≤◌, ◌<◌}
+use Prim.Native.Nat.{ℕ, zero, suc, ◌+◌, ◌*◌, ◌≤◌}
 use native.Mathlib.Omega.{arith}
 use lib.IntN.{ℤ}
-use lib.ListN.{length, take, drop, length-drop}
-use lib.Seq.{length-take-le}
+use lib.ListN.{length, take, length-take}
 use Rattle.definition.specs.Lists.{for_each}
-use Rattle.definition.specs.Literals.{Formula}
+use Rattle.definition.specs.Literals.{Clause, Formula}
 use Rattle.definition.specs.Text.{Bytes, bytes, digits}
 use Rattle.definition.specs.Log.{clause_text, formula_text}
-use Rattle.theory_base.proofs.Tests.{by_test}
+use Rattle.definition.specs.Calls.{numbers_of}
+use Rattle.theory_base.proofs.Clauses.{numbers_none, numbers_first}
+use Rattle.literals.specs.Literal.{negative, header_literals}
 use Rattle.text.specs.Output.{Put}
-use Rattle.text.proofs.Output.{put_none, put_then, put_same, put_length}
-use Rattle.store.specs.Store.{Formed, stored, deleted_at, size_at, past}
-use Rattle.store.proofs.Laws.{formed_next, rest_deleted, rest_stands, stored_end}
-use Rattle.dimacs.specs.FormulaText.{header_text, entry_text}
+use Rattle.text.proofs.Output.{put_none, put_then, put_same}
+use Rattle.store.specs.Store.{FormedFrom, Formed, stored_from, stored}
+use Rattle.dimacs.specs.FormulaText.{header_text}
 
--- ---- an entry
+-- ---- what stands in a store is no longer than the store
 
-module _ (s : List ℤ) (at : ℕ) where
-  pub entry_length : {next : ℕ} → next ≡ past s at → past s at ≤ length s → length (take (next - (at + 1)) (drop (at + 1) s)) ≡ next - (at + 1)
-  entry_length {next} e h = length-take-le (next - (at + 1)) (drop (at + 1) s) (omega (arith, length-drop (at + 1) s))
+stored_short : (k : ℕ) (s : List ℤ) → FormedFrom k s → numbers_of (stored_from k s) + k ≤ length s
+unfolding stored_from
+stored_short zero [] f = omega (arith, numbers_none)
+stored_short (suc k) [] f = absurd f
+stored_short (suc k) (x ∷ s) f = omega (arith, stored_short k s f)
+stored_short zero (h ∷ s) f = go (negative h) (stored_short (header_literals h) s f)
+  where
+    n : ℕ
+    n = header_literals h
 
-  pub entry_deleted : (l : Bytes) (end : ℕ) → deleted_at s at ≡ true → Put l end (entry_text s at) end l × (end ≤ end + 12 * (past s at - at))
-  entry_deleted l end e = (rw e (put_none l end), omega arith)
+    go : (x : Bool) → numbers_of (stored_from n s) + n ≤ length s → numbers_of (cond x (stored_from n s) (take n s ∷ stored_from n s)) + 0 ≤ length (h ∷ s)
+    go true e = omega arith
+    go false e = omega (arith, numbers_first (take n s) (stored_from n s), length-take n s)
 
-  pub entry_written : {l n : Bytes} {end r next : ℕ} → deleted_at s at ≡ false → next ≡ past s at → Put l end (clause_text (take (next - (at + 1)) (drop (at + 1) s))) r n → Put l end (entry_text s at) r n
-  entry_written {next = next} e q p =
-      let z : next - (at + 1) ≡ size_at s at = omega arith in
-      rw e (rw z at p)
+-- ---- the loop: the clauses before those that are left are written
 
-module _ (s : List ℤ) (at : ℕ) (h : at < length s) where
-  entry_then : entry_text s at ++ for_each (stored (drop (past s at) s)) clause_text ≡ for_each (stored (drop at s)) clause_text
-  unfolding for_each
-  entry_then = by_test (deleted_at s at) (λ e. rw (e, rest_deleted s at h e)) (λ e. rw (e, rest_stands s at h e))
-
--- ---- the loop: what stands before a place is written
-
-pub record Entries (old : Bytes) (from : ℕ) (s : List ℤ) (at end : ℕ) (buf : Bytes) : Type 0 where
-  pub inside : at ≤ length s
-  pub rest : Formed (drop at s)
-  pub size : length buf ≡ length old
-  pub within : end ≤ from + 12 * at
+pub record Written (old : Bytes) (from : ℕ) (s : List ℤ) (left : Formula) (end : ℕ) (buf : Bytes) : Type 0 where
+  pub within : end + 12 * numbers_of left ≤ from + 12 * length s
   pub done : Bytes
   pub put : Put old from done end buf
-  pub whole : done ++ for_each (stored (drop at s)) clause_text ≡ for_each (stored s) clause_text
+  pub whole : done ++ for_each left clause_text ≡ for_each (stored s) clause_text
 
-pub entries_start : (old : Bytes) (from : ℕ) (s : List ℤ) → Formed s → Entries old from s 0 from old
-entries_start old from s f = record {
-  inside = omega arith;
-  rest = f;
-  size = refl;
-  within = omega arith;
-  done = [];
-  put = put_none old from;
-  whole = refl;
-}
+pub written_start : (old : Bytes) (from : ℕ) (s : List ℤ) → Formed s → Written old from s (stored s) from old
+written_start old from s f = record { within = omega (arith, stored_short 0 s f); done = []; put = put_none old from; whole = refl }
 
-module _ {old buf : Bytes} {from at end : ℕ} {s : List ℤ} (p : Entries old from s at end buf) where
-  pub entries_step : {new : Bytes} {r next : ℕ} → at < length s → Put buf end (entry_text s at) r new → r ≤ end + 12 * (past s at - at) → next ≡ past s at → Entries old from s next r new
-  entries_step l q w e =
-      let n = formed_next s at l p.rest in rw e (record {
-        inside = n.0;
-        rest = n.1;
-        size = put_length q ∙ p.size;
-        within = omega (arith, p.within);
-        done = p.done ++ entry_text s at;
-        put = put_then p.put q;
-        whole = append_assoc p.done (entry_text s at) (for_each (stored (drop (past s at) s)) clause_text) ∙ ap (λ (t : Bytes). p.done ++ t) (entry_then s at l) ∙ p.whole;
-      })
+module _ {old buf : Bytes} {from end : ℕ} {s : List ℤ} {left : Formula} (p : Written old from s left end buf) where
+  module _ {c : Clause} {more : Formula} (e : left ≡ c ∷ more) where
+    numbers_left : numbers_of left ≡ 1 + length c + numbers_of more
+    numbers_left = rw e (numbers_first c more)
 
-  pub entries_end : length s ≤ at → Put old from (for_each (stored s) clause_text) end buf
+    -- there is room for a clause more
+    pub written_room : end + 12 * length c + 12 ≤ from + 12 * length s
+    written_room = omega (arith, p.within, numbers_left)
+
+    pub written_more : {new : Bytes} {r : ℕ} → Put buf end (clause_text c) r new → r ≤ end + 12 * length c + 2 → Written old from s more r new
+    unfolding for_each
+    written_more q w = record {
+      within = omega (arith, p.within, numbers_left);
+      done = p.done ++ clause_text c;
+      put = put_then p.put q;
+      whole = append_assoc p.done (clause_text c) (for_each more clause_text) ∙ ap (λ (f : Formula). p.done ++ for_each f clause_text) (sym e) ∙ p.whole;
+    }
+
+  pub written_all : left ≡ [] → Put old from (for_each (stored s) clause_text) end buf
   unfolding for_each
-  entries_end l = put_same p.put (sym (append-nil p.done) ∙ ap (λ (f : Formula). p.done ++ for_each f clause_text) (sym (stored_end s at l)) ∙ p.whole)
+  written_all e = put_same p.put (sym (append-nil p.done) ∙ ap (λ (f : Formula). p.done ++ for_each f clause_text) (sym e) ∙ p.whole)
 
 -- ---- the header, then the clauses
 

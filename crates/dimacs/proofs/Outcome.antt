@@ -1,30 +1,37 @@
--- What the answer of the whole reading says of the outcome. Assumes nothing.
-use mathlib.Core.Path.{◌≡◌, refl}
-use Prim.Native.Nat.{ℕ}
+-- What a result of the whole reading says of the outcome. Assumes nothing.
+use mathlib.Core.Path.{◌≡◌}
+use Rattle.std.proofs.Common.{ap, Result, Ok, Err}
 use Rattle.definition.specs.Checked.{Checked, fault, value}
 use Rattle.definition.specs.Literals.{literals_of}
 use Rattle.definition.specs.Reading.{Input}
 use Rattle.definition.specs.Calls.{numbers_of}
-use Rattle.dimacs.specs.Outcome.{read_of}
-use Rattle.dimacs.specs.declared.FormulaRead.{FormulaRead}
+use Rattle.refusals.specs.declared.Refusal.{Refusal}
+use Rattle.refusals.specs.Numbers.{number}
+use Rattle.refusals.specs.Outcomes.{outcome, showing}
+use Rattle.refusals.proofs.Laws.{ok_shows, err_faults}
+use Rattle.dimacs.specs.declared.Formula.{Formula}
+use Rattle.dimacs.specs.Outcome.{summary}
 
--- the formula of V, C and L, and the elements that it fills
-pub record FormulaIs (o : Checked Input) (v c l filled : ℕ) : Type 0 where
+-- the formula that is told, field by field
+pub record FormulaIs (o : Checked Input) (f : Formula) : Type 0 where
   pub input : Input
   pub is : o ≡ value input
-  pub variables : v ≡ input.variables
-  pub clauses : c ≡ input.clauses
-  pub literals : l ≡ literals_of input.formula
-  pub numbers : filled ≡ numbers_of input.formula
+  pub variables : f.variables ≡ input.variables
+  pub clauses : f.clauses ≡ input.clauses
+  pub literals : f.literals ≡ literals_of input.formula
+  pub filled : f.filled ≡ numbers_of input.formula
 
-abbrev pub FormulaSays : Checked Input → FormulaRead → Type 0
-FormulaSays o (FormulaRead.Fault n) = o ≡ fault n
-FormulaSays o (FormulaRead.Formula v c l filled) = FormulaIs o v c l filled
+module _ (o : Checked Input) {r : Result Formula Refusal} where
+  pub formula_told : {f : Formula} → r ≡ Ok f → outcome r ≡ showing summary o → FormulaIs o f
+  formula_told e h =
+      let s = ok_shows summary o e h in record {
+        input = s.it;
+        is = s.is;
+        variables = ap (λ (f : Formula). f.variables) s.shows;
+        clauses = ap (λ (f : Formula). f.clauses) s.shows;
+        literals = ap (λ (f : Formula). f.literals) s.shows;
+        filled = ap (λ (f : Formula). f.filled) s.shows;
+      }
 
-formula_says : (o : Checked Input) → FormulaSays o (read_of o)
-formula_says (fault n) = refl
-formula_says (value i) = record { input = i; is = refl; variables = refl; clauses = refl; literals = refl; numbers = refl }
-
--- by an answer that a function gave
-pub formula_answer : (o : Checked Input) {r : FormulaRead} → r ≡ read_of o → FormulaSays o r
-formula_answer o e = rw e (formula_says o)
+  pub formula_refused : {e : Refusal} → r ≡ Err e → outcome r ≡ showing summary o → o ≡ fault (number e)
+  formula_refused = err_faults summary o

@@ -1,5 +1,5 @@
 -- "Each clause is read from the text that follows the one before it": the definition's reading, clause by clause.
-use Rattle.std.specs.Prelude.{◌≡◌, refl, true, cond, List, [], ◌∷◌, ℕ, zero, suc, ◌+◌, ◌≤◌, eqb, ltb, ℤ, pos, negsuc, nat_abs, length, take, drop}
+use Rattle.std.specs.Prelude.{◌≡◌, refl, true, cond, Option as Optional, Some, None, Result, Ok, Err, List, [], ◌∷◌, ℕ, zero, suc, ◌+◌, ◌≤◌, eqb, ltb, ℤ, pos, negsuc, nat_abs, length, take, drop}
 use Rattle.std.proofs.Math.Option.{Option, some, none}
 use Rattle.std.proofs.lemmas.List.Edits.{sets}
 use Rattle.definition.specs.Lists as Lists
@@ -12,18 +12,18 @@ use Rattle.definition.specs.Text as Text
 use Rattle.definition.specs.Reading.{kept_of}
 use Rattle.definition.specs.Calls.{numbers_of}
 use Rattle.theory_base.specs.Clauses.{Proper}
+use Rattle.refusals.specs.declared.Refusal.{Refusal}
+use Rattle.refusals.specs.Numbers.{number as number_of}
 use Rattle.tables.specs.Stamps.{AtMost, Marks}
 use Rattle.dimacs.specs.Entries.{entry, entries}
-use Rattle.dimacs.specs.declared.Item.{Item}
-use Rattle.dimacs.specs.declared.Skipped.{Skipped}
-use Rattle.dimacs.specs.declared.Held.{Held}
 use Rattle.dimacs.specs.declared.Gathered.{Gathered}
 use Rattle.dimacs.specs.declared.ClauseRead.{ClauseRead}
+use Rattle.dimacs.specs.declared.ClauseReader.{ClauseReader}
 
 -- ---- a word: 3, the clause's end, 4, or a literal
-abbrev pub number_item : ℕ → Option ℤ → Item
-number_item v none = Item.Fault 3
-number_item v (some l) = cond (eqb 0 (nat_abs l)) Item.Zero (cond (ltb v (nat_abs l)) (Item.Fault 4) (Item.Literal l))
+abbrev pub number_item : ℕ → Option ℤ → Checked (Optional ℤ)
+number_item v none = fault 3
+number_item v (some l) = cond (eqb 0 (nat_abs l)) (value None) (cond (ltb v (nat_abs l)) (fault 4) (value (Some l)))
 
 -- ---- the literals of a clause
 
@@ -41,10 +41,10 @@ ended zero = 8
 ended (suc n) = 7
 
 -- by what the next word says; more goes on with one literal more
-abbrev pub clause_by : Clause → List Bytes → (Clause → Checked ClauseIsRead) → Item → Checked ClauseIsRead
-clause_by here ws more (Item.Fault n) = fault n
-clause_by here ws more Item.Zero = finished here ws
-clause_by here ws more (Item.Literal l) = more (with_literal l here)
+abbrev pub clause_by : Clause → List Bytes → (Clause → Checked ClauseIsRead) → Checked (Optional ℤ) → Checked ClauseIsRead
+clause_by here ws more (fault n) = fault n
+clause_by here ws more (value None) = finished here ws
+clause_by here ws more (value (Some l)) = more (with_literal l here)
 
 -- the clause at the start of words, after the literals in here
 unfoldable pub first_clause : ℕ → Clause → List Bytes → Checked ClauseIsRead
@@ -53,60 +53,60 @@ first_clause v here (w ∷ ws) = clause_by here ws (λ h. first_clause v h ws) (
 
 -- ---- the rest of a clause that is left out: 3, 4, 7, or the words after it
 
-abbrev pub past_by : List Bytes → Checked (List Bytes) → Item → Checked (List Bytes)
-past_by ws more (Item.Fault n) = fault n
-past_by ws more Item.Zero = value ws
-past_by ws more (Item.Literal l) = more
+abbrev pub past_by : List Bytes → Checked (List Bytes) → Checked (Optional ℤ) → Checked (List Bytes)
+past_by ws more (fault n) = fault n
+past_by ws more (value None) = value ws
+past_by ws more (value (Some l)) = more
 
 unfoldable pub past_clause : ℕ → List Bytes → Checked (List Bytes)
 past_clause v [] = fault 7
 past_clause v (w ∷ ws) = past_by ws (past_clause v ws) (number_item v (number w))
 
 -- the words after it are those of the text after the next place
-abbrev pub SkipPost : Bytes → Checked (List Bytes) → Skipped → Type 0
-SkipPost t o (Skipped.Fault n) = o ≡ fault n
-SkipPost t o (Skipped.To next) = (o ≡ value (words (drop next t))) × (next ≤ length t)
-
-abbrev pub left_out : Skipped → Gathered
-left_out (Skipped.To next) = Gathered.LeftOut next
-left_out (Skipped.Fault n) = Gathered.Fault n
+abbrev pub SkipPost : Bytes → Checked (List Bytes) → Result ℕ Refusal → Type 0
+SkipPost t o (Err e) = o ≡ fault (number_of e)
+SkipPost t o (Ok next) = (o ≡ value (words (drop next t))) × (next ≤ length t)
 
 -- ---- a clause held as an entry: the first element is the header's place
 
 -- the literals held so far, and their marks
-pub record Holding (old held : List ℤ) (table : List ℕ) (stamp : ℕ) (here : Clause) (count : ℕ) : Type 0 where
+pub record Holding (old : List ℤ) (r : ClauseReader) (number : ℕ) (here : Clause) (count : ℕ) : Type 0 where
   pub counted : count ≡ length here
-  pub stored : held ≡ sets old 1 here
+  pub stored : r.held ≡ sets old 1 here
   pub proper : Proper here
-  pub marks : Marks table stamp here
+  pub marks : Marks r.seen number here
 
 -- with a literal more, the literals are held, or one is opposed
-abbrev pub HoldPost : List ℤ → List ℤ → List ℕ → ℕ → Clause → ℤ → Held → Type 0
-HoldPost old held table stamp here l (Held.Count n) = Holding old held table stamp (with_literal l here) n
-HoldPost old held table stamp here l Held.Opposed = (opposed (with_literal l here) ≡ true) × AtMost table stamp
+abbrev pub HoldPost : List ℤ → ClauseReader → ℕ → Clause → ℤ → Optional ℕ → Type 0
+HoldPost old r number here l (Some count) = Holding old r number (with_literal l here) count
+HoldPost old r number here l None = (opposed (with_literal l here) ≡ true) × AtMost r.seen number
 
 -- a proper clause that is held
-pub record Kept (t : Bytes) (o : Checked ClauseIsRead) (held : List ℤ) (table : List ℕ) (stamp v next count : ℕ) : Type 0 where
+pub record Kept (t : Bytes) (o : Checked ClauseIsRead) (r : ClauseReader) (number v next count : ℕ) : Type 0 where
   pub clause : Clause
   pub is : o ≡ finished clause (words (drop next t))
   pub size : count ≡ length clause
   pub proper : Proper clause
   pub few : count ≤ v
   pub within : next ≤ length t
-  pub entered : take (count + 1) held ≡ entry clause
-  pub below : AtMost table stamp
+  pub entered : take (count + 1) r.held ≡ entry clause
+  pub below : AtMost r.seen number
 
-pub record LeftOut (t : Bytes) (o : Checked ClauseIsRead) (table : List ℕ) (stamp next : ℕ) : Type 0 where
+pub record LeftOut (t : Bytes) (o : Checked ClauseIsRead) (r : ClauseReader) (number next : ℕ) : Type 0 where
   pub clause : Clause
   pub is : o ≡ finished clause (words (drop next t))
   pub tautology : opposed clause ≡ true
   pub within : next ≤ length t
-  pub below : AtMost table stamp
+  pub below : AtMost r.seen number
 
-abbrev pub GatherPost : Bytes → Checked ClauseIsRead → List ℤ → List ℕ → ℕ → ℕ → Gathered → Type 0
-GatherPost t o held table stamp v (Gathered.Fault n) = o ≡ fault n
-GatherPost t o held table stamp v (Gathered.LeftOut next) = LeftOut t o table stamp next
-GatherPost t o held table stamp v (Gathered.Kept next count) = Kept t o held table stamp v next count
+-- by how many literals are held, unless it is left out
+abbrev pub KeptPost : Bytes → Checked ClauseIsRead → ClauseReader → ℕ → ℕ → ℕ → Optional ℕ → Type 0
+KeptPost t o r number v next (Some count) = Kept t o r number v next count
+KeptPost t o r number v next None = LeftOut t o r number next
+
+abbrev pub GatherPost : Bytes → Checked ClauseIsRead → ClauseReader → ℕ → ℕ → Result Gathered Refusal → Type 0
+GatherPost t o r number v (Err e) = o ≡ fault (number_of e)
+GatherPost t o r number v (Ok g) = KeptPost t o r number v g.next g.kept
 
 -- ---- what is kept of a clause
 
@@ -125,20 +125,20 @@ unfoldable pub first_kept : ℕ → ℕ → Clause → List Bytes → Checked Ke
 first_kept v room here ws = first_clause v here ws >>= kept_within room
 
 -- it is stored; the words after it are those of the text after the next place
-pub record Read (t : Bytes) (o : Checked KeptRead) (room : ℕ) (old new : List ℤ) (table : List ℕ) (stamp next count filled : ℕ) : Type 0 where
+pub record Read (t : Bytes) (o : Checked KeptRead) (room : ℕ) (old new : List ℤ) (r : ClauseReader) (number : ℕ) (read : ClauseRead) : Type 0 where
   pub kept : Formula
-  pub is : o ≡ value (record { kept = kept; after = words (drop next t) })
+  pub is : o ≡ value (record { kept = kept; after = words (drop read.next t) })
   pub one : length kept ≤ 1
-  pub literals : count ≡ literals_of kept
-  pub numbers : filled ≡ numbers_of kept
-  pub within : next ≤ length t
-  pub few : count ≤ room
+  pub literals : read.literals ≡ literals_of kept
+  pub numbers : read.filled ≡ numbers_of kept
+  pub within : read.next ≤ length t
+  pub few : read.literals ≤ room
   pub stored : new ≡ sets old 0 (entries kept)
-  pub below : AtMost table stamp
+  pub below : AtMost r.seen number
 
-abbrev pub ClausePost : Bytes → Checked KeptRead → ℕ → List ℤ → List ℤ → List ℕ → ℕ → ClauseRead → Type 0
-ClausePost t o room old new table stamp (ClauseRead.Fault n) = o ≡ fault n
-ClausePost t o room old new table stamp (ClauseRead.Done next count filled) = Read t o room old new table stamp next count filled
+abbrev pub ClausePost : Bytes → Checked KeptRead → ℕ → List ℤ → List ℤ → ClauseReader → ℕ → Result ClauseRead Refusal → Type 0
+ClausePost t o room old new r number (Err e) = o ≡ fault (number_of e)
+ClausePost t o room old new r number (Ok read) = Read t o room old new r number read
 
 examples :
     (first_clause 3 [] (words (bytes "1 -2 1 0 3 0")) ≡ finished (pos 1 ∷ negsuc 1 ∷ []) (words (bytes "3 0")))

@@ -1,6 +1,6 @@
 pub mod Limits
+pub mod Outcome
 pub mod HeaderLine
 pub mod Entries
 pub mod Clause
-pub mod Outcome
 pub mod FormulaText

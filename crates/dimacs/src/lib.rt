@@ -1,27 +1,29 @@
 // DIMACS CNF: a formula read into a store, and written from one.
 #![tactic(auto)]
 
-ghost use Rattle.std.specs.Prelude.{◌≡◌, false, List, [], ◌++◌, ◌+◌, ◌*◌, ◌-◌, ◌≤◌, ◌<◌, ◌^◌, ℤ, length, drop};
+ghost use Rattle.std.specs.Prelude.{◌≡◌, List, [], ◌+◌, ◌*◌, ◌≤◌, ◌<◌, ◌^◌, ℤ, length, drop};
+ghost use Rattle.std.specs.List.{position};
 ghost use Rattle.definition.specs.Lists.{for_each};
 ghost use Rattle.definition.specs.Literals.{Clause};
-ghost use Rattle.definition.specs.Text.{is, number, past_comments, words, fields};
+ghost use Rattle.definition.specs.Text.{is, number, words, fields};
 ghost use Rattle.definition.specs.Reading.{input_limits, read_back_limits, read_header_fields, read_header, read_clauses, read_formula};
 ghost use Rattle.definition.specs.Log.{clause_text, formula_text};
-ghost use Rattle.theory_text.specs.Runs.{letters};
-ghost use Rattle.theory_text.specs.HeaderLine.{marker};
 ghost use Rattle.text.specs.Output.{Put};
-ghost use Rattle.store.specs.Store.{Formed, stored, past};
-ghost use Rattle.tables.specs.Sizes.{log_reach, log_size};
+ghost use Rattle.store.specs.Store.{Formed, stored};
+ghost use Rattle.tables.specs.Sizes.{log_reach};
 ghost use Rattle.theory_base.specs.Clauses.{Fit};
 ghost use Rattle.tables.specs.Stamps.{Fresh};
 ghost use Rattle.dimacs.specs.Limits.{limits_of, Countable};
-ghost use Rattle.dimacs.specs.HeaderLine.{counts_by, counts_of, HeaderPost};
-ghost use Rattle.dimacs.specs.Clause.{number_item, ended, first_clause, past_clause, SkipPost, Holding, HoldPost, left_out, GatherPost, first_kept, ClausePost};
-ghost use Rattle.dimacs.specs.Outcome.{header_of, read_of, Filled};
-ghost use Rattle.dimacs.specs.FormulaText.{header_text, entry_text};
+ghost use Rattle.refusals.specs.Numbers.{number as number_of};
+ghost use Rattle.refusals.specs.Outcomes.{outcome, outcome as outcome_defined, showing};
+ghost use Rattle.dimacs.specs.HeaderLine.{HeaderLine, counts_by, counts_of, HeaderPost};
+ghost use Rattle.dimacs.specs.Clause.{number_item, ended, first_clause, past_clause, SkipPost, Holding, HoldPost, GatherPost, first_kept, ClausePost};
+ghost use Rattle.dimacs.specs.Outcome.{header_of, summary, Filled};
+ghost use Rattle.dimacs.specs.FormulaText.{header_text};
 
+use refusals::Refusal;
 use tables::Marked;
-use text::{Line, Natural, Number, Word};
+use text::{Line, NumberError};
 
 // ---- limits
 
@@ -33,7 +35,7 @@ pub struct Limits {
     pub literals: u32,
 }
 
-// Document 01's limits for the formula.
+// The limits of a formula that is given.
 pub fn input_limits() -> Limits
     ensures { (limits_of result ≡ input_limits) × Countable result }
 {
@@ -44,7 +46,7 @@ pub fn input_limits() -> Limits
     }
 }
 
-// Document 01's limits for the new formula read back.
+// The limits of a new formula that is read back.
 pub fn read_back_limits() -> Limits
     ensures { (limits_of result ≡ read_back_limits) × Countable result }
 {
@@ -64,396 +66,310 @@ pub fn workspace_need(variables: u32, clauses: u32, literals: u32) -> usize
 
 // ---- the header
 
-// V and C, or the number of a fault.
+// V and C.
 #[derive(Clone, Copy)]
-enum Counts {
-    Numbers(u32, u32),
-    Fault(u8),
+struct Counts {
+    variables: u32,
+    clauses: u32,
 }
 
-// V, C and the place past the header line, or the number of a fault.
+// What the header line says, and the place past it.
 #[derive(Clone, Copy)]
-enum Header {
-    Numbers(u32, u32, usize),
-    Fault(u8),
+struct Header {
+    counts: Counts,
+    next: usize,
 }
 
-// The place past the lines at the start that begin with `c`.
-fn skip_comments(text: &[u8]) -> usize
-    ensures within { result ≤ length text.now }
-    ensures rest { drop result text.now ≡ past_comments false text.now }
+// The first line that does not begin with `c`.
+fn header_line(text: &[u8]) -> Option<Line>
+    ensures { HeaderLine text.now result }
 {
-    let mut commented = false;
     let mut at = 0;
-    while at < text.len() {
-        let b = text[at];
-        if commented {
-            commented = b != 10;
-            at += 1;
-        } else {
-            if b != 99 {
-                return at;
-            }
-            commented = true;
-            at += 1;
+    // a line begins where the one before it ends
+    while let Some(line) = text::next_line(text, at) {
+        if text[at] != b'c' {
+            return Some(line);
         }
+        at = line.next;
     }
-    at
+    None
 }
 
 // V and C by what their words say.
-fn counts_from(v: Natural, c: Natural, most: Limits) -> Counts
-    ensures { result ≡ counts_by most v c }
+fn counts_from(
+    v: Result<u32, NumberError>,
+    c: Result<u32, NumberError>,
+    most: Limits,
+) -> Result<Counts, Refusal>
+    ensures { outcome result ≡ counts_by most v c }
 {
-    match v {
-        Natural::NotANumber => Counts::Fault(1),
-        Natural::Large => match c {
-            Natural::NotANumber => Counts::Fault(1),
-            Natural::Large => Counts::Fault(2),
-            Natural::Value(_) => Counts::Fault(2),
-        },
-        Natural::Value(x) => match c {
-            Natural::NotANumber => Counts::Fault(1),
-            Natural::Large => Counts::Fault(2),
-            Natural::Value(y) => {
-                if most.variables < x {
-                    return Counts::Fault(2);
-                }
-                if most.clauses < y {
-                    return Counts::Fault(2);
-                }
-                Counts::Numbers(x, y)
-            }
-        },
-    }
-}
-
-// The place of the first blank, or the text's end.
-fn first_blank(text: &[u8]) -> usize
-    ensures { result ≡ letters (is " ") text.now }
-{
-    let mut i = 0;
-    while i < text.len() {
-        if text[i] == 32 {
-            return i;
+    match (v, c) {
+        (Err(NumberError::NotANumber), _) | (_, Err(NumberError::NotANumber)) => {
+            Err(Refusal::NoHeader)
         }
-        i += 1;
+        (Ok(variables), Ok(clauses)) if variables <= most.variables && clauses <= most.clauses => {
+            Ok(Counts { variables, clauses })
+        }
+        _ => Err(Refusal::CountTooLarge),
     }
-    i
 }
 
-// V and C of a line that begins with `p cnf `, from what follows.
-fn split_counts(rest: &[u8], most: Limits) -> Counts
-    requires { Countable most }
-    ensures { result ≡ counts_of (read_header_fields (limits_of most) (fields (marker ++ rest.now)) []) }
+// The place of the first blank.
+#[tactic(auto, unfolding(definition::specs::Text::is))]
+fn first_blank(text: &[u8]) -> Option<usize>
+    ensures { result ≡ position (is " ") text.now }
 {
-    let first = first_blank(rest);
-    if first == rest.len() {
-        return Counts::Fault(1);
-    }
-    let second = first + 1;
-    let v = text::read_natural(&rest[..first]);
-    let c = text::read_natural(&rest[second..]);
-    counts_from(v, c, most)
+    text.iter().position(|b| *b == b' ')
 }
 
 // V and C of a line.
-fn read_counts(line: &[u8], most: Limits) -> Counts
+fn read_counts(line: &[u8], most: Limits) -> Result<Counts, Refusal>
     requires { Countable most }
-    ensures { result ≡ counts_of (read_header_fields (limits_of most) (fields line.now) []) }
+    ensures { outcome result ≡ showing counts_of (read_header_fields (limits_of most) (fields line.now) []) }
 {
-    if text::begins(line, b"p cnf ") {
-        split_counts(&line[6..], most)
-    } else {
-        Counts::Fault(1)
-    }
+    let Some(rest) = line.strip_prefix(b"p cnf ") else {
+        return Err(Refusal::NoHeader);
+    };
+    let Some(first) = first_blank(rest) else {
+        return Err(Refusal::NoHeader);
+    };
+    let v = text::read_natural(&rest[..first]);
+    let c = text::read_natural(&rest[first + 1..]);
+    counts_from(v, c, most)
 }
 
 // The header of a text, after the lines that begin with `c`.
-fn read_header(text: &[u8], most: Limits) -> Header
+fn read_header(text: &[u8], most: Limits) -> Result<Header, Refusal>
     requires { Countable most }
     ensures { HeaderPost text.now (read_header (limits_of most) text.now) result }
 {
-    let at = skip_comments(text);
-    match text::next_line(text, at) {
-        Line::End => Header::Fault(1),
-        Line::Text { start, end, next } => match read_counts(&text[start..end], most) {
-            Counts::Fault(n) => Header::Fault(n),
-            Counts::Numbers(v, c) => Header::Numbers(v, c, next),
-        },
-    }
+    let Some(line) = header_line(text) else {
+        return Err(Refusal::NoHeader);
+    };
+    let counts = read_counts(&text[line.start..line.end], most)?;
+    Ok(Header {
+        counts,
+        next: line.next,
+    })
 }
 
 // ---- a clause
 
-// What a word of a clause says: its end, a literal, or the number of a fault.
-#[derive(Clone, Copy)]
-enum Item {
-    Zero,
-    Literal(i32),
-    Fault(u8),
-}
-
-// What a word says: 3, 4.
-fn number_item(word: &[u8], variables: u32) -> Item
+// What a word of a clause says: a literal, or nothing at the 0 that ends the clause.
+fn number_item(word: &[u8], variables: u32) -> Result<Option<i32>, Refusal>
     requires { variables ≤ log_reach }
-    ensures { result ≡ number_item variables (number word.now) }
+    ensures { outcome result ≡ number_item variables (number word.now) }
 {
     match text::read_number(word) {
-        Number::NotANumber => Item::Fault(3),
-        Number::Large => Item::Fault(4),
-        Number::Value(l) => {
-            if literals::is_zero(l) {
-                return Item::Zero;
-            }
-            if variables < literals::variable(l) {
-                return Item::Fault(4);
-            }
-            Item::Literal(l)
-        }
+        Err(NumberError::NotANumber) => Err(Refusal::NotANumber),
+        Err(NumberError::TooLarge) => Err(Refusal::VariableTooHigh),
+        Ok(0) => Ok(None),
+        Ok(l) if variables < literals::variable(l) => Err(Refusal::VariableTooHigh),
+        Ok(l) => Ok(Some(l)),
     }
 }
 
-// The number of a text that ends after so many literals of a clause: 7, or 8 where the clause is missing.
-fn ended(count: usize) -> u8
-    ensures { result ≡ ended count }
+// Why a text that ends after so many literals of a clause is turned back.
+fn ended(count: usize) -> Refusal
+    ensures { number_of result ≡ ended count }
 {
-    if count == 0 { 8 } else { 7 }
+    if count == 0 {
+        Refusal::ClauseCount
+    } else {
+        Refusal::UnendedClause
+    }
 }
 
-// The place past a clause that is left out, or the number of a fault.
-#[derive(Clone, Copy)]
-enum Skipped {
-    To(usize),
-    Fault(u8),
-}
-
-// Reads from a place inside a clause to its end: 3, 4, 7.
-fn skip_clause(text: &[u8], from: usize, variables: u32) -> Skipped
+// Reads from a place inside a clause to its end; the result is the place past it.
+fn skip_clause(text: &[u8], from: usize, variables: u32) -> Result<usize, Refusal>
     requires variables_le_log_reach { variables ≤ log_reach }
     requires from_in_bounds { from ≤ length text.now }
     ensures { SkipPost text.now (past_clause variables (words (drop from text.now))) result }
 {
     let mut at = from;
-    loop {
-        match text::next_word(text, at) {
-            Word::End => {
-                return Skipped::Fault(7);
-            }
-            Word::At(start, end) => match number_item(&text[start..end], variables) {
-                Item::Fault(f) => {
-                    return Skipped::Fault(f);
-                }
-                Item::Zero => {
-                    return Skipped::To(end);
-                }
-                Item::Literal(_) => {
-                    at = end;
-                }
-            },
+    // a word is looked for where the one before it ends
+    while let Some(word) = text::next_word(text, at) {
+        at = word.end;
+        if number_item(&text[word.start..word.end], variables)?.is_none() {
+            return Ok(at);
         }
     }
+    Err(Refusal::UnendedClause)
 }
 
-// The number of literals held with one more, or its negation is held.
+// A clause: the place past it, and how many literals are held, unless it is left out.
 #[derive(Clone, Copy)]
-enum Held {
-    Count(usize),
-    Opposed,
+struct Gathered {
+    next: usize,
+    kept: Option<usize>,
 }
 
-// Holds a literal behind n others unless it is one of them. The table seen has an entry for each literal, the stamp of the
-// clause in which it was last read.
-fn hold_literal(seen: &mut [u32], stamp: u32, held: &mut [i32], n: usize, l: i32) -> Held
-    requires fit { Fit log_reach l }
-    requires log_size_in_bounds { log_size ≤ length seen.old }
-    requires n_bound { n + 1 < 2 ^ 64 }
-    ensures { (old : List ℤ) (here : Clause) → Holding old held.old seen.old stamp here n → HoldPost old held.new seen.new stamp here l result }
-{
-    match tables::mark(seen, stamp, l) {
-        Marked::Repeated => Held::Count(n),
-        Marked::Opposed => Held::Opposed,
-        Marked::New => {
-            store::put(held, n + 1, l);
-            Held::Count(n + 1)
-        }
-    }
-}
-
-// A clause's literals: the place past it and how many are held, the place past a clause that is left out, or the number of a
-// fault.
+// A clause that is read: the place past it, and of what is kept the literals and the elements that are stored.
 #[derive(Clone, Copy)]
-enum Gathered {
-    Kept(usize, usize),
-    LeftOut(usize),
-    Fault(u8),
-}
-
-// A clause that is left out ends so.
-fn left_out(s: Skipped) -> Gathered
-    ensures { result ≡ left_out s }
-{
-    match s {
-        Skipped::To(next) => Gathered::LeftOut(next),
-        Skipped::Fault(n) => Gathered::Fault(n),
-    }
-}
-
-// Reads the clause at the start of a text and holds it as an entry, each literal at its first place, unless it has a literal
-// and its negation.
-fn gather_clause(
-    text: &[u8],
-    seen: &mut [u32],
-    stamp: u32,
-    variables: u32,
-    held: &mut [i32],
-) -> Gathered
-    requires variables_le_log_reach { variables ≤ log_reach }
-    requires log_size_in_bounds { log_size ≤ length seen.old }
-    requires fresh { Fresh seen.old stamp }
-    requires log_reach_in_bounds { log_reach < length held.old }
-    ensures { GatherPost text.now (first_clause variables [] (words text.now)) held.new seen.new stamp variables result }
-{
-    let mut at = 0;
-    let mut n: usize = 0;
-    loop {
-        match text::next_word(text, at) {
-            Word::End => {
-                return Gathered::Fault(ended(n));
-            }
-            Word::At(start, end) => match number_item(&text[start..end], variables) {
-                Item::Fault(f) => {
-                    return Gathered::Fault(f);
-                }
-                Item::Zero => {
-                    store::put(held, 0, literals::header(n));
-                    return Gathered::Kept(end, n);
-                }
-                Item::Literal(l) => match hold_literal(seen, stamp, held, n, l) {
-                    Held::Opposed => {
-                        return left_out(skip_clause(text, end, variables));
-                    }
-                    Held::Count(count) => {
-                        n = count;
-                        at = end;
-                    }
-                },
-            },
-        }
-    }
-}
-
-// How the reading of a clause ends: the place past it, and of what is kept the literals and the elements that are stored; or
-// the number of a fault.
-#[derive(Clone, Copy)]
-enum ClauseRead {
-    Done(usize, usize, usize),
-    Fault(u8),
-}
-
-// Reads the clause at the start of a text, and stores what is kept of it, at most room literals, at the start of a store.
-fn read_clause(
-    text: &[u8],
-    seen: &mut [u32],
-    stamp: u32,
-    variables: u32,
-    room: usize,
-    held: &mut [i32],
-    store: &mut [i32],
-) -> ClauseRead
-    requires variables_le_log_reach { variables ≤ log_reach }
-    requires log_size_in_bounds { log_size ≤ length seen.old }
-    requires fresh { Fresh seen.old stamp }
-    requires log_reach_in_bounds { log_reach < length held.old }
-    ensures { ClausePost text.now (first_kept variables room [] (words text.now)) room store.old store.new seen.new stamp result }
-{
-    match gather_clause(text, seen, stamp, variables, held) {
-        Gathered::Fault(n) => ClauseRead::Fault(n),
-        Gathered::LeftOut(next) => ClauseRead::Done(next, 0, 0),
-        Gathered::Kept(next, n) => {
-            if room < n {
-                return ClauseRead::Fault(9);
-            }
-            let filled = n + 1;
-            store::copy_at(store, 0, &held[..filled]);
-            ClauseRead::Done(next, n, filled)
-        }
-    }
-}
-
-// ---- the formula
-
-// V, C, L and how many elements of a store the clauses fill, or the number of the first fault.
-#[derive(Clone, Copy)]
-pub enum FormulaRead {
-    Formula(u32, u32, u32, usize),
-    Fault(u8),
+struct ClauseRead {
+    next: usize,
+    literals: usize,
+    filled: usize,
 }
 
 // A clause's header, and as many literals as a clause without opposed ones can have.
 const HELD: usize = 70001;
 
+// What the reading of clauses works on: for each literal the number of the clause in which it was last read; and the literals of
+// the clause at hand, behind the place of its header.
+#[derive(Drop)]
+struct ClauseReader {
+    seen: [u32; tables::LOG_SIZE],
+    held: [i32; HELD],
+}
+
+impl ClauseReader {
+    // Holds a literal behind count others unless it is one of them; the result is how many are held then, or nothing where its
+    // negation is.
+    fn hold(&mut self, number: u32, count: usize, l: i32) -> Option<usize>
+        requires fit { Fit log_reach l }
+        requires count_bound { count + 1 < 2 ^ 64 }
+        ensures { (old : List ℤ) (here : Clause) → Holding old self.old number here count → HoldPost old self.new number here l result }
+    {
+        match tables::mark(&mut self.seen, number, l) {
+            Marked::Repeated => Some(count),
+            Marked::Opposed => None,
+            Marked::New => {
+                slices::put(&mut self.held, count + 1, l);
+                Some(count + 1)
+            }
+        }
+    }
+
+    // Reads the clause at the start of a text and holds it as an entry, each literal at its first place, unless it has a
+    // literal and its negation.
+    fn gather(&mut self, number: u32, text: &[u8], variables: u32) -> Result<Gathered, Refusal>
+        requires variables_le_log_reach { variables ≤ log_reach }
+        requires fresh { Fresh self.old.seen number }
+        ensures { GatherPost text.now (first_clause variables [] (words text.now)) self.new number variables result }
+    {
+        let mut at = 0;
+        let mut count: usize = 0;
+        // a word is looked for where the one before it ends
+        while let Some(word) = text::next_word(text, at) {
+            at = word.end;
+            let Some(l) = number_item(&text[word.start..word.end], variables)? else {
+                self.held[0] = literals::header(count);
+                return Ok(Gathered {
+                    next: at,
+                    kept: Some(count),
+                });
+            };
+            let Some(more) = self.hold(number, count, l) else {
+                let next = skip_clause(text, at, variables)?;
+                return Ok(Gathered { next, kept: None });
+            };
+            count = more;
+        }
+        Err(ended(count))
+    }
+
+    // Reads the clause at the start of a text, and stores what is kept of it, at most room literals, at the start of a store.
+    fn read(
+        &mut self,
+        number: u32,
+        text: &[u8],
+        variables: u32,
+        room: usize,
+        store: &mut [i32],
+    ) -> Result<ClauseRead, Refusal>
+        requires variables_le_log_reach { variables ≤ log_reach }
+        requires fresh { Fresh self.old.seen number }
+        ensures { ClausePost text.now (first_kept variables room [] (words text.now)) room store.old store.new self.new number result }
+    {
+        let clause = self.gather(number, text, variables)?;
+        let next = clause.next;
+        let Some(count) = clause.kept else {
+            return Ok(ClauseRead {
+                next,
+                literals: 0,
+                filled: 0,
+            });
+        };
+        if room < count {
+            return Err(Refusal::TooManyLiterals);
+        }
+        let filled = count + 1;
+        store::copy_at(store, 0, &self.held[..filled]);
+        Ok(ClauseRead {
+            next,
+            literals: count,
+            filled,
+        })
+    }
+}
+
+// ---- the formula
+
+// V, C and L of a formula, and how many elements of a store its clauses fill.
+#[derive(Clone, Copy)]
+pub struct Formula {
+    pub variables: u32,
+    pub clauses: u32,
+    pub literals: u32,
+    pub filled: usize,
+}
+
 // Reads the clauses of a text that begins after its header, and stores what is kept. What lies past the store's end is counted,
 // but not stored.
 fn read_clauses(
     text: &[u8],
-    variables: u32,
-    clauses: u32,
+    counts: Counts,
     most: Limits,
     store: &mut [i32],
-) -> FormulaRead
-    requires variables_le_log_reach { variables ≤ log_reach }
-    requires clauses_bound { clauses ≤ 1000000 }
+) -> Result<Formula, Refusal>
+    requires variables_le_log_reach { counts.variables ≤ log_reach }
+    requires clauses_bound { counts.clauses ≤ 1000000 }
     requires literals_bound { most.literals ≤ 1000000 }
-    ensures outcome { result ≡ read_of (read_clauses (limits_of most) (header_of variables clauses text.now)) }
-    ensures stored { Filled (read_clauses (limits_of most) (header_of variables clauses text.now)) store.old store.new }
+    ensures outcome { outcome_defined result ≡ showing summary (read_clauses (limits_of most) (header_of counts text.now)) }
+    ensures stored { Filled (read_clauses (limits_of most) (header_of counts text.now)) store.old store.new }
 {
-    let mut seen = [0u32; tables::LOG_SIZE];
-    let mut held = [0i32; HELD];
+    let mut reader = ClauseReader {
+        seen: [0u32; tables::LOG_SIZE],
+        held: [0i32; HELD],
+    };
     let mut at = 0;
-    let mut done: u32 = 0;
     let mut total: usize = 0;
-    let mut end: usize = 0;
-    while done < clauses {
+    let mut filled: usize = 0;
+    for done in 0..counts.clauses {
         let room = most.literals as usize - total;
-        let to = literals::lower(end, store.len());
-        match read_clause(
-            &text[at..],
-            &mut seen,
+        let end = filled.min(store.len());
+        let clause = reader.read(
             done + 1,
-            variables,
+            &text[at..],
+            counts.variables,
             room,
-            &mut held,
-            &mut store[to..],
-        ) {
-            ClauseRead::Fault(n) => {
-                return FormulaRead::Fault(n);
-            }
-            ClauseRead::Done(next, n, filled) => {
-                at = at + next;
-                done += 1;
-                total = total + n;
-                end = end + filled;
-            }
-        }
+            &mut store[end..],
+        )?;
+        at += clause.next;
+        total += clause.literals;
+        filled += clause.filled;
     }
-    match text::next_word(text, at) {
-        Word::At(_, _) => FormulaRead::Fault(8),
-        Word::End => FormulaRead::Formula(variables, clauses, total as u32, end),
+    if text::next_word(text, at).is_some() {
+        return Err(Refusal::ClauseCount);
     }
+    Ok(Formula {
+        variables: counts.variables,
+        clauses: counts.clauses,
+        literals: total as u32,
+        filled,
+    })
 }
 
 // Reads a text as a formula within limits, and stores its clauses, each its length and its literals, from the store's start
 // on, as far as the store goes.
-pub fn read(text: &[u8], most: Limits, store: &mut [i32]) -> FormulaRead
+pub fn read(text: &[u8], most: Limits, store: &mut [i32]) -> Result<Formula, Refusal>
     requires { Countable most }
-    ensures outcome { result ≡ read_of (read_formula (limits_of most) text.now) }
+    ensures outcome { outcome_defined result ≡ showing summary (read_formula (limits_of most) text.now) }
     ensures stored { Filled (read_formula (limits_of most) text.now) store.old store.new }
 {
-    match read_header(text, most) {
-        Header::Fault(n) => FormulaRead::Fault(n),
-        Header::Numbers(v, c, next) => read_clauses(&text[next..], v, c, most, store),
-    }
+    let header = read_header(text, most)?;
+    read_clauses(&text[header.next..], header.counts, most, store)
 }
 
 // ---- the text of a formula
@@ -468,22 +384,7 @@ fn put_header(buf: &mut [u8], at: usize, h: u32, m: u32) -> usize
     let b = text::put_number(buf, a, h);
     let c = text::put_byte(buf, b, 32);
     let d = text::put_number(buf, c, m);
-    text::put_byte(buf, d, 10)
-}
-
-// Writes the clause at a place of a store if it stands.
-fn put_entry(buf: &mut [u8], end: usize, store: &[i32], at: usize) -> usize
-    requires at_in_bounds { (at < length store.now) × Formed (drop at store.now) }
-    requires at_bound { end + 12 * (length store.now - at) < 2 ^ 64 }
-    ensures written { Put buf.old end (entry_text store.now at) result buf.new }
-    ensures within { result ≤ end + 12 * (past store.now at - at) }
-{
-    if literals::is_negative(store[at]) {
-        return end;
-    }
-    let next = store::next_at(store, at);
-    let first = at + 1;
-    text::put_clause(buf, end, &store[first..next])
+    text::put_byte(buf, d, b'\n')
 }
 
 // Writes the clauses that stand in a store, one a line.
@@ -493,10 +394,8 @@ fn put_entries(buf: &mut [u8], from: usize, store: &[i32]) -> usize
     ensures { Put buf.old from (for_each (stored store.now) clause_text) result buf.new }
 {
     let mut end = from;
-    let mut at = 0;
-    while at < store.len() {
-        end = put_entry(buf, end, store, at);
-        at = store::next_at(store, at);
+    for clause in store::standing(store) {
+        end = text::put_clause(buf, end, clause);
     }
     end
 }

@@ -1,13 +1,7 @@
 -- The loop over the words of a line: the literals c are read, marked and stored. A literal that is there already, or its negation, refuses the line.
-use mathlib.Core.Path.{◌≡◌, refl, sym, ap, subst, ◌∙◌}
-use mathlib.Core.Bool.{true, ◌||◌}
-use mathlib.Core.List.{List, [], ◌∷◌, ◌++◌}
-use mathlib.Core.Option.{some}
-use Prim.Native.Nat.{ℕ, ◌+◌, ◌≤◌, max}
-use native.Mathlib.Omega.{arith}
-use lib.IntN.{ℤ, neg_ℤ, nat_abs}
-use lib.ListN.{length, drop, set, length-append}
-use lib.Seq.{sets, length-sets}
+use Rattle.std.proofs.Common.{◌≡◌, refl, sym, ap, subst, ◌∙◌, true, ◌||◌, ◌⊎◌, inl, inr, List, [], ◌∷◌, ◌++◌, ℕ, ◌+◌, ◌≤◌, max, arith, ℤ, neg_ℤ, nat_abs, length, drop, set, length-append}
+use Rattle.std.proofs.Math.Option.{some}
+use lib.Seq.{sets}
 use Rattle.definition.specs.Checked.{fault, value, ◌>>=◌}
 use Rattle.definition.specs.Literals.{Clause, holds, highest}
 use Rattle.definition.specs.Text.{Bytes}
@@ -36,19 +30,21 @@ pub record Reading (t : Bytes) (from stamp at count top : ℕ) (seen : List ℕ)
   pub size : count ≡ length c
   pub high : top ≡ highest c
   pub room : count ≤ at
+  pub inside : at ≤ length t
   pub place : rest_read at c (drop at t) ≡ rest_read from [] (drop from t)
   pub marks : Marks seen stamp c
   pub stored : store ≡ sets old to c
 
-pub reading_start : (t : Bytes) (from stamp : ℕ) (seen : List ℕ) (old : List ℤ) (to : ℕ) → Fresh seen stamp → Reading t from stamp from 0 0 seen old to old
+pub reading_start : (t : Bytes) (from stamp : ℕ) (seen : List ℕ) (old : List ℤ) (to : ℕ) → Fresh seen stamp → from ≤ length t → Reading t from stamp from 0 0 seen old to old
 unfolding highest
-reading_start t from stamp seen old to f = record {
+reading_start t from stamp seen old to f h = record {
   c = [];
   proper = tt;
   small = omega arith;
   size = refl;
   high = refl;
   room = omega arith;
+  inside = h;
   place = refl;
   marks = marks_start seen stamp f;
   stored = refl;
@@ -59,9 +55,6 @@ unfolding ◌>>=◌
 placed_value next c e = rw e
 
 module _ {t : Bytes} {from stamp at count top : ℕ} {seen : List ℕ} {old : List ℤ} {to : ℕ} {store : List ℤ} (s : Reading t from stamp at count top seen old to store) where
-  pub store_length : length store ≡ length old
-  store_length = ap length s.stored ∙ length-sets old to s.c
-
   -- by what the mark of its next literal says
   module _ {next : ℕ} {l : ℤ} (m : More t at next l) (new : List ℕ) (r : Marked) (p : MarkPost s.c l new stamp r) where
     abbrev Told : Marked → Type 0
@@ -73,15 +66,10 @@ module _ {t : Bytes} {from stamp at count top : ℕ} {seen : List ℕ} {old : Li
     taken : (holds l s.c || holds (neg_ℤ l) s.c) ≡ true → rest_read from [] (drop from t) ≡ fault 31
     taken e = sym after_literal ∙ rest_taken next s.c l (drop next t) e
 
-    pub reading_repeated : r ≡ Mark.Repeated → (rest_read from [] (drop from t) ≡ fault 31) × AtMost new stamp
-    reading_repeated e =
-        let k = subst Told e p in
-        (taken (rw k.0 refl), k.1.below)
-
-    pub reading_opposed : r ≡ Mark.Opposed → (rest_read from [] (drop from t) ≡ fault 31) × AtMost new stamp
-    reading_opposed e =
-        let k = subst Told e p in
-        (taken (rw (k.0, k.1) refl), k.2.below)
+    -- the literal is there already, or its negation is
+    pub reading_taken : (r ≡ Mark.Repeated) ⊎ (r ≡ Mark.Opposed) → (rest_read from [] (drop from t) ≡ fault 31) × AtMost new stamp
+    reading_taken (inl e) = let k = subst Told e p in (taken (rw k.0 refl), k.1.below)
+    reading_taken (inr e) = let k = subst Told e p in (taken (rw (k.0, k.1) refl), k.2.below)
 
     pub reading_step : r ≡ Mark.New → {v top' : ℕ} {store' : List ℤ} → v ≡ nat_abs l → top' ≡ max top v → store' ≡ set store (to + count) l → Reading t from stamp next (count + 1) top' new old to store'
     unfolding highest
@@ -93,12 +81,13 @@ module _ {t : Bytes} {from stamp at count top : ℕ} {seen : List ℕ} {old : Li
           size = omega (arith, s.size, length-append s.c (l ∷ []));
           high = omega (arith, s.high, highest_append s.c (l ∷ []));
           room = omega (arith, s.room, m.after);
+          inside = m.within;
           place = after_literal;
           marks = k.2;
           stored = d ∙ ap (λ (y : List ℤ). set y (to + count) l) s.stored ∙ ap (λ (j : ℕ). set (sets old to s.c) (to + j) l) s.size ∙ sets_then s.c (l ∷ []) old to;
         }
 
-  pub reading_last : {next : ℕ} {store' : List ℤ} → Last t at next → store' ≡ set store (to + count) (header_of count) → StoredRead (λ c. c) closed (rest_read from [] (drop from t)) next count top old to store'
+  pub reading_last : {next : ℕ} {store' : List ℤ} → Last t at next → store' ≡ set store (to + count) (header_of count) → StoredRead (λ c. c) closed (rest_read from [] (drop from t)) (record { next = next; count = count; highest = top }) old to store'
   reading_last {next} m d = record {
     s = s.c;
     read = sym s.place ∙ m.rest s.c ∙ placed_value next s.c (proper_allowed s.c s.proper (rw s.high at s.small));

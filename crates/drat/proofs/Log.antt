@@ -1,15 +1,8 @@
 -- A line by its clause, and the loop over the kept lines: the lines ss are read and their entries stored.
-use mathlib.Core.Path.{◌≡◌, refl, sym, ap, ◌∙◌}
-use mathlib.Core.Bool.{Bool, true, false, cond}
-use mathlib.Core.List.{List, [], ◌∷◌, ◌++◌}
-use Prim.Native.Nat.{ℕ, suc, ◌+◌, ◌-◌, ◌≤◌, ◌<◌, min, max}
-use native.Mathlib.Omega.{arith}
-use native.Mathlib.Nat.{zero-add}
-use native.Mathlib.Numerals.{add-one}
-use lib.Dec.{ltb}
-use lib.IntN.{ℤ}
-use lib.ListN.{length, set, take, drop, length-append, length-drop, drop_of_length-le}
-use lib.Seq.{sets, length-sets, drop-drop}
+use Rattle.std.proofs.Common.{◌≡◌, refl, sym, ap, ◌∙◌, Bool, true, false, cond, List, [], ◌∷◌, ◌++◌, ℕ, suc, ◌+◌, ◌-◌, ◌≤◌, ◌<◌, min, max, arith, zero-add, add-one, ltb, eqb, ℤ, length, set, take, drop, length-append, length-drop, drop-drop, Result, Ok, Err}
+use Rattle.std.specs.List.{starts_with}
+use lib.ListN.{drop_of_length-le}
+use lib.Seq.{sets, length-sets}
 use borrow.Author.Tests.{lt-ltb, le-ltb}
 use Rattle.definition.specs.Checked.{Checked, fault, value, ◌>>=◌, refuse_if, through}
 use Rattle.definition.specs.Lists.{for_each}
@@ -26,11 +19,11 @@ use Rattle.tables.specs.Stamps.{Fresh}
 use Rattle.tables.specs.Sizes.{log_size}
 use Rattle.drat.specs.Lines.{line_of}
 use Rattle.drat.specs.Loaded.{line_header, closed, line_entry, line_entries}
-use Rattle.drat.specs.Reading.{StoredRead, ClauseReads, LineReads, Kept, LogReads}
-use Rattle.drat.specs.declared.LogRead.{LogRead}
-use Rattle.drat.specs.declared.LogRead.TheVariants as Log
+use Rattle.drat.specs.Reading.{StoredRead, Kept, LogReads}
 use Rattle.drat.specs.declared.LineRead.{LineRead}
-use Rattle.drat.specs.declared.LineRead.TheVariants as Read
+use Rattle.drat.specs.declared.KeptLines.{KeptLines}
+use Rattle.refusals.specs.declared.Refusal.{Refusal}
+use Rattle.drat.proofs.Words.{deletion_start}
 use Rattle.drat.proofs.Loaded.{line_literals, entries_size, entry_size, entries_snoc}
 
 -- ---- a line by its clause
@@ -57,23 +50,22 @@ entry_stored : (old : List ℤ) (to : ℕ) {mid new : List ℤ} {count : ℕ} {h
 entry_stored old to d c m n p z =
     z ∙ rw (m, p, n, add-one to) (sets_first (closed c) old to (line_header d (length c))) ∙ ap (sets old to) (entry_of d c)
 
-module _ (t : Bytes) (d : Bool) (e : d ≡ begins_deletion t) (from : ℕ) (f : from ≡ cond d 2 0) (r : LineRead) (old mid : List ℤ) (to : ℕ) (k : ClauseReads (rest_read from [] (drop from t)) r old (to + 1) mid) where
+module _ (t : Bytes) {d : Bool} {from : ℕ} (e : d ≡ starts_with eqb t (100 ∷ 32 ∷ [])) (f : from ≡ cond d 2 0) where
   by_clause : first_read t ≡ as_line (line_of d) (rest_read from [] (drop from t))
-  by_clause = rw f (line_by_clause t d e)
+  by_clause = rw f (line_by_clause t d (e ∙ deletion_start t))
 
-  pub line_refused_by_clause : r ≡ Read.Fault → first_read t ≡ fault 31
-  line_refused_by_clause q = by_clause ∙ line_fault (line_of d) _ (rw q at k)
+  pub line_refused_by_clause : rest_read from [] (drop from t) ≡ fault 31 → first_read t ≡ fault 31
+  line_refused_by_clause q = by_clause ∙ line_fault (line_of d) _ q
 
-  pub line_stored : {next count top : ℕ} → r ≡ Read.Line next count top → (new : List ℤ) (h : ℤ) → h ≡ line_header d count → new ≡ set mid to h → StoredRead literals line_entry (first_read t) next count top old to new
-  line_stored {next} {count} {top} q new h p z =
-      let c : StoredRead (λ c. c) closed (rest_read from [] (drop from t)) next count top old (to + 1) mid = rw q at k in record {
-        s = line_of d c.s;
-        read = by_clause ∙ line_value (line_of d) _ next c.s c.read;
-        size = c.size ∙ ap length (sym (line_literals d c.s));
-        high = rw (line_literals d c.s) c.high;
-        room = c.room;
-        stored = entry_stored old to d c.s c.stored c.size p z;
-      }
+  pub line_stored : {r : LineRead} {old mid new : List ℤ} {to : ℕ} {h : ℤ} → StoredRead (λ c. c) closed (rest_read from [] (drop from t)) r old (to + 1) mid → h ≡ line_header d r.count → new ≡ set mid to h → StoredRead literals line_entry (first_read t) r old to new
+  line_stored {r} {old} {mid} {new} {to} c p z = record {
+    s = line_of d c.s;
+    read = by_clause ∙ line_value (line_of d) _ r.next c.s c.read;
+    size = c.size ∙ ap length (sym (line_literals d c.s));
+    high = rw (line_literals d c.s) c.high;
+    room = c.room;
+    stored = entry_stored old to d c.s c.stored c.size p z;
+  }
 
 -- ---- the loop over the lines
 
@@ -82,7 +74,6 @@ enough kept ss = refuse_if (ltb (length ss) kept) 34 (value ss)
 
 pub record ReadingLog (log : Bytes) (kept stamp at n filled top : ℕ) (seen : List ℕ) (old store : List ℤ) : Type 0 where
   pub ss : List Line
-  pub few : n ≤ kept
   pub count : n ≡ length ss
   pub inside : at ≤ length log
   pub size : filled ≡ length (line_entries ss)
@@ -98,7 +89,6 @@ unfolding for_each highest_in
 log_start log kept stamp seen old h f =
     let z : kept - 0 ≡ kept = omega arith in record {
       ss = [];
-      few = omega arith;
       count = refl;
       inside = omega arith;
       size = refl;
@@ -118,13 +108,13 @@ module _ {log : Bytes} {kept stamp at n filled top : ℕ} {seen : List ℕ} {old
   pub log_counted : n ≤ filled
   log_counted = omega (arith, s.count, s.size, entries_size s.ss)
 
-  pub log_end : kept ≤ n → Kept (read_log kept log) (filled - kept) top filled old 0 store
+  pub log_end : kept ≡ n → Kept (read_log kept log) (record { numbers = filled - kept; highest = top; filled = filled }) old 0 store
   unfolding read_log ◌>>=◌ refuse_if through
   log_end h =
       let z : kept - n ≡ 0 = omega arith in record {
         ss = s.ss;
         read = rw (← s.place, z, le-ltb (length s.ss) kept (omega (arith, s.count)));
-        sum = omega (arith, s.size, s.count, s.few, entries_size s.ss);
+        sum = omega (arith, s.size, s.count, entries_size s.ss);
         high = s.high;
         size = s.size;
         stored = s.stored;
@@ -145,36 +135,30 @@ module _ {log : Bytes} {kept stamp at n filled top : ℕ} {seen : List ℕ} {old
     pub line_room : filled + length rest ≤ length log
     line_room = omega (arith, s.room, ap length (rest_is log at), length-drop at log)
 
-    module _ (r : LineRead) (new : List ℤ) (k : LineReads (first_read rest) r store filled new) where
-      pub line_kept : {next m v : ℕ} → r ≡ Read.Line next m v → StoredRead literals line_entry (first_read rest) next m v store filled new
-      line_kept e = rw e at k
+    pub log_refused : first_read rest ≡ fault 31 → read_log kept log ≡ fault 31
+    unfolding read_log ◌>>=◌
+    log_refused q =
+        rw (← s.place, left, line_refused (drop at log) (omega (arith, length-drop at log)) (ap first_read (sym (rest_is log at)) ∙ q) s.ss (kept - (n + 1)))
 
-      pub log_fault : r ≡ Read.Fault → read_log kept log ≡ fault 31
-      unfolding read_log ◌>>=◌
-      log_fault e =
-          let q : first_read rest ≡ fault 31 = rw e at k in
-          rw (← s.place, left, line_refused (drop at log) (omega (arith, length-drop at log)) (ap first_read (sym (rest_is log at)) ∙ q) s.ss (kept - (n + 1)))
-
-    module _ {next m v : ℕ} {new : List ℤ} (f : StoredRead literals line_entry (first_read rest) next m v store filled new) where
-      line : LineFirst (drop at log) next f.s
+    module _ {x : LineRead} {new : List ℤ} (f : StoredRead literals line_entry (first_read rest) x store filled new) where
+      line : LineFirst (drop at log) x.next f.s
       line = line_first (drop at log) (ap first_read (sym (rest_is log at)) ∙ f.read)
 
-      pub next_inside : at + next ≤ length log
+      pub next_inside : at + x.next ≤ length log
       next_inside = omega (arith, line.within, length-drop at log)
 
-      pub next_room : filled + (m + 2) ≤ at + next
+      pub next_room : filled + (x.count + 2) ≤ at + x.next
       next_room = omega (arith, s.room, f.room)
 
-      pub log_step : {t stamp' : ℕ} {seen' : List ℕ} → t ≡ max top v → length seen' ≡ length seen → Fresh seen' stamp' → ReadingLog log kept stamp' (at + next) (n + 1) (filled + (m + 2)) t seen' old new
+      pub log_step : {t stamp' : ℕ} {seen' : List ℕ} → t ≡ max top x.highest → length seen' ≡ length seen → Fresh seen' stamp' → ReadingLog log kept stamp' (at + x.next) (n + 1) (filled + (x.count + 2)) t seen' old new
       log_step q z b = record {
         ss = s.ss ++ (f.s ∷ []);
-        few = omega arith;
         count = omega (arith, s.count, length-append s.ss (f.s ∷ []));
         inside = next_inside;
         size = omega (arith, s.size, f.size, entry_size f.s, ap length (entries_snoc s.ss f.s), length-append (line_entries s.ss) (line_entry f.s));
         room = next_room;
         high = omega (arith, q, s.high, f.high, highest_snoc s.ss f.s);
-        place = ap (lines_read (s.ss ++ (f.s ∷ [])) (kept - (n + 1))) (sym (drop-drop next at log)) ∙ sym (line.step s.ss (kept - (n + 1))) ∙ ap (λ (k : ℕ). lines_read s.ss k (drop at log)) (sym left) ∙ s.place;
+        place = ap (lines_read (s.ss ++ (f.s ∷ [])) (kept - (n + 1))) (sym (drop-drop x.next at log)) ∙ sym (line.step s.ss (kept - (n + 1))) ∙ ap (λ (k : ℕ). lines_read s.ss k (drop at log)) (sym left) ∙ s.place;
         table = z ∙ s.table;
         fresh = b;
         stored =
@@ -185,15 +169,15 @@ module _ {log : Bytes} {kept stamp at n filled top : ℕ} {seen : List ℕ} {old
 
 -- ---- behind a place
 
-pub log_behind : (o : Checked (List Line)) (r : LogRead) (s rest : List ℤ) (to start : ℕ) → start ≡ min to (length s) →
+pub log_behind : (o : Checked (List Line)) (r : Result KeptLines Refusal) (s rest : List ℤ) (to start : ℕ) → start ≡ min to (length s) →
     LogReads o r (take (length s - start) (drop start s)) 0 rest →
     LogReads o r s to (take start s ++ (rest ++ drop (length s - start) (drop start s)))
-log_behind o (Log.Kept g top filled) s rest to start m k = record {
+log_behind o (Ok x) s part to start m k = record {
   ss = k.ss;
   read = k.read;
   sum = k.sum;
   high = k.high;
   size = k.size;
-  stored = sets_capped (line_entries k.ss) s rest to start m k.stored;
+  stored = sets_capped (line_entries k.ss) s part to start m k.stored;
 }
-log_behind o (Log.Fault n) s rest to start m k = k
+log_behind o (Err e) s part to start m k = k

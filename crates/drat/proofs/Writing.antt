@@ -1,37 +1,32 @@
 -- A proof line written: its clause with or without `d`, and into what is left of a buffer.
-use mathlib.Core.Path.{◌≡◌, sym, ◌∙◌}
-use mathlib.Core.Bool.{Bool, true, false}
-use mathlib.Core.List.{[], ◌∷◌, ◌++◌}
-use Prim.Native.Nat.{ℕ, ◌+◌, ◌-◌, ◌≤◌}
-use native.Mathlib.Omega.{arith}
-use lib.ListN.{length, take, drop}
+use Rattle.std.proofs.Common.{◌≡◌, [], ◌∷◌, ◌++◌, ℕ, ◌+◌, ◌-◌, min, length, take, drop, Bor, arith}
 use Rattle.definition.specs.Literals.{Clause}
 use Rattle.definition.specs.Text.{Bytes, bytes}
 use Rattle.definition.specs.Log.{clause_text, log_line_text}
 use Rattle.text.specs.Output.{Put}
-use Rattle.text.proofs.Output.{put_then, put_part}
-use Rattle.theory_base.proofs.Slices.{sets_past}
-use Rattle.drat.specs.Lines.{line_of}
+use Rattle.text.proofs.Output.{put_then}
+use Rattle.theory_base.proofs.Parts.{sets_capped}
+use Rattle.drat.specs.declared.ProofLine.{ProofLine}
+use Rattle.drat.specs.Lines.{line_clause, line_said}
 
 -- ---- a line
 
-pub addition_put : {l n : Bytes} {r : ℕ} (c : Clause) (d : Bool) → d ≡ false → Put l 0 (clause_text c) r n → Put l 0 (log_line_text (line_of d c)) r n
-unfolding log_line_text
-addition_put c d e p = rw e p
+module _ {line : ProofLine} {c : Bor Clause} where
+  pub addition_size : line ≡ ProofLine.Addition c → length (line_clause line) ≡ length c.now
+  addition_size e = rw e
 
-pub deletion_put : {l m n k : Bytes} {a b r : ℕ} (c : Clause) (d : Bool) → d ≡ true → Put l 0 (100 ∷ []) a m → Put m a (32 ∷ []) b n → Put n b (clause_text c) r k → Put l 0 (log_line_text (line_of d c)) r k
-unfolding log_line_text bytes
-deletion_put c d e p q s = rw e (put_then (put_then p q) s)
+  pub deletion_size : line ≡ ProofLine.Deletion c → length (line_clause line) ≡ length c.now
+  deletion_size e = rw e
+
+  pub addition_put : {l n : Bytes} {r : ℕ} → line ≡ ProofLine.Addition c → Put l 0 (clause_text c.now) r n → Put l 0 (log_line_text (line_said line)) r n
+  unfolding log_line_text
+  addition_put e p = rw e p
+
+  pub deletion_put : {l m n k : Bytes} {a b r : ℕ} → line ≡ ProofLine.Deletion c → Put l 0 (100 ∷ []) a m → Put m a (32 ∷ []) b n → Put n b (clause_text c.now) r k → Put l 0 (log_line_text (line_said line)) r k
+  unfolding log_line_text bytes
+  deletion_put e p q s = rw e (put_then (put_then p q) s)
 
 -- ---- a text in what is left of a buffer
 
-pub rest_put : {l n xs : Bytes} {r : ℕ} (a : ℕ) → Put (take (length l - a) (drop a l)) 0 xs r n → Put l a xs (a + r) (take a l ++ (n ++ drop (length l - a) (drop a l)))
-rest_put {l} a p = let e : a + 0 ≡ a = omega arith in rw e at (put_part {l = l} a p)
-
--- where the place is past the buffer's end, nothing is left
-pub past_put : {l n xs : Bytes} {r : ℕ} (a : ℕ) → length l ≤ a → Put (take (length l - length l) (drop (length l) l)) 0 xs r n → Put l a xs (a + r) (take (length l) l ++ (n ++ drop (length l - length l) (drop (length l) l)))
-past_put {l} {n} {xs} a h p =
-    let q = rest_put {l = l} (length l) p in record {
-      next = omega (arith, p.next);
-      kept = q.kept ∙ sets_past xs l (length l) (omega arith) ∙ sym (sets_past xs l a h);
-    }
+pub rest_put : {l n xs : Bytes} {r : ℕ} (at start : ℕ) → start ≡ min at (length l) → Put (take (length l - start) (drop start l)) 0 xs r n → Put l at xs (at + r) (take start l ++ (n ++ drop (length l - start) (drop start l)))
+rest_put {l} {n} {xs} at start m p = record { next = omega (arith, p.next); kept = sets_capped xs l n at start m p.kept }

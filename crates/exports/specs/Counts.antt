@@ -6,6 +6,7 @@ use Rattle.definition.specs.Text.{Bytes}
 use Rattle.definition.specs.Reading.{Input}
 use Rattle.definition.specs.Calls.{Reencoded, Tally}
 use Rattle.formula_run.specs.declared.Tally as Code
+use Rattle.call_read_back.specs.declared.ReadBack.{ReadBack}
 use Rattle.counts.specs.Counts.{overwritten}
 
 -- a tally after a call: all zero at a fault, else the counts
@@ -24,6 +25,10 @@ reencoding_counts r = sizes_counts r.tally
 abbrev pub done_counts : Code.Tally → List ℕ
 done_counts t =
     t.choices ∷ t.highest ∷ t.clauses ∷ t.lines ∷ t.log_bytes ∷ t.formula_bytes ∷ []
+
+-- the same of a formula read back
+abbrev pub back_counts : ReadBack → List ℕ
+back_counts r = r.variables ∷ r.clauses ∷ r.literals ∷ []
 
 -- the bytes of the line
 abbrev pub line_counts : Bytes → List ℕ

@@ -3,26 +3,42 @@
 #![tactic(auto)]
 
 ghost use Rattle.std.specs.Prelude.{◌≡◌, [], ◌∷◌, pos, length};
-ghost use Rattle.definition.specs.Checked.{Checked};
-ghost use Rattle.definition.specs.Text.{Bytes};
-ghost use Rattle.definition.specs.Calls.{Reencoded, buffer_after};
+ghost use Rattle.definition.specs.Calls.{buffer_after};
 ghost use Rattle.dimacs.specs.Entries.{entries_of};
 ghost use Rattle.run.specs.Settings.{named_form, named_arrangement, settings_of};
 ghost use Rattle.records.specs.Rows.{no_record};
-ghost use Rattle.formula_run.specs.Outcome.{outcome_of};
+ghost use Rattle.refusals.specs.Outcomes.{outcome, showing};
 ghost use Rattle.call_reencode.specs.Outcome.{shown_table};
-ghost use Rattle.carry.specs.Carried.{carried_of};
 ghost use Rattle.call_walk_back.specs.Outcome.{outcome as walk_back_outcome};
 ghost use Rattle.call_carry_forward.specs.Outcome.{outcome as carry_forward_outcome};
 ghost use Rattle.call_read_back.specs.Outcome.{outcome as read_back_outcome};
 ghost use Rattle.exports.specs.Numbers.{form_number, arrangement_number, settings_number, number_of, reencoding, sizing};
-ghost use Rattle.counts.specs.Counts.{overwritten};
-ghost use Rattle.exports.specs.Counts.{tally_after, sizes_counts, reencoding_counts, done_counts, line_counts, read_back_counts};
+ghost use Rattle.exports.specs.Counts.{tally_after, sizes_counts, reencoding_counts, done_counts, line_counts, back_counts, read_back_counts};
 
-use carry::Carried;
-use formula_run::{Tallied, Tally};
+use call_read_back::ReadBack;
+use formula_run::Tally;
 use records::ChoiceRecord;
+use refusals::Refusal;
 use run::{Arrangement, Form, Settings};
+
+// ---- outcomes
+
+// The number of an outcome; its counts go into the tally.
+fn answered<const N: usize>(tally: &mut [u64], r: Result<[u64; N], Refusal>) -> u32
+    ensures number { result ≡ number_of (outcome r.entry) }
+    ensures counts { tally.new ≡ tally_after (outcome r.entry) (λ c. c) tally.old }
+{
+    match r {
+        Ok(counts) => {
+            counts::put_counts(tally, &counts);
+            0
+        }
+        Err(refusal) => {
+            tally.fill(0);
+            u32::from(refusal)
+        }
+    }
+}
 
 // ---- reencoding
 
@@ -31,9 +47,10 @@ fn form_named(form: u32) -> Form
     ensures { named_form result ≡ form_number form }
 {
     if form == 0 {
-        return Form::Counter;
+        Form::Counter
+    } else {
+        Form::Order
     }
-    Form::Order
 }
 
 // The arrangement that a number names: 0 as they stand, any other alignment.
@@ -41,9 +58,10 @@ fn arrangement_named(arrangement: u32) -> Arrangement
     ensures { named_arrangement result ≡ arrangement_number arrangement }
 {
     if arrangement == 0 {
-        return Arrangement::AsListed;
+        Arrangement::AsListed
+    } else {
+        Arrangement::Alignment
     }
-    Arrangement::Alignment
 }
 
 // The settings that two numbers name, with a step.
@@ -59,35 +77,19 @@ fn settings_named(form: u32, arrangement: u32, step: u32) -> Settings
     }
 }
 
-// Writes the counts of a reencoding.
-fn put_done(tally: &mut [u64], t: Tally)
-    ensures { tally.new ≡ overwritten (done_counts t) tally.old }
+// The counts of a reencoding.
+fn done_counts(r: Result<Tally, Refusal>) -> Result<[u64; 6], Refusal>
+    ensures { outcome result ≡ showing done_counts (outcome r) }
 {
-    counts::put_six(
-        tally,
+    let t = r?;
+    Ok([
         t.choices as u64,
-        t.highest as u64,
+        u64::from(t.highest),
         t.clauses as u64,
         t.lines as u64,
         t.log_bytes as u64,
         t.formula_bytes as u64,
-    );
-}
-
-// The number of an outcome; its counts go into the tally.
-fn answered(tally: &mut [u64], r: Tallied) -> u32
-    ensures { (o : Checked Reencoded) → r ≡ outcome_of o → (result ≡ number_of o) × (tally.new ≡ tally_after o reencoding_counts tally.old) }
-{
-    match r {
-        Tallied::Done(t) => {
-            put_done(tally, t);
-            0
-        }
-        Tallied::Refused(n) => {
-            counts::zero_counts(tally);
-            n as u32
-        }
-    }
+    ])
 }
 
 // Reencodes a formula into two buffers and a table of records. form is 0 for the counter form, any other number for the order form; arrangement is 0 for
@@ -112,7 +114,7 @@ pub extern "C" fn sirgholyn_reencode(
 {
     let settings = settings_named(form, arrangement, step);
     let r = call_reencode::reencode(text, settings, work, log, formula, table);
-    answered(tally, r)
+    answered(tally, done_counts(r))
 }
 
 // Works out the counts of a reencoding beforehand, with no buffer for its texts and no table; form, arrangement and step are as there. The tally gets choices, H, M,
@@ -131,25 +133,17 @@ pub extern "C" fn sirgholyn_sizes(
 {
     let settings = settings_named(form, arrangement, step);
     let r = call_sizes::sizes(text, settings, work);
-    answered(tally, r)
+    answered(tally, done_counts(r))
 }
 
 // ---- walk-back and carrying forward
 
-// The number of an outcome; the bytes of its line go into the tally.
-fn line_answered(tally: &mut [u64], r: Carried) -> u32
-    ensures { (o : Checked Bytes) → r ≡ carried_of o → (result ≡ number_of o) × (tally.new ≡ tally_after o line_counts tally.old) }
+// The bytes of a line, counted.
+fn line_count(r: Result<usize, Refusal>) -> Result<[u64; 1], Refusal>
+    ensures { outcome result ≡ showing (λ n. n ∷ []) (outcome r) }
 {
-    match r {
-        Carried::Line(n) => {
-            counts::put_count(tally, 0, n as u64);
-            0
-        }
-        Carried::Refused(n) => {
-            counts::zero_counts(tally);
-            n as u32
-        }
-    }
+    let n = r?;
+    Ok([n as u64])
 }
 
 // Walks a solver's answer back over the kept lines of a log to the formula. The tally gets the bytes of the line written.
@@ -168,7 +162,7 @@ pub extern "C" fn sirgholyn_walk_back(
     ensures counts { tally.new ≡ tally_after (walk_back_outcome work.old out.old kept formula.now log.now answer.now) line_counts tally.old }
 {
     let r = call_walk_back::walk_back(formula, log, kept, answer, work, out);
-    line_answered(tally, r)
+    answered(tally, line_count(r))
 }
 
 // Carries a plan for the formula forward over the kept lines of its log. The tally gets the bytes of the line written.
@@ -187,10 +181,22 @@ pub extern "C" fn sirgholyn_carry_forward(
     ensures counts { tally.new ≡ tally_after (carry_forward_outcome work.old out.old kept formula.now log.now plan.now) line_counts tally.old }
 {
     let r = call_carry_forward::carry_forward(formula, log, kept, plan, work, out);
-    line_answered(tally, r)
+    answered(tally, line_count(r))
 }
 
 // ---- the new formula read back
+
+// The counts of a formula read back.
+fn back_counts(r: Result<ReadBack, Refusal>) -> Result<[u64; 3], Refusal>
+    ensures { outcome result ≡ showing back_counts (outcome r) }
+{
+    let back = r?;
+    Ok([
+        u64::from(back.variables),
+        u64::from(back.clauses),
+        u64::from(back.literals),
+    ])
+}
 
 // Reads the new formula back into a store of clauses. The tally gets V, the clauses and the literals.
 #[unsafe(no_mangle)]
@@ -199,14 +205,6 @@ pub extern "C" fn sirgholyn_read_back(text: &[u8], store: &mut [i32], tally: &mu
     ensures buffer { store.new ≡ buffer_after (pos 0) (read_back_outcome store.old text.now) entries_of store.old }
     ensures counts { tally.new ≡ tally_after (read_back_outcome store.old text.now) read_back_counts tally.old }
 {
-    match call_read_back::read_back(text, store) {
-        call_read_back::ReadBack::Read(v, c, l) => {
-            counts::put_three(tally, v, c, l);
-            0
-        }
-        call_read_back::ReadBack::Refused(n) => {
-            counts::zero_counts(tally);
-            n as u32
-        }
-    }
+    let r = call_read_back::read_back(text, store);
+    answered(tally, back_counts(r))
 }

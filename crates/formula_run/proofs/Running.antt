@@ -1,5 +1,6 @@
 -- The run case by case: what the reader and the run leave is what the definition's outcome has.
 use mathlib.Core.Path.{◌≡◌, refl, sym, ap, ◌∙◌, subst}
+use Rattle.std.specs.Prelude.{Result, Ok, Err}
 use mathlib.Core.Bool.{Bool, true, false, ◌&&◌}
 use mathlib.Core.List.{List}
 use Prim.Native.Nat.{ℕ, ◌+◌, ◌*◌, ◌≤◌, ◌<◌, ◌^◌}
@@ -19,36 +20,37 @@ use Rattle.definition.specs.Calls.{read_input, Reencoded, reencoded, workspace_n
 use Rattle.theory_text.specs.Accepted.{Accepted}
 use Rattle.theory_text.proofs.Accepted.{input_read, input_accepted, input_highest}
 use Rattle.theory_run.proofs.Table.{table_length}
+use Rattle.refusals.specs.declared.Refusal.{Refusal}
+use Rattle.refusals.specs.declared.Refusal.TheVariants.{ShortWorkspace, StepOutOfRange, TooManyVariables}
+use Rattle.refusals.specs.Numbers.{number}
+use Rattle.refusals.specs.Outcomes.{outcome, showing}
+use Rattle.records.specs.declared.ChoiceRecord.{ChoiceRecord}
 use Rattle.text.specs.Output.{Put}
 use Rattle.store.specs.Store.{stored}
 use Rattle.store.proofs.Laws.{few_stored}
 use Rattle.dimacs.specs.Limits.{limits_of}
 use Rattle.dimacs.specs.Entries.{entries}
-use Rattle.dimacs.specs.Outcome.{read_of, Filled}
+use Rattle.dimacs.specs.Outcome.{summary, Filled}
 use Rattle.dimacs.specs.declared.Limits as CodeLimits
-use Rattle.dimacs.specs.declared.FormulaRead.{FormulaRead}
+use Rattle.dimacs.specs.declared.Formula as Dimacs
 use Rattle.dimacs.proofs.Entries.{entries_formed, entries_stored, entries_numbers}
-use Rattle.dimacs.proofs.Outcome.{FormulaIs, formula_answer}
+use Rattle.dimacs.proofs.Outcome.{FormulaIs, formula_told, formula_refused}
 use Rattle.progress.specs.Progress.{standing}
 use Rattle.run.specs.declared.Settings as CodeSettings
 use Rattle.run.specs.declared.Reached.{Reached}
-use Rattle.run.specs.declared.Ran as CodeRan
-use Rattle.run.specs.declared.Ran.TheVariants as Ran
 use Rattle.run.specs.Settings.{settings_of}
-use Rattle.run.specs.Run.{input_in, row_numbers, RunReady, Reaches, RanAll}
+use Rattle.run.specs.Run.{input_in, most_choices, RunReady, Reaches, RanAll}
 use Rattle.formula_run.specs.declared.Tally as CodeTally
-use Rattle.formula_run.specs.declared.Tallied as Code
-use Rattle.formula_run.specs.declared.Tallied.TheVariants as Tallied
-use Rattle.formula_run.specs.Outcome.{run_outcome, outcome_of}
+use Rattle.formula_run.specs.Outcome.{run_outcome, result_of}
 use Rattle.formula_run.specs.Result.{Left, tally_by, Finishes, Stepped, Written, AnswersAs, Answers}
 
 -- ---- an outcome
 
 -- a fault: nothing is asked of what is written
-pub refused : {Asked : Reencoded → Type 0} {o : Checked Reencoded} (n : ℕ) → o ≡ fault n → AnswersAs Asked o (Tallied.Refused n)
-refused n e = record { answer = rw e refl; written = λ r q. absurd (let z : ◌≡◌ {A = ℕ} 0 1 = cc in omega arith) }
+pub refused : {Asked : Reencoded → Type 0} {o : Checked Reencoded} (e : Refusal) → o ≡ fault (number e) → AnswersAs Asked o (Err e)
+refused e p = record { answer = rw p refl; written = λ r q. absurd (let z : ◌≡◌ {A = ℕ} 0 1 = cc in omega arith) }
 
-pub done : {Asked : Reencoded → Type 0} {o : Checked Reencoded} {a : Code.Tallied} (r : Reencoded) → o ≡ value r → a ≡ outcome_of (value r) → Asked r → AnswersAs Asked o a
+pub done : {Asked : Reencoded → Type 0} {o : Checked Reencoded} {a : Result CodeTally.Tally Refusal} (r : Reencoded) → o ≡ value r → outcome a ≡ value (result_of r) → Asked r → AnswersAs Asked o a
 done {Asked} r e a w = record { answer = rw e a; written = λ b q. let s : r ≡ b = cc in subst Asked s w }
 
 -- ---- a store that a run has left
@@ -65,22 +67,22 @@ formula_written {r = r} {bytes = bytes} w e = record { bytes = bytes; written = 
 
 -- ---- after a run
 
-module _ {s : Settings} {i : Input} {work new : List ℤ} {x y : Bytes} {end : ℕ} {rows new_rows : List ℕ} {b : CodeRan.Ran} (a : RanAll s i work x end rows new y new_rows b) where
+module _ {s : Settings} {i : Input} {work new : List ℤ} {x y : Bytes} {end : ℕ} {rows new_rows : List ChoiceRecord} {b : Result Reached Refusal} (a : RanAll s i work x end rows new y new_rows b) where
   abbrev high : Bool
   high = ltb 70_000 (highest_used s i)
 
   -- a refusal is 16
-  pub run_refused : {formula new_formula : Bytes} (n : ℕ) → b ≡ Ran.Refused n → Answers (limited (reencoded s i)) x formula rows (Tallied.Refused n) y new_formula new_rows
+  pub run_refused : {formula new_formula : Bytes} (n : Refusal) → b ≡ Err n → Answers (limited (reencoded s i)) x formula rows (Err n) y new_formula new_rows
   unfolding limited reencoded refuse_if
   run_refused {formula} {new_formula} n e = refused n (go high refl)
     where
-      go : (t : Bool) → high ≡ t → limited (reencoded s i) ≡ fault n
-      go true p = let z : n ≡ 16 = cc (a.high (ltb-true 70_000 (highest_used s i) p)) in rw (p, z) refl
+      go : (t : Bool) → high ≡ t → limited (reencoded s i) ≡ fault (number n)
+      go true p = let z : n ≡ TooManyVariables = cc (a.high (ltb-true 70_000 (highest_used s i) p)) in rw (p, z) refl
       go false p =
           let d = a.done (ltb-false 70_000 (highest_used s i) p) in
           absurd (let z : ◌≡◌ {A = ℕ} 0 1 = cc d.1 in omega arith)
 
-  module _ {r : Reached} (e : b ≡ Ran.Done r) where
+  module _ {r : Reached} (e : b ≡ Ok r) where
     not_refused : highest_used s i ≤ 70_000
     not_refused = go high refl
       where
@@ -129,11 +131,11 @@ module _ {s : Settings} {i : Input} {work new : List ℤ} {x y : Bytes} {end : �
         rows_fit = omega (arith, table_length s i, a.row_room);
       }
 
-      pub run_answers : Answers (limited (reencoded s i)) x formula rows (Tallied.Done t) y new_formula new_rows
+      pub run_answers : Answers (limited (reencoded s i)) x formula rows (Ok t) y new_formula new_rows
       unfolding limited reencoded refuse_if
       run_answers =
           done (reencoded s i) (rw (le-ltb 70_000 (highest_used s i) not_refused) refl)
-          (ap Tallied.Done f.tally ∙ rw (result_here, log_size, formula_size, lines_counted, reaches.choices, reaches.highest) refl)
+          (ap (λ (u : CodeTally.Tally). value u) f.tally ∙ rw (result_here, log_size, formula_size, lines_counted, reaches.choices, reaches.highest) refl)
           all_written
 
 -- ---- the input in a store
@@ -144,14 +146,6 @@ unfolding reencoded log table events result highest_used chosen
 reencoded_same s i f v e h = rw (e, h) refl
 
 -- ---- the step
-
-pub step_tested : (g : ℕ) → 1 ≤ g → leb g 100 ≡ step_allowed g
-unfolding step_allowed
-step_tested g h = rw (le-leb 1 g h) refl
-
-pub no_step : (g : ℕ) → g < 1 → false ≡ step_allowed g
-unfolding step_allowed
-no_step g h = rw (lt-leb 1 g h) refl
 
 stepped_is : (g : ℕ) → Stepped g → (1 ≤ g) × (g ≤ 100)
 unfolding step_allowed
@@ -165,26 +159,26 @@ stepped_is g e = go (leb 1 g) refl (leb g 100) refl e
 -- ---- the run, by cases
 
 -- the answer that a run's outcome asks
-abbrev AnswersRun : Bytes → CodeSettings.Settings → List ℤ → Bytes → Bytes → List ℕ → Code.Tallied → Bytes → Bytes → List ℕ → Type 0
+abbrev AnswersRun : Bytes → CodeSettings.Settings → List ℤ → Bytes → Bytes → List ChoiceRecord → Result CodeTally.Tally Refusal → Bytes → Bytes → List ChoiceRecord → Type 0
 AnswersRun t s work log formula rows = Answers (run_outcome s t work) log formula rows
 
-pub call_step : (t : Bytes) (s : CodeSettings.Settings) (work : List ℤ) (log formula : Bytes) (rows : List ℕ) {x y : Bytes} {z : List ℕ} → step_allowed s.step ≡ false → AnswersRun t s work log formula rows (Tallied.Refused 15) x y z
+pub call_step : (t : Bytes) (s : CodeSettings.Settings) (work : List ℤ) (log formula : Bytes) (rows : List ChoiceRecord) {x y : Bytes} {z : List ChoiceRecord} → step_allowed s.step ≡ false → AnswersRun t s work log formula rows (Err StepOutOfRange) x y z
 unfolding run refuse_if
-call_step t s work log formula rows e = refused 15 (rw e refl)
+call_step t s work log formula rows e = refused StepOutOfRange (rw e refl)
 
-module _ (t : Bytes) (s : CodeSettings.Settings) (stepped : Stepped s.step) (work : List ℤ) (log₀ formula₀ : Bytes) (rows₀ : List ℕ) (rows_are : length rows₀ ≡ row_numbers) (m : CodeLimits.Limits) (k : limits_of m ≡ input_limits) (a : FormulaRead) (p : a ≡ read_of (read_formula (limits_of m) t)) where
+module _ (t : Bytes) (s : CodeSettings.Settings) (stepped : Stepped s.step) (work : List ℤ) (log₀ formula₀ : Bytes) (rows₀ : List ChoiceRecord) (rows_are : length rows₀ ≡ most_choices) (m : CodeLimits.Limits) (k : limits_of m ≡ input_limits) (a : Result Dimacs.Formula Refusal) (p : outcome a ≡ showing summary (read_formula (limits_of m) t)) where
   at_limits : read_formula (limits_of m) t ≡ read_input t
   at_limits = ap (λ (l : Limits). read_formula l t) k ∙ sym (input_read t)
 
-  pub call_fault : (n : ℕ) {x y : Bytes} {z : List ℕ} → a ≡ FormulaRead.Fault n → AnswersRun t s work log₀ formula₀ rows₀ (Tallied.Refused n) x y z
+  pub call_fault : (n : Refusal) {x y : Bytes} {z : List ChoiceRecord} → a ≡ Err n → AnswersRun t s work log₀ formula₀ rows₀ (Err n) x y z
   unfolding run ◌>>=◌ refuse_if
   call_fault n q =
-      let e : read_input t ≡ fault n = sym at_limits ∙ formula_answer (read_formula (limits_of m) t) (sym q ∙ p) in
+      let e : read_input t ≡ fault (number n) = sym at_limits ∙ formula_refused (read_formula (limits_of m) t) q p in
       refused n (rw (stepped, e) refl)
 
-  module _ (v c l filled need : ℕ) (q : a ≡ FormulaRead.Formula v c l filled) (w : need ≡ 40 * l + 4 * c + 12 * v + 8_192) where
-    found : FormulaIs (read_input t) v c l filled
-    found = rw at_limits at (formula_answer (read_formula (limits_of m) t) (sym q ∙ p))
+  module _ (f : Dimacs.Formula) (need : ℕ) (q : a ≡ Ok f) (w : need ≡ 40 * f.literals + 4 * f.clauses + 12 * f.variables + 8_192) where
+    found : FormulaIs (read_input t) f
+    found = rw at_limits at (formula_told (read_formula (limits_of m) t) q p)
 
     abbrev i : Input
     i = found.input
@@ -192,16 +186,16 @@ module _ (t : Bytes) (s : CodeSettings.Settings) (stepped : Stepped s.step) (wor
     known : Accepted input_limits i
     known = input_accepted t i found.is
 
-    highest_is : i.highest ≡ v
+    highest_is : i.highest ≡ f.variables
     highest_is = input_highest t i found.is ∙ sym found.variables
 
     need_is : workspace_need i ≡ need
     unfolding workspace_need
     need_is = omega (arith, highest_is, found.clauses, found.literals)
 
-    pub call_short : {x y : Bytes} {z : List ℕ} → length work < need → AnswersRun t s work log₀ formula₀ rows₀ (Tallied.Refused 11) x y z
+    pub call_short : {x y : Bytes} {z : List ChoiceRecord} → length work < need → AnswersRun t s work log₀ formula₀ rows₀ (Err ShortWorkspace) x y z
     unfolding run ◌>>=◌ refuse_if
-    call_short h = refused 11 (rw (stepped, found.is, need_is, lt-ltb (length work) need h) refl)
+    call_short h = refused ShortWorkspace (rw (stepped, found.is, need_is, lt-ltb (length work) need h) refl)
 
     -- ---- the workspace suffices
     module _ (enough : need ≤ length work) {w₁ : List ℤ} (z : Filled (read_formula (limits_of m) t) work w₁) where
@@ -209,12 +203,12 @@ module _ (t : Bytes) (s : CodeSettings.Settings) (stepped : Stepped s.step) (wor
       unfolding input_limits
       few = omega (arith, known.literals_few)
 
-      filled_is : length (entries i.formula) ≡ filled
-      filled_is = entries_numbers i.formula ∙ sym found.numbers
+      filled_is : length (entries i.formula) ≡ f.filled
+      filled_is = entries_numbers i.formula ∙ sym found.filled
 
-      filled_within : filled ≤ need
+      filled_within : f.filled ≤ need
       unfolding numbers_of
-      filled_within = omega (arith, found.numbers, found.literals, found.clauses, known.formula_few)
+      filled_within = omega (arith, found.filled, found.literals, found.clauses, known.formula_few)
 
       same_size : length w₁ ≡ length work
       same_size = ap length (z i (at_limits ∙ found.is)) ∙ length-sets work 0 (entries i.formula)
@@ -226,16 +220,16 @@ module _ (t : Bytes) (s : CodeSettings.Settings) (stepped : Stepped s.step) (wor
       lent_size : length lent ≡ need
       lent_size = length-take-le need w₁ (omega (arith, same_size))
 
-      loaded : take filled lent ≡ entries i.formula
+      loaded : take f.filled lent ≡ entries i.formula
       loaded =
-          take-take filled need w₁ filled_within
-          ∙ ap (take filled) (z i (at_limits ∙ found.is) ∙ sets-eq (entries i.formula) work 0 (omega (arith, filled_is, filled_within)))
-          ∙ take_at (entries i.formula) (drop (0 + length (entries i.formula)) work) filled filled_is
+          take-take f.filled need w₁ filled_within
+          ∙ ap (take f.filled) (z i (at_limits ∙ found.is) ∙ sets-eq (entries i.formula) work 0 (omega (arith, filled_is, filled_within)))
+          ∙ take_at (entries i.formula) (drop (0 + length (entries i.formula)) work) f.filled filled_is
 
-      stored_is : stored (take filled lent) ≡ i.formula
+      stored_is : stored (take f.filled lent) ≡ i.formula
       stored_is = ap stored loaded ∙ entries_stored i.formula few
 
-      pub lent_ready : RunReady lent filled v s.step rows₀
+      pub lent_ready : RunReady lent f.filled f.variables s.step rows₀
       unfolding workspace_need input_limits
       lent_ready = record {
         small = omega (arith, lent_size, w, found.literals, found.clauses, highest_is, known.literals_few, known.clauses_few, known.highest_few);
@@ -251,16 +245,16 @@ module _ (t : Bytes) (s : CodeSettings.Settings) (stepped : Stepped s.step) (wor
           proper = known.proper;
         });
         enough = rw stored_is (omega (arith, lent_size, w, found.literals, found.clauses, known.formula_few));
-        whole = rw stored_is found.numbers;
+        whole = rw stored_is found.filled;
         step_least = (stepped_is s.step stepped).0;
         step_most = (stepped_is s.step stepped).1;
         row_room = rows_are;
       }
 
-      pub call_run : {b : Code.Tallied} {x y : Bytes} {zs : List ℕ} → Answers (limited (reencoded (settings_of s) (input_in lent filled v))) log₀ formula₀ rows₀ b x y zs →
+      pub call_run : {b : Result CodeTally.Tally Refusal} {x y : Bytes} {zs : List ChoiceRecord} → Answers (limited (reencoded (settings_of s) (input_in lent f.filled f.variables))) log₀ formula₀ rows₀ b x y zs →
           AnswersRun t s work log₀ formula₀ rows₀ b x y zs
       unfolding run ◌>>=◌ refuse_if
       call_run {b} {x} {y} {zs} r =
-          let e = reencoded_same (settings_of s) i (stored (take filled lent)) v stored_is (sym highest_is) in
+          let e = reencoded_same (settings_of s) i (stored (take f.filled lent)) f.variables stored_is (sym highest_is) in
           rw (stepped, found.is, need_is, le-ltb (length work) need enough)
           (subst (λ (z : Reencoded). Answers (limited z) log₀ formula₀ rows₀ b x y zs) e r)

@@ -5,12 +5,13 @@ ghost use Rattle.std.specs.Prelude.{◌≡◌, ◌<◌, length};
 ghost use Rattle.definition.specs.Calls.{reencoded, step_allowed, limited};
 ghost use Rattle.store.specs.Store.{Formed, stored};
 ghost use Rattle.run.specs.Settings.{settings_of};
-ghost use Rattle.run.specs.Run.{input_in, row_numbers, RunReady};
-ghost use Rattle.formula_run.specs.Counting.{standing_bit};
+ghost use Rattle.run.specs.Run.{input_in, most_choices, RunReady};
 ghost use Rattle.formula_run.specs.Outcome.{run_outcome};
 ghost use Rattle.formula_run.specs.Result.{Left, Finishes, Stepped, Answers};
 
-use run::{Ran, Reached, Settings};
+use records::ChoiceRecord;
+use refusals::Refusal;
+use run::{Reached, Settings};
 
 // The result: choices, H, M, log lines and both byte lengths.
 #[derive(Clone, Copy)]
@@ -23,38 +24,14 @@ pub struct Tally {
     pub formula_bytes: usize,
 }
 
-// The outcome of reencoding or of its sizes: the result, or the number of the refusal.
-#[derive(Clone, Copy)]
-pub enum Tallied {
-    Done(Tally),
-    Refused(u8),
-}
-
 // ---- the clauses that stand, counted and written
-
-// 1 if the clause at a place stands, else 0.
-fn standing_at(store: &[i32], at: usize) -> usize
-    requires { at < length store.now }
-    ensures { result ≡ standing_bit store.now at }
-{
-    if literals::is_negative(store[at]) {
-        return 0;
-    }
-    1
-}
 
 // How many clauses stand in a store.
 fn count_standing(store: &[i32]) -> usize
     requires { Formed store.now }
     ensures { result ≡ length (stored store.now) }
 {
-    let mut n: usize = 0;
-    let mut at = 0;
-    while at < store.len() {
-        n += standing_at(store, at);
-        at = store::next_at(store, at);
-    }
-    n
+    store::standing(store).count()
 }
 
 // Writes the formula that stands after a run.
@@ -82,18 +59,16 @@ fn run_all(
     work: &mut [i32],
     log: &mut [u8],
     formula: &mut [u8],
-    rows: &mut [u32],
+    rows: &mut [ChoiceRecord],
     end: usize,
     highest: u32,
     settings: Settings,
-) -> Tallied
+) -> Result<Tally, Refusal>
     requires { RunReady work.old end highest settings.step rows.old }
     ensures { Answers (limited (reencoded (settings_of settings) (input_in work.old end highest))) log.old formula.old rows.old result log.new formula.new rows.new }
 {
-    match run::run(work, log, rows, end, highest, settings) {
-        Ran::Done(r) => Tallied::Done(write_standing(work, formula, r)),
-        Ran::Refused(n) => Tallied::Refused(n),
-    }
+    let r = run::run(work, log, rows, end, highest, settings)?;
+    Ok(write_standing(work, formula, r))
 }
 
 // Reads the formula and tests the workspace, then runs.
@@ -103,29 +78,33 @@ fn read_and_run(
     work: &mut [i32],
     log: &mut [u8],
     formula: &mut [u8],
-    rows: &mut [u32],
-) -> Tallied
-    requires { Stepped settings.step × (length rows.old ≡ row_numbers) }
+    rows: &mut [ChoiceRecord],
+) -> Result<Tally, Refusal>
+    requires { Stepped settings.step × (length rows.old ≡ most_choices) }
     ensures { Answers (run_outcome settings text.now work.old) log.old formula.old rows.old result log.new formula.new rows.new }
 {
     let most = dimacs::input_limits();
-    match dimacs::read(text, most, work) {
-        dimacs::FormulaRead::Fault(n) => Tallied::Refused(n),
-        dimacs::FormulaRead::Formula(v, c, l, n) => {
-            let need = dimacs::workspace_need(v, c, l);
-            if work.len() < need {
-                return Tallied::Refused(11);
-            }
-            run_all(&mut work[..need], log, formula, rows, n, v, settings)
-        }
+    let read = dimacs::read(text, most, work)?;
+    let need = dimacs::workspace_need(read.variables, read.clauses, read.literals);
+    if work.len() < need {
+        return Err(Refusal::ShortWorkspace);
     }
+    run_all(
+        &mut work[..need],
+        log,
+        formula,
+        rows,
+        read.filled,
+        read.variables,
+        settings,
+    )
 }
 
 // Whether a step is from 1 to 100.
 fn is_step(g: u32) -> bool
     ensures { result ≡ step_allowed g }
 {
-    if 1 <= g { g <= 100 } else { false }
+    1 <= g && g <= 100
 }
 
 // Tests the step, then reads and runs: the log and the new formula go into the two buffers, as far as they fit, and the table's records into the rows, which are of 1,600 choices at most.
@@ -135,15 +114,13 @@ pub fn run_formula(
     work: &mut [i32],
     log: &mut [u8],
     formula: &mut [u8],
-    rows: &mut [u32],
-) -> Tallied
-    requires { length rows.old ≡ row_numbers }
+    rows: &mut [ChoiceRecord],
+) -> Result<Tally, Refusal>
+    requires { length rows.old ≡ most_choices }
     ensures { Answers (run_outcome settings text.now work.old) log.old formula.old rows.old result log.new formula.new rows.new }
 {
-    let g = settings.step;
-    if is_step(g) {
-        read_and_run(text, settings, work, log, formula, rows)
-    } else {
-        Tallied::Refused(15)
+    if !is_step(settings.step) {
+        return Err(Refusal::StepOutOfRange);
     }
+    read_and_run(text, settings, work, log, formula, rows)
 }

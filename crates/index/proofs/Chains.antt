@@ -8,7 +8,7 @@ use lib.ListN.{length, get_or, drop, set, length-set}
 use lib.Seq.{get_or-drop, get_or-set_same, get_or-set_other, drop-set-lt}
 use Rattle.literals.specs.Literal.{header_of, header_literals}
 use Rattle.literals.proofs.Laws.{literals_header}
-use Rattle.index.specs.Index.{node_place, older_node, Chain, none, node}
+use Rattle.index.specs.Index.{node_place, older_node, Chain, none, node, with_node}
 
 -- what two lists share from a place on
 pub getD_behind : {A : Type 0} (s t : List A) (k i : ℕ) (d : A) → drop k s ≡ drop k t → k ≤ i → get_or s i d ≡ get_or t i d
@@ -38,10 +38,6 @@ chain_kept e h none = none
 chain_kept e h (node {t = t} p o l c) = node (same_place e t h ∙ p) (same_older e t h ∙ o) l (chain_kept e (omega arith) c)
 
 -- ---- a new node
-
--- the workspace with the node n + 1
-abbrev pub with_node : List ℤ → ℕ → ℕ → ℕ → List ℤ
-with_node work n at u = set (set work (length work - 2 * (n + 1)) (header_of at)) (length work - 2 * (n + 1) + 1) (header_of u)
 
 module _ (work : List ℤ) (n at u : ℕ) (room : 2 * (n + 1) ≤ length work) where
   pub length_with_node : length (with_node work n at u) ≡ length work

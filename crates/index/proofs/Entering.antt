@@ -11,28 +11,18 @@ use Rattle.definition.specs.Literals.{Clause, same}
 use Rattle.theory_base.proofs.Tests.{of_true}
 use Rattle.theory_base.proofs.Members.{same_eq}
 use Rattle.theory_base.proofs.Slices.{getD_before}
-use Rattle.literals.specs.Literal.{index_of, header_of}
+use Rattle.literals.specs.Literal.{index_of}
 use Rattle.tables.specs.Sizes.{log_size}
 use Rattle.tables.specs.Entries.{entry_of}
 use Rattle.tables.proofs.Laws.{entry_set}
 use Rattle.store.specs.Store.{header_at, size_at, clause_at, past}
 use Rattle.store.proofs.Laws.{prefix_next, formed-++, one_formed, part_there}
-use Rattle.index.specs.Index.{nodes, Chain, entered, literals_in, Indexed}
+use Rattle.index.specs.Index.{nodes, Chain, with_node, with_last, entered, literals_in, Indexed}
 use Rattle.index.proofs.Walk.{pushed, entered_added, literals_added}
-use Rattle.index.proofs.Chains.{SameNodes, with_node, length_with_node, with_node_same, chain_kept, chain_more}
+use Rattle.index.proofs.Chains.{SameNodes, length_with_node, with_node_same, chain_kept, chain_more}
 use Rattle.index.proofs.Laws.{indexed_inside, indexed_length}
 
 -- ---- what enter_literal leaves
-
-pub node_written : (work : List ℤ) (r n at u : ℕ) (x y : ℤ) → r ≡ n → x ≡ header_of at → y ≡ header_of u → set (set work (length work - 2 * (r + 1)) x) (length work - 2 * (r + 1) + 1) y ≡ with_node work n at u
-node_written work r n at u x y e p q = cc
-
--- the table with the node n + 1 as the last of l
-abbrev pub with_last : List ℕ → ℤ → List ℕ
-with_last newest l = set (set newest (index_of l) (nodes newest + 1)) 1 (nodes newest + 1)
-
-pub last_written : (newest mid new : List ℕ) (l : ℤ) (r : ℕ) → r ≡ nodes newest → mid ≡ set newest (index_of l) (r + 1) → new ≡ set mid 1 (r + 1) → new ≡ with_last newest l
-last_written newest mid new l r e p q = cc
 
 -- 1 is no literal's index
 index_free : (l : ℤ) → index_of l ≡ 1 → ⊥

@@ -2,7 +2,7 @@
 -- A node is two elements: where its clause is, and the number of the node before it with the same literal, 0 where there is none. A table has the number of each literal's last node.
 use Rattle.std.specs.Prelude.{◌≡◌, refl, Bool, false, not, ◌&&◌, cond, List, [], ◌∷◌, ℕ, zero, suc, ◌+◌, ◌-◌, ◌*◌, ◌≤◌, ◌<◌, ◌^◌, eqb, ℤ, pos, negsuc, length, get_or, take, set, replicate}
 use Rattle.definition.specs.Literals.{same}
-use Rattle.literals.specs.Literal.{negative, index_of, header_literals}
+use Rattle.literals.specs.Literal.{negative, index_of, header_of, header_literals}
 use Rattle.tables.specs.Sizes.{log_size}
 use Rattle.tables.specs.Entries.{entry_of}
 use Rattle.store.specs.Store.{Formed, stored, deleted_at}
@@ -24,6 +24,14 @@ older_node work t = header_literals (get_or work (length work - 2 * t + 1) (pos 
 pub data Chain (work : List ℤ) : ℕ → List ℕ → Type 0 where
   none : Chain work 0 []
   node : {t u a : ℕ} {ps : List ℕ} → node_place work t ≡ a → older_node work t ≡ u → u < t → Chain work u ps → Chain work t (a ∷ ps)
+
+-- the workspace with the node n + 1, for a clause at a place, before which u was the last
+abbrev pub with_node : List ℤ → ℕ → ℕ → ℕ → List ℤ
+with_node work n at u = set (set work (length work - 2 * (n + 1)) (header_of at)) (length work - 2 * (n + 1) + 1) (header_of u)
+
+-- the table with a new node, as the last of l
+abbrev pub with_last : List ℕ → ℤ → List ℕ
+with_last newest l = set (set newest (index_of l) (nodes newest + 1)) 1 (nodes newest + 1)
 
 -- ---- the walk over all entries
 

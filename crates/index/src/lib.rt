@@ -1,14 +1,13 @@
 // Clauses found by literal: nodes at the workspace's end, two elements for each literal of the store at its start, and a table of each literal's last node.
 #![tactic(auto)]
 
-ghost use Rattle.std.specs.Prelude.{◌≡◌, ◌+◌, ◌-◌, ◌*◌, ◌≤◌, ◌<◌, ◌^◌, length, take, drop, set};
+ghost use Rattle.std.specs.Prelude.{◌≡◌, ◌+◌, ◌-◌, ◌*◌, ◌≤◌, ◌<◌, ◌^◌, length, take};
 ghost use Rattle.theory_base.specs.Cells.{cells_of};
-ghost use Rattle.literals.specs.Literal.{index_of, header_of, largest};
 ghost use Rattle.tables.specs.Sizes.{log_size};
 ghost use Rattle.tables.specs.Entries.{entry_of};
 ghost use Rattle.tables.specs.Stamps.{AtMost};
 ghost use Rattle.store.specs.Store.{Formed, stored, past};
-ghost use Rattle.index.specs.Index.{nodes as nodes_in, node_place, older_node, literals_in, Indexed, MadeRoom, Roomy};
+ghost use Rattle.index.specs.Index.{nodes as nodes_in, node_place, older_node, with_node, with_last, literals_in, Indexed, MadeRoom, Roomy};
 
 // ---- nodes, from 1 on
 
@@ -47,15 +46,15 @@ pub fn older(work: &[i32], node: usize) -> usize
 // Enters a literal of the clause at a place.
 fn enter_literal(work: &mut [i32], newest: &mut [u32], at: usize, l: i32)
     requires { (2 * (nodes_in newest.old + 1) ≤ length work.old) × (length work.old < 2 ^ 31) × (2 ≤ length newest.old) }
-    ensures node { work.new ≡ set (set work.old (length work.old - 2 * (nodes_in newest.old + 1)) (header_of at)) (length work.old - 2 * (nodes_in newest.old + 1) + 1) (header_of (entry_of newest.old l)) }
-    ensures table { newest.new ≡ set (set newest.old (index_of l) (nodes_in newest.old + 1)) 1 (nodes_in newest.old + 1) }
+    ensures node { work.new ≡ with_node work.old (nodes_in newest.old) at (entry_of newest.old l) }
+    ensures table { newest.new ≡ with_last newest.old l }
 {
     let n = nodes(newest) + 1;
     let first = work.len() - 2 * n;
     work[first] = literals::header(at);
     work[first + 1] = literals::header(last_node(newest, l));
     tables::set_entry(newest, l, n as u32);
-    tables::set_at(newest, 1, n as u32);
+    slices::put(newest, 1, n as u32);
 }
 
 // Enters the clause at the end of the store, which reaches up to another place.
@@ -67,11 +66,9 @@ pub fn enter(work: &mut [i32], newest: &mut [u32], at: usize, next: usize)
     ensures nodes { nodes_in newest.new ≡ nodes_in newest.old + (next - (at + 1)) }
     ensures below { take (length work.old - 2 * nodes_in newest.new) work.new ≡ take (length work.old - 2 * nodes_in newest.new) work.old }
 {
-    let mut i = at + 1;
-    while i < next {
+    for i in at + 1..next {
         let l = work[i];
         enter_literal(work, newest, at, l);
-        i += 1;
     }
 }
 
@@ -83,6 +80,7 @@ pub fn enter_all(work: &mut [i32], newest: &mut [u32], end: usize)
     ensures kept { take end work.new ≡ take end work.old }
 {
     let mut at = 0;
+    // a walk, since each entry's nodes are written into the workspace that holds it
     while at < end {
         let next = store::next_at(work, at);
         enter(work, newest, at, next);

@@ -1,13 +1,12 @@
 -- Laws for the callers: a signed argument, the negation, the place in a table, headers. Assumes nothing.
 use mathlib.Core.Path.{◌≡◌, refl, sym, ap, ◌∙◌}
 use mathlib.Core.Bool.{Bool, true, false, not}
-use Prim.Native.Nat.{ℕ, suc, ◌+◌, ◌^◌, ◌<◌, ◌≤◌, min}
+use Prim.Native.Nat.{ℕ, suc, ◌+◌, ◌^◌, ◌<◌, min}
 use native.Mathlib.Omega.{arith}
 use lib.IntN.{ℤ, pos, negsuc, neg_ℤ, nat_abs}
 use mir.Syntax.{w32}
 use mir.Val.{SFits, of_z, to_z}
 use mir.ValLaws.{to_z-of_z}
-use Rattle.theory_base.proofs.Tests.{differ}
 use Rattle.literals.specs.Literal.{largest, negative, with_sign, signed_of, negation, index_of, header_of, flip, header_literals}
 
 -- ---- a signed argument of a call: the callee's clauses speak of the number read back from its bits
@@ -29,16 +28,7 @@ answered g l f e k = sym (answer g l f e) ∙ k
 pub answer_negated {ℓ} : {X : Type ℓ} (g : ℤ → X) (l : ℤ) → SFits w32 l → {n : ℤ} → SFits w32 n → n ≡ negation (to_z w32 (of_z w32 l)) → {r : X} → r ≡ g (to_z w32 (of_z w32 n)) → r ≡ g (negation l)
 answer_negated g l f {n} h e k = answer g n h k ∙ ap g (answer negation l f e)
 
--- the variable of an i32 is at most 2^31
-pub variable_within : (l : ℤ) → SFits w32 l → nat_abs l ≤ 2 ^ 31
-variable_within (pos n) f = omega arith
-variable_within (negsuc n) f = omega arith
-
 -- ---- the sign
-
-pub as_positive : (l : ℤ) → negative l ≡ false → l ≡ pos (nat_abs l)
-as_positive (pos n) e = refl
-as_positive (negsuc n) e = differ {b = true} tt e
 
 pub signed_small : (s : Bool) (n : ℕ) → n < 2 ^ 31 → signed_of s n ≡ with_sign s n
 signed_small s n h = let e : min n largest ≡ n = omega arith in ap (with_sign s) e

@@ -1,32 +1,15 @@
 -- Why a workspace of 4(N + G) + 4X + 64 entries holds the formula and the lines, with room for a replay behind them.
 use mathlib.Core.Path.{◌≡◌, sym, ap, ◌∙◌}
-use mathlib.Core.Bool.{true}
 use mathlib.Core.List.{List, ◌++◌}
-use Prim.Native.Nat.{ℕ, ◌+◌, ◌-◌, ◌*◌, ◌/◌, ◌≤◌, ◌<◌}
+use Prim.Native.Nat.{ℕ, ◌+◌, ◌≤◌}
 use native.Mathlib.Nat.{zero-add}
 use native.Mathlib.Omega.{arith}
-use lib.Dec.{ltb}
 use lib.IntN.{ℤ}
 use lib.ListN.{length, take, drop, length-append}
 use lib.Seq.{sets, take-take, take_at, drop_at}
-use borrow.Author.Tests.{lt-ltb, le-ltb, ltb-true, ltb-false}
 use Rattle.theory_base.specs.Slices.{between}
-use Rattle.theory_base.proofs.Tests.{by_test}
 use Rattle.theory_base.proofs.Slices.{sets_then, taken_sets}
 use Rattle.theory_base.proofs.Parts.{drop_take}
-use Rattle.log_texts.specs.Handed.{need}
-
--- ---- the test of its size, by a quotient
-
-module _ (size n g x least : ℕ) (e : least ≡ 4 * n + 4 * x + 64) where
-  pub short_at_once : size < least → true ≡ ltb size (need n g x)
-  short_at_once h = sym (lt-ltb size (need n g x) (omega arith))
-
-  pub short_by_quotient : least ≤ size → ltb ((size - least) / 4) g ≡ ltb size (need n g x)
-  short_by_quotient h =
-      by_test (ltb ((size - least) / 4) g)
-      (λ t. t ∙ sym (lt-ltb size (need n g x) (omega (arith, ltb-true ((size - least) / 4) g t))))
-      (λ t. t ∙ sym (le-ltb size (need n g x) (omega (arith, ltb-false ((size - least) / 4) g t))))
 
 -- ---- its parts: two runs written from its start
 

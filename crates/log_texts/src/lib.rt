@@ -1,32 +1,35 @@
 // The three texts of a call that carries an assignment over a log: the formula, the kept lines, and an answer or a plan.
 #![tactic(auto)]
 
-ghost use Rattle.std.specs.Prelude.{◌≡◌, cond, ◌≤◌, ◌<◌, ltb, length};
+ghost use Rattle.std.specs.Prelude.{◌≡◌, ◌≤◌, ◌<◌, ltb, length};
 ghost use Rattle.definition.specs.Calls.{read_texts};
 ghost use Rattle.tables.specs.Sizes.{log_reach};
-ghost use Rattle.log_texts.specs.Handed.{most, WordsSay, need, TextsSay};
+ghost use Rattle.log_texts.specs.Handed.{by_way, most, WordsSay, need, TextsSay};
 
-use answer::AnswerRead;
-use dimacs::FormulaRead;
-use drat::LogRead;
+use carry::Direction;
+use dimacs::Formula;
+use drat::KeptLines;
+use refusals::Refusal;
 
 // ---- what they say
 
-// What is read: V, N, G, how many elements the lines fill, and X; or the number of the first fault.
+// What is read.
 #[derive(Clone, Copy)]
-enum Words {
-    Read(u32, usize, usize, usize, u32),
-    Fault(u8),
+struct Words {
+    formula: Formula,
+    lines: KeptLines,
+    // X
+    highest: u32,
 }
 
 // One of two variables: the first going forward, the second going back.
-fn by_way(forward: bool, v: u32, x: u32) -> u32
-    ensures { result ≡ cond forward v x }
+fn by_way(direction: Direction, forward: u32, back: u32) -> u32
+    ensures { result ≡ by_way direction forward back }
 {
-    if forward {
-        return v;
+    match direction {
+        Direction::Forward => forward,
+        Direction::Back => back,
     }
-    x
 }
 
 // Reads the formula and behind it the kept lines into a workspace, as far as it reaches, and into a table a plan for 1 to V or an answer for 1 to X.
@@ -35,26 +38,23 @@ fn read_words(
     log: &[u8],
     kept: usize,
     answer: &[u8],
-    forward: bool,
+    direction: Direction,
     work: &mut [i32],
     marks: &mut [u8],
-) -> Words
+) -> Result<Words, Refusal>
     requires { log_reach < length marks.old }
-    ensures { WordsSay forward kept formula.now log.now answer.now work.old result work.new marks.new }
+    ensures { WordsSay direction kept formula.now log.now answer.now work.old result work.new marks.new }
 {
-    match dimacs::read(formula, dimacs::input_limits(), work) {
-        FormulaRead::Fault(k) => Words::Fault(k),
-        FormulaRead::Formula(v, _, _, n) => match drat::read_log_behind(log, kept, work, n) {
-            LogRead::Fault(k) => Words::Fault(k),
-            LogRead::Kept(g, highest, filled) => {
-                let x = literals::higher_variable(v, highest);
-                match answer::read_answer(answer, by_way(forward, v, x), marks) {
-                    AnswerRead::Fault(k) => Words::Fault(k),
-                    AnswerRead::Answer => Words::Read(v, n, g, filled, x),
-                }
-            }
-        },
-    }
+    let read = dimacs::read(formula, dimacs::input_limits(), work)?;
+    let lines = drat::read_log_behind(log, kept, work, read.filled)?;
+    let highest = read.variables.max(lines.highest);
+    let most = by_way(direction, read.variables, highest);
+    answer::read_answer(answer, most, marks)?;
+    Ok(Words {
+        formula: read,
+        lines,
+        highest,
+    })
 }
 
 // ---- the workspace
@@ -65,19 +65,17 @@ fn is_short(size: usize, n: usize, g: usize, x: u32) -> bool
     ensures { result ≡ ltb size (need n g x) }
 {
     let least = 4 * n + 4 * (x as usize) + 64;
-    if size < least {
-        return true;
-    }
-    (size - least) / 4 < g
+    size < least || (size - least) / 4 < g
 }
 
 // ---- the texts
 
-// The texts: the highest variable of the line to be written, the place past the formula and the place past the lines; or the number of the first fault.
-#[derive(Clone, Copy)]
-pub enum Texts {
-    Read(u32, usize, usize),
-    Fault(u8),
+// The texts read: the highest variable of the line to be written, the place past the formula and the place past the lines.
+#[derive(Clone, Copy, Debug, PartialEq, Eq)]
+pub struct Texts {
+    pub variables: u32,
+    pub formula_end: usize,
+    pub lines_end: usize,
 }
 
 // Reads the three texts: the formula lies at the workspace's start, the lines behind it, and the table has the assignment. Forward, the answer is a plan
@@ -87,20 +85,21 @@ pub fn read_texts(
     log: &[u8],
     kept: usize,
     answer: &[u8],
-    forward: bool,
+    direction: Direction,
     work: &mut [i32],
     marks: &mut [u8],
-) -> Texts
+) -> Result<Texts, Refusal>
     requires { log_reach < length marks.old }
-    ensures { TextsSay forward (read_texts (most forward) (length work.old) kept formula.now log.now answer.now) result work.new marks.new }
+    ensures { TextsSay direction (read_texts (most direction) (length work.old) kept formula.now log.now answer.now) result work.new marks.new }
 {
-    match read_words(formula, log, kept, answer, forward, work, marks) {
-        Words::Fault(k) => Texts::Fault(k),
-        Words::Read(v, n, g, filled, x) => {
-            if is_short(work.len(), n, g, x) {
-                return Texts::Fault(11);
-            }
-            Texts::Read(by_way(forward, x, v), n, n + filled)
-        }
+    let words = read_words(formula, log, kept, answer, direction, work, marks)?;
+    let formula_end = words.formula.filled;
+    if is_short(work.len(), formula_end, words.lines.numbers, words.highest) {
+        return Err(Refusal::ShortWorkspace);
     }
+    Ok(Texts {
+        variables: by_way(direction, words.highest, words.formula.variables),
+        formula_end,
+        lines_end: formula_end + words.lines.filled,
+    })
 }

@@ -6,8 +6,9 @@ use mathlib.Core.List.Memᴰ.{head as here}
 use mathlib.Core.List.Memᴰ.{tail as there}
 use mathlib.Core.List.{List, [], ◌∷◌, ◌++◌, Memᴰ}
 use mathlib.Core.Logic.{◌⊎◌, inl, inr, ⊎_elim}
-use Prim.Native.Nat.{ℕ, ◌+◌, ◌*◌, ◌≤◌, ◌<◌}
+use Prim.Native.Nat.{ℕ, ◌+◌, ◌≤◌, ◌<◌}
 use native.Mathlib.Omega.{arith}
+use Rattle.std.specs.Prelude.{Option, Some, None}
 use lib.IntN.{ℤ}
 use lib.ListN.{length, take, drop, length-set}
 use lib.Seq.{take-length}
@@ -21,17 +22,15 @@ use Rattle.literals.specs.Literal.{flip, index_of}
 use Rattle.tables.specs.Sizes.{log_size}
 use Rattle.tables.specs.Entries.{entry_of}
 use Rattle.store.specs.Store.{Formed, stored_from, stored, header_at, deleted_at, clause_at, past, marked, Place, begins_with, place_of, Deleted}
-use Rattle.store.specs.declared.Found.{Found}
-use Rattle.store.specs.declared.Found.TheVariants.{At, Nothing}
 use Rattle.store.proofs.Laws.{by_entries, place_end, prefix_deleted, prefix_stands}
 use Rattle.store.proofs.Finding.{first_match, no_match, matches_deleted, matches_stands, hit, deleted_hit, deleted_miss}
 use Rattle.index.specs.Index.{Indexed, entered, node_place, older_node}
 use Rattle.index.specs.Reading.{Reading, EntryWith, FoundWith}
-use Rattle.index.proofs.Laws.{indexed_inside, indexed_length, indexed_marked, marked_take, reading_start, reading_done, reading_more, Reads}
+use Rattle.index.proofs.Laws.{indexed_inside, indexed_length, indexed_marked, marked_take, reading_done, reading_more, Reads}
 use Rattle.index.proofs.Walk.{entered_complete, entered_behind}
 use Rattle.lookup.specs.Lookup.{DeletedBy}
-use Rattle.lookup.specs.Cursors.{shown_place, Readable, Moved, Cursor}
-use Rattle.lookup.proofs.Cursors.{led_start, led_within, cursor_last}
+use Rattle.lookup.specs.Cursors.{shown_place, Readable, Moved, LastBefore}
+use Rattle.lookup.proofs.Cursors.{led_start, cursor_last}
 
 -- ---- a clause that stands
 
@@ -61,14 +60,11 @@ module _ {work : List ℤ} {end : ℕ} {newest : List ℕ} (i : Indexed work end
   last_readable = rw e (record { end = end; literal = l; led = led_start l 0 i h })
 
   module _ {r : ℕ} (m : Moved work t end r) where
-    last_cursor : Cursor work end l end r
+    last_cursor : LastBefore work end l end r
     last_cursor = m.moves end l (rw e (led_start l end i h))
 
     pub last_found : 0 < r → {p : ℕ} → p ≡ node_place work r → FoundWith l (take end work) p
     last_found b f = rw f (last_cursor.found b).1
-
-    pub last_inside : (0 < r) → (1 ≤ r) × (2 * r ≤ length work)
-    last_inside b = (b, led_within last_cursor.led)
 
     pub none_stands : r ≡ 0 → {P : Type 0} → 1 ≤ times l (stored (take end work)) → P
     none_stands z s =
@@ -78,13 +74,13 @@ module _ {work : List ℤ} {end : ℕ} {newest : List ℕ} (i : Indexed work end
 -- ---- the first clause with the literals of c: of those with its first literal, the last that is read
 
 -- those that are read have no match before the best one
-abbrev Best : Clause → List ℤ → ℤ → List ℕ → Found → Type 0
-Best c s l left Nothing = (p : ℕ) → Memᴰ p (entered l s) → begins_with c (drop p s) ≡ true → Memᴰ p left
-Best c s l left (At b) =
+abbrev Best : Clause → List ℤ → ℤ → List ℕ → Option ℕ → Type 0
+Best c s l left None = (p : ℕ) → Memᴰ p (entered l s) → begins_with c (drop p s) ≡ true → Memᴰ p left
+Best c s l left (Some b) =
     (b < length s) × Place s b × (begins_with c (drop b s) ≡ true) × ((p : ℕ) → Memᴰ p left → p ≤ b)
     × ((p : ℕ) → Memᴰ p (entered l s) → begins_with c (drop p s) ≡ true → Memᴰ p left ⊎ (b ≤ p))
 
-pub record Searched (c : Clause) (work : List ℤ) (end : ℕ) (newest : List ℕ) (l : ℤ) (t : ℕ) (best : Found) : Type 0 where
+pub record Searched (c : Clause) (work : List ℤ) (end : ℕ) (newest : List ℕ) (l : ℤ) (t : ℕ) (best : Option ℕ) : Type 0 where
   pub left : List ℕ
   pub reading : Reading work end newest l t left
   pub found : Best c (take end work) l left best
@@ -97,67 +93,63 @@ match_with c l s p i h e b =
 
 module _ (c : Clause) (s : List ℤ) (l : ℤ) (a : ℕ) (rest : List ℕ) (falls : (p : ℕ) → Memᴰ p rest → p ≤ a) (e : EntryWith l s a) where
   -- the place a is read
-  best_next : (best : Found) → Best c s l (a ∷ rest) best → (b : Bool) → begins_with c (drop a s) ≡ b → Best c s l rest (cond b (At a) best)
-  best_next Nothing f true m = (e.inside, e.place, m, falls, λ p j n. first p (f p j n))
+  best_next : (best : Option ℕ) → Best c s l (a ∷ rest) best → (b : Bool) → begins_with c (drop a s) ≡ b → Best c s l rest (cond b (Some a) best)
+  best_next None f true m = (e.inside, e.place, m, falls, λ p j n. first p (f p j n))
     where
       first : (p : ℕ) → Memᴰ p (a ∷ rest) → Memᴰ p rest ⊎ (a ≤ p)
       first p (here z) = inr (omega arith)
       first p (there j) = inl j
-  best_next (At b) f true m = (e.inside, e.place, m, falls, λ p j n. ⊎_elim (first p) (λ h. inr (omega (arith, f.3 a (here refl)))) (f.4 p j n))
+  best_next (Some b) f true m = (e.inside, e.place, m, falls, λ p j n. ⊎_elim (first p) (λ h. inr (omega (arith, f.3 a (here refl)))) (f.4 p j n))
     where
       first : (p : ℕ) → Memᴰ p (a ∷ rest) → Memᴰ p rest ⊎ (a ≤ p)
       first p (here z) = inr (omega arith)
       first p (there j) = inl j
-  best_next Nothing f false m = λ p j n. other p n (f p j n)
+  best_next None f false m = λ p j n. other p n (f p j n)
     where
       other : (p : ℕ) → begins_with c (drop p s) ≡ true → Memᴰ p (a ∷ rest) → Memᴰ p rest
       other p n (here z) = absurd (let y : ◌≡◌ {A = ℕ} 0 1 = cc (sym n ∙ ap (λ (q : ℕ). begins_with c (drop q s)) z ∙ m) in omega arith)
       other p n (there j) = j
-  best_next (At b) f false m = (f.0, f.1, f.2, λ p j. f.3 p (there j), λ p j n. ⊎_elim (λ k. inl (other p n k)) inr (f.4 p j n))
+  best_next (Some b) f false m = (f.0, f.1, f.2, λ p j. f.3 p (there j), λ p j n. ⊎_elim (λ k. inl (other p n k)) inr (f.4 p j n))
     where
       other : (p : ℕ) → begins_with c (drop p s) ≡ true → Memᴰ p (a ∷ rest) → Memᴰ p rest
       other p n (here z) = absurd (let y : ◌≡◌ {A = ℕ} 0 1 = cc (sym n ∙ ap (λ (q : ℕ). begins_with c (drop q s)) z ∙ m) in omega arith)
       other p n (there j) = j
 
-best_is : (c : Clause) (s : List ℤ) (l : ℤ) → Formed s → Memᴰ l c → (best : Found) → Best c s l [] best → best ≡ place_of c s
-best_is c s l f i Nothing g =
+best_is : (c : Clause) (s : List ℤ) (l : ℤ) → Formed s → Memᴰ l c → (best : Option ℕ) → Best c s l [] best → best ≡ place_of c s
+best_is c s l f i None g =
     sym (no_match c s f (λ q h e. by_test (begins_with c (drop q s)) (λ b. absurd (Memᴰ.not-nil (g q (entered_complete (match_with c l s q i h e b)) b))) (λ b. b)))
-best_is c s l f i (At b) g =
+best_is c s l f i (Some b) g =
     sym (first_match c s f b g.1 g.0 g.2 (λ q h e. by_test (begins_with c (drop q s)) (λ m. earlier q h (g.4 q (entered_complete (match_with c l s q i (omega (arith, g.0)) e m)) m)) (λ m. m)))
   where
     earlier : (q : ℕ) → q < b → Memᴰ q [] ⊎ (b ≤ q) → begins_with c (drop q s) ≡ false
     earlier q h (inl j) = absurd (Memᴰ.not-nil j)
     earlier q h (inr k) = absurd (omega arith)
 
-module _ {work : List ℤ} {end : ℕ} {newest : List ℕ} (i : Indexed work end newest) (c : Clause) (l : ℤ) where
-  pub searched_start : index_of l < log_size → {t : ℕ} → t ≡ entry_of newest l → Searched c work end newest l t Nothing
-  searched_start h e = rw e (record { left = entered l (take end work); reading = reading_start i l h; found = λ p j n. j })
+module _ {work : List ℤ} {end : ℕ} {newest : List ℕ} (i : Indexed work end newest) (c : Clause) (l : ℤ) {t : ℕ} {best : Option ℕ} (w : Searched c work end newest l t best) where
+  pub searched_more : 0 < t → Reads work end newest l t w.left
+  searched_more h = reading_more i w.reading h
 
-  module _ {t : ℕ} {best : Found} (w : Searched c work end newest l t best) where
-    pub searched_more : 0 < t → Reads work end newest l t w.left
-    searched_more h = reading_more i w.reading h
+  pub searched_on : 0 < t → {u a : ℕ} {new : Option ℕ} → u ≡ older_node work t → a ≡ node_place work t → new ≡ cond (begins_with c (drop a (take end work))) (Some a) best → Searched c work end newest l u new
+  searched_on h {u} {a} {new} e f g =
+      let m = searched_more h in
+      let s = take end work in
+      let n = node_place work t in
+      let z : entered l s ≡ w.reading.read ++ (n ∷ m.rest) = w.reading.split ∙ ap (λ (ps : List ℕ). w.reading.read ++ ps) m.begins in
+      let b : Best c s l m.rest (cond (begins_with c (drop n s)) (Some n) best) =
+      best_next c s l n m.rest (entered_behind l s i.formed w.reading.read m.rest n z) m.entry best
+      (subst (λ (ps : List ℕ). Best c s l ps best) m.begins w.found) (begins_with c (drop n s)) refl in
+      rw (e, g, f) (record { left = m.rest; reading = m.reading; found = b })
 
-    pub searched_on : 0 < t → {u a : ℕ} {new : Found} → u ≡ older_node work t → a ≡ node_place work t → new ≡ cond (begins_with c (drop a (take end work))) (At a) best → Searched c work end newest l u new
-    searched_on h {u} {a} {new} e f g =
-        let m = searched_more h in
-        let s = take end work in
-        let n = node_place work t in
-        let z : entered l s ≡ w.reading.read ++ (n ∷ m.rest) = w.reading.split ∙ ap (λ (ps : List ℕ). w.reading.read ++ ps) m.begins in
-        let b : Best c s l m.rest (cond (begins_with c (drop n s)) (At n) best) =
-        best_next c s l n m.rest (entered_behind l s i.formed w.reading.read m.rest n z) m.entry best
-        (subst (λ (ps : List ℕ). Best c s l ps best) m.begins w.found) (begins_with c (drop n s)) refl in
-        rw (e, g, f) (record { left = m.rest; reading = m.reading; found = b })
-
-    pub searched_all : Memᴰ l c → t ≡ 0 → best ≡ place_of c (take end work)
-    searched_all j z = best_is c (take end work) l i.formed j best (subst (λ (ps : List ℕ). Best c (take end work) l ps best) (reading_done w.reading z) w.found)
+  pub searched_all : Memᴰ l c → t ≡ 0 → best ≡ place_of c (take end work)
+  searched_all j z = best_is c (take end work) l i.formed j best (subst (λ (ps : List ℕ). Best c (take end work) l ps best) (reading_done w.reading z) w.found)
 
 -- ---- it is deleted
 
 module _ {work : List ℤ} {end : ℕ} {newest : List ℕ} (i : Indexed work end newest) (c : Clause) where
-  pub found_inside : {p : ℕ} → place_of c (take end work) ≡ At p → p < length work
+  pub found_inside : {p : ℕ} → place_of c (take end work) ≡ Some p → p < length work
   found_inside {p} e = omega (arith, (hit c (take end work) p e).inside, indexed_length i, indexed_inside i)
 
-  pub deleted_found : {p : ℕ} {new : List ℤ} → place_of c (take end work) ≡ At p → new ≡ marked work p → DeletedBy c work end newest new
+  pub deleted_found : {p : ℕ} {new : List ℤ} → place_of c (take end work) ≡ Some p → new ≡ marked work p → DeletedBy c work end newest new
   deleted_found {p} {new} e f =
       let r = hit c (take end work) p e in
       let h : p < end = omega (arith, r.inside, indexed_length i) in
@@ -165,7 +157,7 @@ module _ {work : List ℤ} {end : ℕ} {newest : List ℕ} (i : Indexed work end
       let d = deleted_hit c (take end work) (take end (marked work p)) p i.formed e (marked_take i a h) in
       rw f (record { size = length-set work p (flip (header_at work p)); deleted = subst (λ (b : Bool). Deleted c (take end work) b (take end (marked work p))) d.found d; indexed = indexed_marked i a h })
 
-  pub deleted_none : place_of c (take end work) ≡ Nothing → DeletedBy c work end newest work
+  pub deleted_none : place_of c (take end work) ≡ None → DeletedBy c work end newest work
   deleted_none e =
       let d = deleted_miss c (take end work) i.formed e in
       record { size = refl; deleted = subst (λ (b : Bool). Deleted c (take end work) b (take end work)) d.found d; indexed = i }

@@ -3,7 +3,7 @@ use mathlib.Core.Path.{◌≡◌, sym, ap, subst, ◌∙◌}
 use mathlib.Core.List.Memᴰ.{head as here}
 use mathlib.Core.List.Memᴰ.{tail as there}
 use mathlib.Core.List.{List, ◌∷◌, Memᴰ, []}
-use Prim.Native.Nat.{ℕ, suc, ◌+◌, ◌-◌, ◌≤◌, ◌<◌, ◌^◌}
+use Prim.Native.Nat.{ℕ, suc, ◌+◌, ◌-◌, ◌≤◌, ◌<◌}
 use native.Mathlib.Omega.{arith}
 use lib.IntN.{ℤ, pos, neg_ℤ}
 use lib.ListN.{length, get_or, take, drop, set, length-set, length-drop}
@@ -13,14 +13,15 @@ use Rattle.theory_base.proofs.Slices.{drop_step}
 use Rattle.theory_base.proofs.Loops.{getD_mem, by_order}
 use Rattle.theory_base.proofs.Members.{opposes_mem, mem_opposes}
 use Rattle.store.specs.Store.{clause_at, Place}
-use Rattle.index.specs.Index.{node_place, Indexed}
+use Rattle.index.specs.Index.{node_place}
 use Rattle.index.specs.Reading.{StandsAt, FoundWith}
-use Rattle.index.proofs.Laws.{indexed_inside, indexed_length}
+use Rattle.index.proofs.Laws.{indexed_length}
 use Rattle.lookup.specs.Lookup.{touched_places, Gatherable}
-use Rattle.lookup.specs.Cursors.{shown_place, Readable, Cursors, Starts, Steps, Latest}
+use Rattle.lookup.specs.declared.Cursor.{Cursor}
+use Rattle.lookup.specs.Cursors.{shown_place, cursor_at, Cursors, Starts, Steps, Latest}
 use Rattle.lookup.proofs.Rising.{Rising, from_on, from_same, from_none, from_all, from_few, from_more}
 use Rattle.lookup.proofs.Touched.{Touches, touched_sound, touched_complete, touched_rising}
-use Rattle.lookup.proofs.Cursors.{shown_none, shown_node, cursor_readable, cursor_last, latest_low, cursors_latest}
+use Rattle.lookup.proofs.Cursors.{shown_none, shown_node, cursor_last, latest_low, cursors_latest}
 
 mem_place : (l : Clause) (x : ℤ) → Memᴰ x l → (i : ℕ) × (i < length l) × (get_or l i (pos 0) ≡ x)
 mem_place (y ∷ l) x (here e) = (0, omega arith, sym e)
@@ -59,57 +60,54 @@ module _ {work : List ℤ} {end start : ℕ} (e : Begins work end start) (l : Cl
       (m.0, m.1, record { standing = s; with_literal = subst (λ (x : ℤ). Memᴰ (neg_ℤ x) (clause_at (take end work) p)) (sym m.2) o.2 })
 
   -- every touched place before the bound is before the greatest one shown
-  touched_shown : {b r : ℕ} {cursors places : List ℕ} → Cursors work end l b (length l) cursors places → Latest (length l) places r → (p : ℕ) → Memᴰ p (touched_places l (take start work)) → p < b → p < r
-  touched_shown c g p i h =
+  touched_shown : {b r : ℕ} {cs : List Cursor} → length cs ≡ length l → Cursors work end l b (length cs) cs → Latest (length cs) cs r → (p : ℕ) → Memᴰ p (touched_places l (take start work)) → p < b → p < r
+  touched_shown {cs = cs} o c g p i h =
       let f = touched_found p (touched_told p i) in
-      omega (arith, cursor_last (c.each f.0 f.1) p h f.2, c.shown f.0 f.1, g.most f.0 f.1)
+      let j : f.0 < length cs = omega (arith, f.1) in
+      omega (arith, cursor_last (c.each f.0 j) p h f.2, c.shown f.0 j, g.most f.0 j)
 
 -- those from the greatest place shown on are written
-pub record Gathered (work : List ℤ) (end start : ℕ) (l : Clause) (list cursors places : List ℕ) (to next : ℕ) : Type 0 where
+pub record Gathered (work : List ℤ) (end start : ℕ) (l : Clause) (list : List ℕ) (cs : List Cursor) (to next : ℕ) : Type 0 where
   pub begins : Begins work end start
   pub low : next ≤ start
-  pub cursors_at : Cursors work end l next (length l) cursors places
-  pub latest_shown : Latest (length l) places next
+  pub one_each : length cs ≡ length l
+  pub cursors_at : Cursors work end l next (length cs) cs
+  pub latest_shown : Latest (length cs) cs next
   pub within : to ≤ length list
   pub space : length (touched_places l (take start work)) ≤ length list
   pub written : drop to list ≡ from_on next (touched_places l (take start work))
 
-pub gathered_start : {work : List ℤ} {end start next : ℕ} {newest : List ℕ} {l : Clause} {list cursors places : List ℕ} → Gatherable work end newest start l list → Starts work newest start l cursors places → Latest (length l) places next
-    → Gathered work end start l list cursors places (length list) next
-gathered_start {work} {end} {start} {next} {newest} {l} {list} g s m =
+pub gathered_start : {work : List ℤ} {end start next : ℕ} {newest : List ℕ} {l : Clause} {list : List ℕ} {cs : List Cursor} → Gatherable work end newest start l list → length cs ≡ length l → Starts work newest start l cs → Latest (length cs) cs next
+    → Gathered work end start l list cs (length list) next
+gathered_start {work} {end} {start} {next} {newest} {l} {list} g o s m =
     let b : Begins work end start = record { place = g.place; inside = omega (arith, g.place.inside, indexed_length g.indexed) } in
     let c = s.starts end g.indexed in
     record {
       begins = b;
       low = latest_low c m;
+      one_each = o;
       cursors_at = cursors_latest c m;
       latest_shown = m;
       within = omega arith;
       space = g.space;
-      written = drop-length list ∙ sym (from_none next _ (λ p i. touched_shown b l c m p i (touched_told b l p i).before));
+      written = drop-length list ∙ sym (from_none next _ (λ p i. touched_shown b l o c m p i (touched_told b l p i).before));
     }
 
-module _ {work : List ℤ} {end start to next : ℕ} {l : Clause} {list cursors places : List ℕ} (g : Gathered work end start l list cursors places to next) where
+module _ {work : List ℤ} {end start to next : ℕ} {l : Clause} {list : List ℕ} {cs : List Cursor} (g : Gathered work end start l list cs to next) where
   abbrev all_touched : List ℕ
   all_touched = touched_places l (take start work)
-
-  pub gathered_readable : (i : ℕ) → i < length l → Readable work (get_or cursors i 0)
-  gathered_readable i h = cursor_readable (g.cursors_at.each i h)
-
-  pub gathered_small : {newest : List ℕ} → Indexed work end newest → next < 2 ^ 31
-  gathered_small i = omega (arith, g.low, g.begins.inside, indexed_inside i, i.small)
 
   -- the greatest place shown is the next one
   module _ (h : 0 < next) where
     shown_touched : Memᴰ (next - 1) all_touched
     shown_touched =
         let m = g.latest_shown.met h in
-        let t = get_or cursors m.0 0 in
+        let t = (cursor_at cs m.0).node in
         let s : shown_place work t ≡ next = sym (g.cursors_at.shown m.0 m.1) ∙ m.2 in
         let p : 0 < t = by_order 0 t (omega arith) (λ e. absurd (omega (arith, shown_none work t (sym e)))) (λ z. z) in
         let f = (g.cursors_at.each m.0 m.1).found p in
         let e : node_place work t ≡ next - 1 = omega (arith, shown_node work t p) in
-        subst (λ (k : ℕ). Memᴰ k all_touched) e (found_touched g.begins l m.0 (node_place work t) m.1 (omega (arith, f.0, g.low)) f.1)
+        subst (λ (k : ℕ). Memᴰ k all_touched) e (found_touched g.begins l m.0 (node_place work t) (omega (arith, m.1, g.one_each)) (omega (arith, f.0, g.low)) f.1)
 
     next_more : from_on (next - 1) all_touched ≡ (next - 1) ∷ from_on next all_touched
     next_more = from_more (next - 1) next all_touched (places_rising g.begins l) shown_touched (omega arith) (λ x i b. omega arith)
@@ -117,9 +115,9 @@ module _ {work : List ℤ} {end start to next : ℕ} {l : Clause} {list cursors 
     pub gathered_room : 1 ≤ to
     gathered_room = omega (arith, ap length next_more, from_few (next - 1) all_touched, g.space, ap length g.written, length-drop to list, g.within)
 
-    module _ {new_list new_cursors new_places : List ℕ} {later : ℕ} (e : new_list ≡ set list (to - 1) (next - 1)) (s : Steps work (length l) next cursors places new_cursors new_places) (m : Latest (length l) new_places later) where
-      moved_on : Cursors work end l (next - 1) (length l) new_cursors new_places
-      moved_on = s.steps end l g.cursors_at
+    module _ {new_list : List ℕ} {new : List Cursor} {later : ℕ} (e : new_list ≡ set list (to - 1) (next - 1)) (s : Steps work next cs new) (z : length new ≡ length cs) (m : Latest (length new) new later) where
+      moved_on : Cursors work end l (next - 1) (length new) new
+      moved_on = subst (λ (k : ℕ). Cursors work end l (next - 1) k new) (sym z) (s.steps end l g.cursors_at)
 
       pub gathered_falls : later < next
       gathered_falls = omega (arith, latest_low moved_on m)
@@ -135,10 +133,11 @@ module _ {work : List ℤ} {end start to next : ℕ} {l : Clause} {list cursors 
           ∙ ap (λ (x : ℕ). x ∷ drop (to - 1 + 1) (set list (to - 1) (next - 1))) (get_or-set_same list (to - 1) (next - 1) 0 (omega (arith, gathered_room, g.within)))
           ∙ ap (λ (r : List ℕ). (next - 1) ∷ r) (drop-set-lt (to - 1 + 1) list (to - 1) (next - 1) (omega arith) ∙ ap (λ (k : ℕ). drop k list) z)
 
-      pub gathered_more : Gathered work end start l new_list new_cursors new_places (to - 1) later
+      pub gathered_more : Gathered work end start l new_list new (to - 1) later
       gathered_more = record {
         begins = g.begins;
         low = omega (arith, latest_low moved_on m, g.low);
+        one_each = z ∙ g.one_each;
         cursors_at = cursors_latest moved_on m;
         latest_shown = m;
         within = omega (arith, same_size, g.within);
@@ -147,7 +146,7 @@ module _ {work : List ℤ} {end start to next : ℕ} {l : Clause} {list cursors 
             wrote
             ∙ ap (λ (r : List ℕ). (next - 1) ∷ r) g.written
             ∙ sym next_more
-            ∙ sym (from_same later (next - 1) all_touched (latest_low moved_on m) (λ p i b. touched_shown g.begins l moved_on m p i b));
+            ∙ sym (from_same later (next - 1) all_touched (latest_low moved_on m) (λ p i b. touched_shown g.begins l (z ∙ g.one_each) moved_on m p i b));
       }
 
   pub gathered_all : next ≡ 0 → drop to list ≡ touched_places l (take start work)

@@ -9,9 +9,7 @@ ghost use Rattle.tables.specs.Sizes.{log_reach};
 ghost use Rattle.index.specs.Index.{node_place, Indexed};
 ghost use Rattle.index.specs.Reading.{FoundWith};
 ghost use Rattle.lookup.specs.Lookup.{DeletedBy, touched_places, Gatherable};
-ghost use Rattle.lookup.specs.Cursors.{node_stands, shown_place, Readable, Moved, Placed, Searchable, Starts, Stepped, Steps, Latest};
-
-use store::Found;
+ghost use Rattle.lookup.specs.Cursors.{node_stands, shown_place, Readable, AllReadable, Moved, Placed, Searchable, Starts, Steps, Latest};
 
 // ---- a clause that stands
 
@@ -33,6 +31,7 @@ fn standing_before(work: &[i32], node: usize, before: usize) -> usize
     ensures { Moved work.now node before result }
 {
     let mut t = node;
+    // a linked list by index
     while 0 < t {
         if stands_before(work, t, before) {
             return t;
@@ -57,12 +56,13 @@ pub fn place_with(work: &[i32], newest: &[u32], end: usize, l: i32) -> usize
 // ---- the first clause with some literals
 
 // The place of the first standing clause with the same set of literals: of those with its first literal, the last that is read.
-fn find(work: &[i32], newest: &[u32], end: usize, clause: &[i32]) -> Found
+fn find(work: &[i32], newest: &[u32], end: usize, clause: &[i32]) -> Option<usize>
     requires { Indexed work.now end newest.now × (1 ≤ length clause.now) × (nat_abs (get_or clause.now 0 (pos 0)) ≤ log_reach) }
     ensures { result ≡ place_of clause.now (take end work.now) }
 {
-    let mut best = Found::Nothing;
+    let mut best = None;
     let mut node = index::last_node(newest, clause[0]);
+    // a linked list by index
     while 0 < node {
         let at = index::place_at(work, node);
         best = store::better(&work[..end], at, clause, best);
@@ -76,101 +76,74 @@ pub fn delete_clause(work: &mut [i32], newest: &[u32], end: usize, clause: &[i32
     requires { Indexed work.old end newest.now × (1 ≤ length clause.now) × (nat_abs (get_or clause.now 0 (pos 0)) ≤ log_reach) }
     ensures { DeletedBy clause.now work.old end newest.now work.new }
 {
-    match find(work, newest, end, clause) {
-        Found::At(at) => store::mark_deleted(work, at),
-        Found::Nothing => {}
+    if let Some(at) = find(work, newest, end, clause) {
+        store::mark_deleted(work, at);
     }
 }
 
 // ---- the clauses with a negated literal of a choice: a cursor for each literal, all moved towards the list's start
 
-// The place of a node's clause and one more, 0 for no node.
-fn shown(work: &[i32], node: usize) -> usize
-    requires { (2 * node ≤ length work.now) × (0 < node → node_place work.now node < 2 ^ 31) }
-    ensures { result ≡ shown_place work.now node }
-{
-    if node == 0 {
-        return 0;
-    }
-    index::place_at(work, node) + 1
+// A node, and the place of its clause and one more.
+#[derive(Clone, Copy)]
+struct Cursor {
+    node: u32,
+    place: u32,
 }
 
-// Puts a cursor to the first node, from one on, whose clause stands and is before a place.
-fn place_cursor(
-    work: &[i32],
-    i: usize,
-    node: usize,
-    before: usize,
-    cursors: &mut [u32],
-    places: &mut [u32],
-)
-    requires { Readable work.now node × (i < length cursors.old) × (i < length places.old) }
-    ensures { Placed work.now node before i cursors.old places.old cursors.new places.new }
+const NOWHERE: Cursor = Cursor { node: 0, place: 0 };
+
+// The cursor at the first node, from one on, whose clause stands and is before a place.
+fn cursor_before(work: &[i32], node: usize, before: usize) -> Cursor
+    requires { Readable work.now node }
+    ensures { Placed work.now node before result }
 {
     let t = standing_before(work, node, before);
-    cursors[i] = t as u32;
-    places[i] = shown(work, t) as u32;
+    if t == 0 {
+        return NOWHERE;
+    }
+    let place = index::place_at(work, t) + 1;
+    Cursor {
+        node: t as u32,
+        place: place as u32,
+    }
 }
 
 // Puts a cursor for each literal of a choice to the last clause before `start` with its negation.
-fn start_cursors(
-    work: &[i32],
-    newest: &[u32],
-    start: usize,
-    choice: &[i32],
-    cursors: &mut [u32],
-    places: &mut [u32],
-)
+fn start_cursors(work: &[i32], newest: &[u32], start: usize, choice: &[i32], cursors: &mut [Cursor])
     requires searchable { Searchable work.now newest.now × FitAll log_reach choice.now }
-    requires choice_in_bounds { (length choice.now ≤ length cursors.old) × (length choice.now ≤ length places.old) }
-    ensures { Starts work.now newest.now start choice.now cursors.new places.new }
+    requires one_each { length cursors.old ≡ length choice.now }
+    ensures { Starts work.now newest.now start choice.now cursors.new }
 {
-    let mut i = 0;
-    while i < choice.len() {
-        let node = index::last_node(newest, literals::negated(choice[i]));
-        place_cursor(work, i, node, start, cursors, places);
-        i += 1;
+    for (i, l) in choice.iter().enumerate() {
+        let node = index::last_node(newest, literals::negated(*l));
+        cursors[i] = cursor_before(work, node, start);
     }
 }
 
-// Moves a cursor on if its clause is the one before `next`.
-fn step_cursor(work: &[i32], i: usize, next: usize, cursors: &mut [u32], places: &mut [u32])
-    requires { (i < length cursors.old) × (i < length places.old) × (0 < next) × Readable work.now (get_or cursors.old i 0) }
-    ensures { Stepped work.now next i cursors.old places.old cursors.new places.new }
+// Moves on the cursors whose clause is the one before `next`.
+fn step_cursors(work: &[i32], next: usize, cursors: &mut [Cursor])
+    requires { (0 < next) × AllReadable work.now cursors.old }
+    ensures { Steps work.now next cursors.old cursors.new }
 {
-    if tables::entry_at(places, i) as usize == next {
-        let node = tables::entry_at(cursors, i) as usize;
-        place_cursor(work, i, node, next - 1, cursors, places);
+    for cursor in cursors.iter_mut() {
+        if cursor.place as usize == next {
+            *cursor = cursor_before(work, cursor.node as usize, next - 1);
+        }
     }
 }
 
-// Moves on the cursors, n of them, whose clause is the one before `next`.
-fn step_cursors(work: &[i32], n: usize, next: usize, cursors: &mut [u32], places: &mut [u32])
-    requires { (n ≤ length cursors.old) × (n ≤ length places.old) × (0 < next) × ((i : ℕ) → i < n → Readable work.now (get_or cursors.old i 0)) }
-    ensures { Steps work.now n next cursors.old places.old cursors.new places.new }
-{
-    let mut i = 0;
-    while i < n {
-        step_cursor(work, i, next, cursors, places);
-        i += 1;
-    }
-}
-
-// The greatest of the first n places.
-fn latest(places: &[u32], n: usize) -> usize
-    requires { n ≤ length places.now }
-    ensures { Latest n places.now result }
+// The greatest place that a cursor shows.
+fn latest(cursors: &[Cursor]) -> usize
+    ensures { Latest (length cursors.now) cursors.now result }
 {
     let mut most = 0;
-    let mut i = 0;
-    while i < n {
-        most = literals::higher(most, tables::entry_at(places, i) as usize);
-        i += 1;
+    for cursor in cursors {
+        most = most.max(cursor.place);
     }
-    most
+    most as usize
 }
 
-// Gathers as below, with a cursor for each literal and the place that each shows.
+// Gathers as below, with a cursor for each literal.
 fn gather_by(
     work: &[i32],
     newest: &[u32],
@@ -178,22 +151,21 @@ fn gather_by(
     start: usize,
     choice: &[i32],
     list: &mut [u32],
-    cursors: &mut [u32],
-    places: &mut [u32],
+    cursors: &mut [Cursor],
 ) -> usize
     requires gatherable { Gatherable work.now end newest.now start choice.now list.old }
-    requires choice_in_bounds { (length choice.now ≤ length cursors.old) × (length choice.now ≤ length places.old) }
+    requires one_each { length cursors.old ≡ length choice.now }
     ensures { drop result list.new ≡ touched_places choice.now (take start work.now) }
 {
-    start_cursors(work, newest, start, choice, cursors, places);
-    let n = choice.len();
+    start_cursors(work, newest, start, choice, cursors);
     let mut to = list.len();
-    let mut next = latest(places, n);
+    let mut next = latest(cursors);
+    // ends when no cursor is at a clause
     while 0 < next {
         to -= 1;
         list[to] = (next - 1) as u32;
-        step_cursors(work, n, next, cursors, places);
-        next = latest(places, n);
+        step_cursors(work, next, cursors);
+        next = latest(cursors);
     }
     to
 }
@@ -210,16 +182,7 @@ pub fn gather(
     requires { Gatherable work.now end newest.now start choice.now list.old }
     ensures { drop result list.new ≡ touched_places choice.now (take start work.now) }
 {
-    let mut cursors = [0u32; 64];
-    let mut places = [0u32; 64];
-    gather_by(
-        work,
-        newest,
-        end,
-        start,
-        choice,
-        list,
-        &mut cursors,
-        &mut places,
-    )
+    let mut cursors = [NOWHERE; 64];
+    let used = &mut cursors[..choice.len()];
+    gather_by(work, newest, end, start, choice, list, used)
 }

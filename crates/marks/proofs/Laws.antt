@@ -13,7 +13,7 @@ use Rattle.theory_base.proofs.Loops.{none_some, some_same, first_from_some, firs
 use Rattle.theory_base.proofs.Slices.{getD_zeros}
 use Rattle.theory_base.proofs.Tests.{by_test, differ, of_true}
 use Rattle.marks.specs.Marks.{digit, marked, answer_of, left_from, lowest_from, LowestMarked}
-use Rattle.marks.specs.declared.Lowest.TheVariants.{At, Nothing}
+use Rattle.std.proofs.Common.{Some, None}
 use Rattle.marks.proofs.Digits.{digit_of_zero}
 
 pub none_in_zero : (m : List ℕ) (v : ℕ) → get_or m (v / 32) 0 ≡ 0 → marked m v ≡ false
@@ -40,11 +40,11 @@ marked_some m k v e = by_test (marked m k) (λ t. (some_same (sym (by_mark m k t
 marked_none : (m : List ℕ) (k : ℕ) → if_marked m k ≡ none → marked m k ≡ false
 marked_none m k e = by_test (marked m k) (λ t. none_some (sym e ∙ by_mark m k t)) (λ t. t)
 
-answer_at : (o : Option ℕ) (v : ℕ) → answer_of o ≡ At v → o ≡ some v
+answer_at : (o : Option ℕ) (v : ℕ) → answer_of o ≡ Some v → o ≡ some v
 answer_at none v e = let z : ◌≡◌ {A = ℕ} 0 1 = cc in absurd (omega arith)
 answer_at (some x) v e = cc
 
-answer_nothing : (o : Option ℕ) → answer_of o ≡ Nothing → o ≡ none
+answer_nothing : (o : Option ℕ) → answer_of o ≡ None → o ≡ none
 answer_nothing none e = refl
 answer_nothing (some x) e = let z : ◌≡◌ {A = ℕ} 0 1 = cc in absurd (omega arith)
 

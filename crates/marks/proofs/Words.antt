@@ -14,7 +14,7 @@ use borrow.Author.Tests.{eq-eqb, ne_eqb, eqb-true, eqb-false, ltb-true, ltb-fals
 use Rattle.definition.specs.Lists.{bit}
 use Rattle.theory_base.proofs.Tests.{by_test}
 use Rattle.marks.specs.Marks.{digit, marked, WithMark, WithoutMark, lowest_from}
-use Rattle.marks.specs.declared.Lowest.TheVariants.{At, Nothing}
+use Rattle.std.proofs.Common.{Some, None}
 use Rattle.marks.proofs.Digits.{digit_or, digit_and, digit_power, digit_complement}
 use Rattle.marks.proofs.Laws.{none_in_zero, none_past, lowest_marked}
 
@@ -72,11 +72,11 @@ module _ (m : List ℕ) (from w : ℕ) (inside : from ≤ w) (before : (i : ℕ)
   none_before : (k : ℕ) → 32 * from ≤ k → k / 32 < w → marked m k ≡ false
   none_before k a b = none_in_zero m k (before (k / 32) (omega arith) b)
 
-  pub lowest_nothing : length m ≤ w → Nothing ≡ lowest_from m (32 * from)
+  pub lowest_nothing : length m ≤ w → None ≡ lowest_from m (32 * from)
   lowest_nothing h = sym ((lowest_marked m (32 * from)).none_found
       (λ k a. by_test (ltb (k / 32) w) (λ t. none_before k a (ltb-true _ _ t)) (λ t. none_past m k (omega (arith, ltb-false (k / 32) w t)))))
 
-  pub lowest_at : (t : ℕ) → t < 32 → digit t (get_or m w 0) ≡ 1 → ((j : ℕ) → j < t → digit j (get_or m w 0) ≡ 0) → At (w * 32 + t) ≡ lowest_from m (32 * from)
+  pub lowest_at : (t : ℕ) → t < 32 → digit t (get_or m w 0) ≡ 1 → ((j : ℕ) → j < t → digit j (get_or m w 0) ≡ 0) → Some (w * 32 + t) ≡ lowest_from m (32 * from)
   lowest_at t h one zeros = sym ((lowest_marked m (32 * from)).finds (w * 32 + t) (omega arith) here below)
     where
       here : marked m (w * 32 + t) ≡ true

@@ -5,13 +5,12 @@ use Prim.Native.Nat.{ℕ, ◌+◌, ◌-◌, ◌*◌, ◌≤◌, ◌<◌}
 use native.Mathlib.Omega.{arith}
 use lib.Dec.{ltb}
 use lib.IntN.{ℤ}
-use lib.ListN.{length, take, drop, length-drop, replicate, replicate-append-replicate, get_or-eq_default}
-use lib.Seq.{get_or-drop, length-take-le}
+use lib.ListN.{length, drop, length-drop, replicate, replicate-append-replicate, get_or-eq_default}
+use lib.Seq.{get_or-drop}
 use borrow.Author.Tests.{ltb-true, ltb-false, ne_eqb}
 use Rattle.definition.specs.Lists.{count}
 use Rattle.definition.specs.Literals.{Clause, Formula}
 use Rattle.theory_base.proofs.Tests.{by_test}
-use Rattle.tables.specs.Stamps.{AtMost}
 use Rattle.tables.specs.Places.{Places}
 use Rattle.tables.proofs.Laws.{zeros_by_entry}
 use Rattle.pairs.specs.Pairs.{slots, slot_of, in_slot, PairsTaken, PairCounts}
@@ -35,11 +34,10 @@ module _ {t : List ℕ} {l : Clause} (q : Places t l) (few : length l ≤ 64) wh
   }
 
 -- the first counts made zero
-pub counts_cleared : {counts : List ℕ} {k : ℕ} → PairCounts counts k → k ≤ 64 → (first : List ℕ) → length first ≡ length (take (k * 64) counts) → AtMost first 0 → first ++ drop (k * 64) counts ≡ replicate slots 0
-counts_cleared {counts} {k} w h first e z =
+pub counts_cleared : {counts : List ℕ} {k : ℕ} → PairCounts counts k → k ≤ 64 → {first : List ℕ} → first ≡ replicate (k * 64) 0 → first ++ drop (k * 64) counts ≡ replicate slots 0
+counts_cleared {counts} {k} w h e =
     let n : k * 64 + (slots - k * 64) ≡ slots = omega arith in
-    ap₂ (λ (x y : List ℕ). x ++ y)
-    (zeros_by_entry first (k * 64) (e ∙ length-take-le (k * 64) counts (omega (arith, w.size))) (λ i. omega (arith, z i)))
+    ap₂ (λ (x y : List ℕ). x ++ y) e
     (zeros_by_entry (drop (k * 64) counts) (slots - k * 64) (omega (arith, length-drop (k * 64) counts, w.size)) (λ i. get_or-drop (k * 64) counts i 0 ∙ w.none (k * 64 + i) (omega arith)))
     ∙ replicate-append-replicate (k * 64) (slots - k * 64) 0
     ∙ ap (λ (m : ℕ). replicate m 0) n

@@ -5,7 +5,7 @@ use mathlib.Core.Bool.{Bool, true, false}
 use mathlib.Core.List.Memᴰ.{head as here}
 use mathlib.Core.List.Memᴰ.{tail as there}
 use mathlib.Core.List.{List, [], ◌∷◌, Memᴰ}
-use Prim.Native.Nat.{ℕ, zero, suc, ◌+◌, ◌-◌, ◌*◌, ◌≤◌, ◌<◌}
+use Prim.Native.Nat.{ℕ, zero, suc, ◌+◌, ◌-◌, ◌*◌, ◌≤◌, ◌<◌, min, max}
 use native.Mathlib.Omega.{arith}
 use lib.Dec.{eqb, ltb, leb, T}
 use lib.IntN.{ℤ, pos, neg_ℤ, nat_abs}
@@ -51,11 +51,16 @@ module _ (t : List ℕ) (d : Clause) (e : length d ≡ 2) {a b : ℕ} (f : a ≡
   slot_two : slot_of t d ≡ slot a b
   slot_two = rw (eq-eqb (length d) 2 e) (sym (ap₂ (λ (u v : ℕ). slot u v) f g))
 
-  pub slot_first : {r : ℕ} → a < b → r ≡ ordered_slot a b → r ≡ slot_of t d
-  slot_first h k = k ∙ sym (slot_two ∙ slot_less a b h)
-
-  pub slot_second : {r : ℕ} → b ≤ a → r ≡ ordered_slot b a → r ≡ slot_of t d
-  slot_second h k = k ∙ sym (slot_two ∙ slot_more a b h)
+  pub slot_sorted : slot_of t d ≡ ordered_slot (min a b) (max a b)
+  slot_sorted = slot_two ∙ by_test (ltb a b)
+      (λ l. let h = ltb-true a b l in
+      let x : min a b ≡ a = omega arith in
+      let y : max a b ≡ b = omega arith in
+      rw (x, y) (slot_less a b h))
+      (λ l. let h = ltb-false a b l in
+      let x : min a b ≡ b = omega arith in
+      let y : max a b ≡ a = omega arith in
+      rw (x, y) (slot_more a b h))
 
 -- ---- back from a slot
 

@@ -5,7 +5,7 @@ use mathlib.Core.Bool.{Bool, true, false, cond}
 use mathlib.Core.List.Memᴰ.{head as here}
 use mathlib.Core.List.Memᴰ.{tail as there}
 use mathlib.Core.List.{List, [], ◌∷◌, ◌++◌, Memᴰ}
-use Prim.Native.Nat.{ℕ, ◌+◌, ◌-◌, ◌≤◌, ◌<◌, ◌^◌, min}
+use Prim.Native.Nat.{ℕ, ◌+◌, ◌≤◌, ◌<◌, ◌^◌, min}
 use native.Mathlib.Omega.{arith}
 use lib.Dec.{eqb, ltb, leb}
 use lib.IntN.{ℤ, pos, neg_ℤ, nat_abs}
@@ -22,36 +22,51 @@ use Rattle.theory_base.specs.Clauses.{FitAll}
 use Rattle.literals.specs.Literal.{header_literals, flip, negative, negation}
 use Rattle.literals.proofs.Laws.{flip_negative, negation_small}
 use Rattle.tables.specs.Sizes.{input_reach, log_reach}
-use Rattle.tables.specs.Entries.{most, entry_of, counted_at}
+use Rattle.tables.specs.Entries.{most, counted_at}
 use Rattle.tables.specs.Places.{Places}
 use Rattle.store.specs.Store.{Formed, stored, deleted_at, clause_at, header_at, past, marked, Place}
-use Rattle.store.proofs.Laws.{by_entries, place_end, stored_none, stored_around, prefix_deleted, prefix_stands, marked_before, marked_behind, marked_stored, part_there, past_within, kept_clause, few_stored}
+use Rattle.store.proofs.Laws.{by_entries, place_end, stored_none, stored_around, prefix_deleted, prefix_stands, marked_before, marked_behind, marked_stored, past_within, kept_clause, few_stored}
+use Rattle.std.specs.Prelude.{Some, None}
 use Rattle.index.specs.Index.{node_place, older_node, entered, Indexed, SameEntries}
 use Rattle.index.specs.Reading.{Reading, EntryWith}
 use Rattle.index.proofs.Walk.{same_refl, same_trans, marked_same, entered_sound, entered_complete}
-use Rattle.index.proofs.Laws.{part_store, part_size, indexed_part, reading_start, reading_done, Reads, reading_more, reading_part, index_reached}
-use Rattle.pairs.specs.Pairs.{literal_at, slots, slot_of, slot_at, PairStep, no_pair, in_slot, Countable, PairsLess, NoPairWith, PairsTaken}
+use Rattle.index.proofs.Laws.{part_store, part_size, indexed_part, reading_done, Reads, reading_more, reading_part}
+use Rattle.pairs.specs.Pairs.{literal_at, slots, slot_of, as_slot, slot_at, PairStep, no_pair, in_slot, Countable, PairsLess, NoPairWith, PairsTaken}
 use Rattle.pairs.proofs.Slots.{Slotted, slotted}
 
 -- ---- the clause at a place, by what the functions answer
 
-pub step_deleted : (t : List ℕ) (s : List ℤ) (at : ℕ) (counts : List ℕ) → deleted_at s at ≡ true → PairStep t s at counts s counts
-step_deleted t s at counts d = record { store = rw d refl; counted = rw d refl }
+-- what a slot as an answer tells
+slot_told : (n : ℕ) {m : ℕ} → Some m ≡ as_slot n → (n < slots) × (n ≡ m)
+slot_told n {m} e = go (ltb n slots) refl e
+  where
+    go : (b : Bool) → ltb n slots ≡ b → Some m ≡ cond b (Some n) None → (n < slots) × (n ≡ m)
+    go true f e = (ltb-true n slots f, cc)
+    go false f e = cc
 
-module _ (t : List ℕ) (s : List ℤ) (at : ℕ) (counts : List ℕ) (d : deleted_at s at ≡ false) {next m : ℕ} (e : next ≡ past s at) (f : m ≡ slot_of t (take (next - (at + 1)) (drop (at + 1) s))) where
+module _ (t : List ℕ) (s : List ℤ) (at : ℕ) (counts : List ℕ) (d : deleted_at s at ≡ false) {c : Clause} (e : c ≡ clause_at s at) {m : ℕ} (f : Some m ≡ as_slot (slot_of t c)) where
   its_slot : slot_at t s at ≡ m
-  its_slot = rw d (sym (f ∙ ap (slot_of t) (part_there s at next e)))
+  its_slot = rw d (ap (slot_of t) (sym e) ∙ (slot_told (slot_of t c) f).1)
 
-  pub step_pair : {new : List ℤ} {new_counts : List ℕ} → m < slots → new ≡ marked s at → new_counts ≡ counted_at counts m → PairStep t s at counts new new_counts
-  step_pair h a b = record {
-    store = a ∙ sym (ap (λ (k : ℕ). cond (ltb k slots) (marked s at) s) its_slot ∙ rw (lt-ltb m slots h) refl);
-    counted = b ∙ sym (ap (λ (k : ℕ). cond (ltb k slots) (counted_at counts k) counts) its_slot ∙ rw (lt-ltb m slots h) refl);
-  }
+  pub step_pair : {new : List ℤ} {new_counts : List ℕ} → new ≡ marked s at → new_counts ≡ counted_at counts m → PairStep t s at counts new new_counts
+  step_pair a b =
+      let h : m < slots = omega (arith, slot_told (slot_of t c) f) in record {
+        store = a ∙ sym (ap (λ (k : ℕ). cond (ltb k slots) (marked s at) s) its_slot ∙ rw (lt-ltb m slots h) refl);
+        counted = b ∙ sym (ap (λ (k : ℕ). cond (ltb k slots) (counted_at counts k) counts) its_slot ∙ rw (lt-ltb m slots h) refl);
+      }
 
-  pub step_other : slots ≤ m → PairStep t s at counts s counts
-  step_other h = record {
-    store = sym (ap (λ (k : ℕ). cond (ltb k slots) (marked s at) s) its_slot ∙ rw (le-ltb m slots h) refl);
-    counted = sym (ap (λ (k : ℕ). cond (ltb k slots) (counted_at counts k) counts) its_slot ∙ rw (le-ltb m slots h) refl);
+module _ (t : List ℕ) (s : List ℤ) (at : ℕ) (counts : List ℕ) (d : deleted_at s at ≡ false) {c : Clause} (e : c ≡ clause_at s at) (f : None ≡ as_slot (slot_of t c)) where
+  no_slot : (slot_at t s at ≡ slot_of t c) × (slots ≤ slot_of t c)
+  no_slot = (rw d (ap (slot_of t) (sym e)), go (ltb (slot_of t c) slots) refl f)
+    where
+      go : (b : Bool) → ltb (slot_of t c) slots ≡ b → None ≡ cond b (Some (slot_of t c)) None → slots ≤ slot_of t c
+      go true g e = cc
+      go false g e = ltb-false (slot_of t c) slots g
+
+  pub step_other : PairStep t s at counts s counts
+  step_other = record {
+    store = sym (ap (λ (k : ℕ). cond (ltb k slots) (marked s at) s) no_slot.0 ∙ rw (le-ltb (slot_of t c) slots no_slot.1) refl);
+    counted = sym (ap (λ (k : ℕ). cond (ltb k slots) (counted_at counts k) counts) no_slot.0 ∙ rw (le-ltb (slot_of t c) slots no_slot.1) refl);
   }
 
 -- ---- a clause taken out of the middle
@@ -184,16 +199,6 @@ pub record ReadingPairs (l : ℤ) (t : List ℕ) (end : ℕ) (newest : List ℕ)
   pub none : (at : ℕ) → Memᴰ at (entered l (take end work)) → (slots ≤ slot_at t (take end work) at) ⊎ Memᴰ at left
 
 module _ {l : ℤ} {t : List ℕ} {end : ℕ} {newest : List ℕ} {old : List ℤ} {x : List ℕ} where
-  pub pairs_start : nat_abs l ≤ log_reach → Indexed old end newest → {node : ℕ} → node ≡ entry_of newest l → ReadingPairs l t end newest old x old x node
-  pairs_start h i e = rw e (record {
-    size = refl;
-    indexed = i;
-    less = less_none t (take end old) x;
-    left = entered l (take end old);
-    reading = reading_start i l (index_reached l h);
-    none = λ at m. inr m;
-  })
-
   module _ {work : List ℤ} {y : List ℕ} {node : ℕ} (i : Indexed old end newest) (c : Countable t (stored (take end old)) x) (r : ReadingPairs l t end newest old x work y node) where
     pub pairs_reads : 0 < node → Reads work end newest l node r.left
     pairs_reads h = reading_more r.indexed r.reading h
@@ -254,9 +259,6 @@ negated_within {l} f i h e =
     omega (arith, ap nat_abs (e ∙ negation_small x (omega (arith, b))), natAbs_neg x, b)
 
 module _ {l : Clause} {t : List ℕ} {end : ℕ} {newest : List ℕ} {old : List ℤ} {x : List ℕ} (o : Indexed old end newest) where
-  pub through_start : GoneThrough l t end newest old x old x 0
-  through_start = record { size = refl; indexed = o; less = less_none t (take end old) x; none = λ k h. absurd (omega arith) }
-
   pub through_next : {work : List ℤ} {y : List ℕ} {i : ℕ} → GoneThrough l t end newest old x work y i → {n : ℤ} → n ≡ negation (literal_at l i) → {new : List ℤ} {z : List ℕ}
       → length new ≡ length work → PairsLess t (take end work) y (take end new) z → NoPairWith n t (take end new) → Indexed new end newest → GoneThrough l t end newest old x new z (i + 1)
   through_next {i = i} g e {new} s a b d = record {

@@ -1,5 +1,5 @@
 -- The pairs of a choice: their slots in a table of counts, the pairs taken out of a store and counted, and their deletions by the counts.
-use Rattle.std.specs.Prelude.{◌≡◌, Bool, ◌&&◌, cond, List, [], ◌∷◌, ℕ, suc, ◌+◌, ◌-◌, ◌*◌, ◌≤◌, ◌<◌, eqb, ltb, leb, ℤ, pos, length, get_or, replicate}
+use Rattle.std.specs.Prelude.{◌≡◌, Bool, ◌&&◌, cond, List, [], ◌∷◌, ℕ, suc, ◌+◌, ◌-◌, ◌*◌, ◌≤◌, ◌<◌, eqb, ltb, leb, ℤ, pos, length, get_or, replicate, Option, Some, None}
 use Rattle.definition.specs.Lists.{count, those, for_from}
 use Rattle.definition.specs.Literals.{Clause, Formula}
 use Rattle.definition.specs.Standing.{Line, deletion}
@@ -29,6 +29,10 @@ slot a b = cond (ltb a b) (ordered_slot a b) (ordered_slot b a)
 -- by the table of the choice's places
 abbrev pub slot_of : List ℕ → Clause → ℕ
 slot_of t d = cond (eqb (length d) 2) (slot (place_in t (get_or d 0 (pos 0))) (place_in t (get_or d 1 (pos 0)))) slots
+
+-- the same as an answer: none past all slots
+abbrev pub as_slot : ℕ → Option ℕ
+as_slot n = cond (ltb n slots) (Some n) None
 
 abbrev pub slot_at : List ℕ → List ℤ → ℕ → ℕ
 slot_at t s at = cond (deleted_at s at) slots (slot_of t (clause_at s at))

@@ -9,8 +9,9 @@ ghost use Rattle.tables.specs.Places.{Places};
 ghost use Rattle.store.specs.Store.{Formed, stored};
 ghost use Rattle.index.specs.Index.{Indexed};
 ghost use Rattle.progress.specs.Progress.{Written, LogRoom};
-ghost use Rattle.pairs.specs.Pairs.{slots, ordered_slot as slot_for, slot_of, PairStep, Countable, PairsLess, NoPairWith, PairsTaken, PairCounts, cell_lines, row_lines, pair_lines};
+ghost use Rattle.pairs.specs.Pairs.{slots, ordered_slot as slot_for, slot_of, as_slot, PairStep, Countable, PairsLess, NoPairWith, PairsTaken, PairCounts, cell_lines, row_lines, pair_lines};
 
+use drat::ProofLine;
 use progress::Progress;
 
 // How many slots a table of counts has, one for each two places of a choice.
@@ -19,34 +20,25 @@ pub const SLOTS: usize = 4096;
 // ---- slots
 
 // The slot of a pair by its places, of which the first is the lower.
-fn ordered_slot(a: usize, b: usize) -> usize
-    ensures { result ≡ slot_for a b }
+fn ordered_slot(a: usize, b: usize) -> Option<usize>
+    ensures { result ≡ as_slot (slot_for a b) }
 {
-    if 0 < a {
-        if a < b {
-            if b <= 64 {
-                return (a - 1) * 64 + (b - 1);
-            }
-            return SLOTS;
-        }
-        return SLOTS;
+    if 0 < a && a < b && b <= 64 {
+        return Some((a - 1) * 64 + (b - 1));
     }
-    SLOTS
+    None
 }
 
-// The slot of a clause by the table of the choice's places; past all slots if it is no pair.
-fn pair_slot(places: &[u32], clause: &[i32]) -> usize
-    ensures { result ≡ slot_of places.now clause.now }
+// The slot of a clause by the table of the choice's places, if it is a pair.
+fn pair_slot(places: &[u32], clause: &[i32]) -> Option<usize>
+    ensures { result ≡ as_slot (slot_of places.now clause.now) }
 {
-    if clause.len() == 2 {
-        let a = tables::place_of(places, clause[0]) as usize;
-        let b = tables::place_of(places, clause[1]) as usize;
-        if a < b {
-            return ordered_slot(a, b);
-        }
-        return ordered_slot(b, a);
+    if let [l, m] = clause {
+        let a = tables::place_of(places, *l) as usize;
+        let b = tables::place_of(places, *m) as usize;
+        return ordered_slot(a.min(b), a.max(b));
     }
-    SLOTS
+    None
 }
 
 // ---- deleted and counted
@@ -59,10 +51,7 @@ fn take_pair(store: &mut [i32], at: usize, places: &[u32], counts: &mut [u32])
     if literals::is_negative(store[at]) {
         return;
     }
-    let next = store::next_at(store, at);
-    let first = at + 1;
-    let slot = pair_slot(places, &store[first..next]);
-    if slot < SLOTS {
+    if let Some(slot) = pair_slot(places, store::clause_at(store, at)) {
         tables::count_at(counts, slot);
         store::mark_deleted(store, at);
     }
@@ -84,6 +73,7 @@ fn take_with(
     ensures indexed { Indexed work.new end newest.now }
 {
     let mut node = index::last_node(newest, l);
+    // from each node to the one before with the same literal
     while 0 < node {
         let at = index::place_at(work, node);
         let before = index::older(work, node);
@@ -106,11 +96,8 @@ pub fn take_pairs(
     ensures taken { PairsTaken places.now (stored (take end work.old)) (take end work.new) counts.new }
     ensures indexed { Indexed work.new end newest.now }
 {
-    let mut i = 0;
-    while i < choice.len() {
-        let l = literals::negated(choice[i]);
-        take_with(work, newest, end, places, counts, l);
-        i += 1;
+    for l in choice {
+        take_with(work, newest, end, places, counts, literals::negated(*l));
     }
 }
 
@@ -124,10 +111,8 @@ fn record_times(log: &mut [u8], p: Progress, pair: &[i32], times: u32) -> Progre
     ensures kept { result.end ≡ p.end }
 {
     let mut q = p;
-    let mut done = 0;
-    while done < times {
-        q = progress::record_line(log, q, true, pair);
-        done += 1;
+    for _ in 0..times {
+        q = progress::record_line(log, q, ProofLine::Deletion(pair));
     }
     q
 }
@@ -159,10 +144,8 @@ fn record_row(log: &mut [u8], p: Progress, counts: &[u32], choice: &[i32], i: us
     ensures kept { result.end ≡ p.end }
 {
     let mut q = p;
-    let mut j = i + 1;
-    while j < choice.len() {
+    for j in i + 1..choice.len() {
         q = record_cell(log, q, counts, choice, i, j);
-        j += 1;
     }
     q
 }
@@ -175,10 +158,8 @@ pub fn record_pairs(log: &mut [u8], p: Progress, counts: &[u32], choice: &[i32])
     ensures kept { result.end ≡ p.end }
 {
     let mut q = p;
-    let mut i = 0;
-    while i < choice.len() {
+    for i in 0..choice.len() {
         q = record_row(log, q, counts, choice, i);
-        i += 1;
     }
     q
 }
@@ -191,5 +172,5 @@ pub fn clear_counts(counts: &mut [u32], choice: &[i32])
     ensures { counts.new ≡ replicate slots 0 }
 {
     let used = choice.len() * 64;
-    tables::clear(&mut counts[..used]);
+    counts[..used].fill(0);
 }

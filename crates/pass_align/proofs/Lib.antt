@@ -1,5 +1,4 @@
 pub mod Forest
-pub mod Renaming
 pub mod Numbers
 pub mod Sorting
 pub mod Owners

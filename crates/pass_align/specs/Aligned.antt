@@ -1,13 +1,15 @@
 -- What the tables say, and what alignment needs and gives.
-use Rattle.std.specs.Prelude.{◌≡◌, ℕ, ◌≤◌, ◌<◌, ◌^◌, T, ℤ, nat_abs, length, get_or}
+use Rattle.std.specs.Prelude.{◌≡◌, ℕ, ◌≤◌, ◌<◌, ◌^◌, T, ℤ, nat_abs, length, get_or, take}
 use mathlib.Core.List.{List, map, Memᴰ}
 use Rattle.definition.specs.Literals.{Clause, Formula}
 use Rattle.definition.specs.Alignment.{linked, Chain}
 use Rattle.theory_base.specs.Clauses.{ProperAll, Fits, Parted}
 use Rattle.store.specs.Store.{Formed, stored}
+use Rattle.index.specs.Index.{Indexed}
 use Rattle.tables.specs.Sizes.{input_reach, input_size}
 use Rattle.tables.specs.Entries.{entry_of}
 use Rattle.theory_alignment.specs.Groups.{apart}
+use Rattle.pass_align.specs.declared.Links.{Links}
 use Rattle.pass_align.specs.Tables.{linked_by, Forest, root_of, group_of}
 
 -- ---- what alignment reads
@@ -50,6 +52,14 @@ pub record Joined (s : List ℤ) (owners : List ℕ) (ls : Clause) (old new : Li
   pub forest : Forest new
   pub coarser : (j k : ℕ) → root_of old j ≡ root_of old k → root_of new j ≡ root_of new k
   pub grouping : (cs : List Clause) → Owned cs owners → Grouping (stored s) cs old → Grouping (stored s) cs new × ((a : ℤ) → Memᴰ a ls → Met (stored s) cs new a)
+
+-- what links are read from is a proper store with its index
+abbrev pub Readable : Links → Type 0
+Readable k = Indexed k.work.now k.end k.newest.now × ProperStore (take k.end k.work.now)
+
+-- the same by what links are read from
+abbrev pub JoinedBy : Links → Clause → List ℕ → List ℕ → Type 0
+JoinedBy k = Joined (take k.end k.work.now) k.owners.now
 
 -- two literals have one entry exactly if a chain joins them; entries are places of the table
 pub record Grouped (F : Formula) (cs : List Clause) (groups : List ℕ) : Type 0 where

@@ -1,14 +1,13 @@
--- The walk over the store: the choices before a place are in the list. Assumes nothing.
+-- The loop over the standing clauses: the choices among those gone through are in the list. Assumes nothing.
 use mathlib.Core.Path.{◌≡◌, refl, sym, ap, ◌∙◌}
 use mathlib.Core.Bool.{Bool, true, false, ◌&&◌}
-use mathlib.Core.List.Memᴰ
 use mathlib.Core.List.Memᴰ.{head as here}
-use mathlib.Core.List.{List, [], ◌∷◌, ◌++◌, append-nil}
-use Prim.Native.Nat.{ℕ, ◌+◌, ◌-◌, ◌≤◌, ◌<◌}
+use mathlib.Core.List.Memᴰ.{tail as behind}
+use mathlib.Core.List.{List, [], ◌∷◌, ◌++◌, append-nil, append_assoc, Memᴰ}
+use Prim.Native.Nat.{ℕ, ◌+◌, ◌≤◌}
 use native.Mathlib.Omega.{arith}
 use lib.IntN.{ℤ}
-use lib.ListN.{length, take, drop}
-use lib.Seq.{take_all}
+use lib.ListN.{length, take}
 use Rattle.definition.specs.Lists.{those}
 use Rattle.definition.specs.Literals.{Clause, Formula}
 use Rattle.definition.specs.Calls.{numbers_of}
@@ -16,14 +15,13 @@ use Rattle.definition.specs.Clearing.{unique, choice_size}
 use Rattle.definition.specs.Counter.{choices}
 use Rattle.theory_base.proofs.Tests.{by_test, of_true, and_l}
 use Rattle.theory_base.proofs.Clauses.{choice_size_within, numbers_none, numbers_first, numbers-++}
-use Rattle.store.specs.Store.{Formed, stored, Counted, deleted_at, clause_at, past, Place, end_after, with_entry}
+use Rattle.store.specs.Store.{Formed, stored, Counted, end_after, with_entry}
 use Rattle.tables.specs.Sizes.{input_reach}
 use Rattle.tables.specs.Counts.{unique_by, choice_by}
 use Rattle.tables.proofs.Counting.{choice_is}
-use Rattle.store.specs.declared.Added.TheVariants.{To, Full}
-use Rattle.store.proofs.Laws.{stored_none, stored_split, place_start, place_next, stored_around, prefix_deleted, prefix_stands, appended, fits_within, part_there}
-use Rattle.theory_base.proofs.Members.{those-++}
-use Rattle.pass_choose.specs.Collecting.{chosen_at, Joined, Collected}
+use Rattle.std.proofs.Common.{Some}
+use Rattle.store.proofs.Laws.{stored_none, appended, fits_within}
+use Rattle.pass_choose.specs.Collecting.{if_choice, Joined, Collected}
 
 choice_within : (t : List ℕ) (c : Clause) → choice_by t c ≡ true → length c ≤ 64
 choice_within t c e = (choice_size_within c (and_l (choice_size c) (unique_by t c) (of_true e))).1
@@ -34,109 +32,96 @@ joined_none : (old : List ℤ) (end : ℕ) → end ≤ length old → Joined [] 
 joined_none old end h =
     record { next = omega (arith, numbers_none); inside = h; formed = λ f. f; stands = λ f. sym (append-nil (stored (take end old))) }
 
-module _ (old new : List ℤ) (end r : ℕ) (c : Clause) (a : length c ≤ 64) (b : end + (length c + 1) ≤ length old) where
-  pub joined_one : end_after (length old) end c ≡ To r → new ≡ with_entry old end c → Joined (c ∷ []) old end r new
-  joined_one e w =
-      let k = appended old new end r c (omega arith) e w in
-      record { next = omega (arith, k.next, numbers_first c [], numbers_none); inside = k.within; formed = k.formed; stands = k.standing }
+-- there is room for a choice
+pub room_for : (size end : ℕ) (c : Clause) → length c ≤ 64 → end + (length c + 1) ≤ size → end_after size end c ≡ Some (end + (length c + 1))
+room_for size end c a b = rw (fits_within size end c (omega arith) b) refl
 
-pub never_full : {P : Type 0} (old : List ℤ) (end : ℕ) (c : Clause) → length c ≤ 64 → end + (length c + 1) ≤ length old → end_after (length old) end c ≡ Full → P
-never_full old end c a b e = go (rw (fits_within (length old) end c (omega arith) b) at e)
-  where
-    go : {P : Type 0} → To (end + (length c + 1)) ≡ Full → P
-    go q = absurd (let z : ◌≡◌ {A = ℕ} 0 1 = cc in omega arith)
+pub joined_one : (old new : List ℤ) (end : ℕ) (c : Clause) → length c ≤ 64 → end + (length c + 1) ≤ length old → new ≡ with_entry old end c → Joined (c ∷ []) old end (end + (length c + 1)) new
+joined_one old new end c a b w =
+    let k = appended old new end (end + (length c + 1)) c (omega arith) (room_for (length old) end c a b) w in
+    record { next = omega (arith, k.next, numbers_first c [], numbers_none); inside = k.within; formed = k.formed; stands = k.standing }
 
--- ---- at a place, by what the functions answer there
-module _ (t : List ℕ) (s : List ℤ) (at : ℕ) (old : List ℤ) (end : ℕ) (room : end + numbers_of (chosen_at t s at) ≤ length old) where
-  pub at_deleted : deleted_at s at ≡ true → Joined (chosen_at t s at) old end end old
-  at_deleted d = rw d (joined_none old end (omega arith))
+-- ---- one clause, by whether it is a choice
 
-  module _ (next : ℕ) (e : next ≡ past s at) (d : deleted_at s at ≡ false) where
-    test : {r : Bool} (v : Bool) → r ≡ choice_by t (take (next - (at + 1)) (drop (at + 1) s)) → r ≡ v → choice_by t (clause_at s at) ≡ v
-    test v a b = ap (choice_by t) (sym (part_there s at next e)) ∙ sym a ∙ b
+pub choice_room : {r : Bool} (t : List ℕ) (c : Clause) (end n : ℕ) → r ≡ choice_by t c → r ≡ true → end + numbers_of (if_choice t c) ≤ n → (length c ≤ 64) × (end + (length c + 1) ≤ n)
+choice_room t c end n a b h =
+    let e : choice_by t c ≡ true = sym a ∙ b in
+    (choice_within t c e, omega (arith, rw e at h, numbers_first c [], numbers_none))
 
-    pub at_other : {r : Bool} → r ≡ choice_by t (take (next - (at + 1)) (drop (at + 1) s)) → r ≡ false → Joined (chosen_at t s at) old end end old
-    at_other a b = rw (d, test false a b) (joined_none old end (omega arith))
+pub other_joined : {r : Bool} (t : List ℕ) (c : Clause) (old : List ℤ) (end : ℕ) → r ≡ choice_by t c → r ≡ false → end + numbers_of (if_choice t c) ≤ length old → Joined (if_choice t c) old end end old
+other_joined t c old end a b h = rw (sym a ∙ b) (joined_none old end (omega arith))
 
-    pub at_room : {r : Bool} → r ≡ choice_by t (take (next - (at + 1)) (drop (at + 1) s)) → r ≡ true → (length (take (next - (at + 1)) (drop (at + 1) s)) ≤ 64) × (end + (length (take (next - (at + 1)) (drop (at + 1) s)) + 1) ≤ length old)
-    at_room a b =
-        let m = rw (d, test true a b) at room in
-        rw (part_there s at next e) (choice_within t (clause_at s at) (test true a b), omega (arith, m, numbers_first (clause_at s at) [], numbers_none))
-
-    pub at_choice : {r : Bool} {q : ℕ} {new : List ℤ} → r ≡ choice_by t (take (next - (at + 1)) (drop (at + 1) s)) → r ≡ true → Joined (take (next - (at + 1)) (drop (at + 1) s) ∷ []) old end q new → Joined (chosen_at t s at) old end q new
-    at_choice {q = q} {new = new} a b j = rw (d, test true a b) (rw (part_there s at next e) at j)
-
--- ---- the walk
+-- ---- the loop over the standing clauses
 
 -- the test of the definition
 abbrev is_choice : Formula → Clause → Bool
 is_choice F c = choice_size c && unique F c
 
--- the choices before `at` are in the list
-pub record Collecting (s : List ℤ) (size at end : ℕ) (chosen : List ℤ) : Type 0 where
-  pub place : Place s at
+-- the choices among the clauses that are gone through are in the list; the others are left
+pub record Collecting (F left : Formula) (size end : ℕ) (chosen : List ℤ) : Type 0 where
+  pub inside : (c : Clause) → Memᴰ c left → Memᴰ c F
   pub same_size : length chosen ≡ size
-  pub inside : end ≤ length chosen
-  pub next : end ≡ numbers_of (those (is_choice (stored s)) (stored (take at s)))
+  pub within : end ≤ length chosen
+  pub next : end ≡ numbers_of (stored (take end chosen))
   pub formed : Formed (take end chosen)
-  pub stands : stored (take end chosen) ≡ those (is_choice (stored s)) (stored (take at s))
+  pub stands : stored (take end chosen) ++ those (is_choice F) left ≡ choices F
 
-pub collecting_start : {s : List ℤ} (chosen : List ℤ) → Formed s → Collecting s (length chosen) 0 0 chosen
-unfolding those
-collecting_start {s} chosen f = record {
-  place = place_start f;
+pub collecting_start : {F : Formula} (chosen : List ℤ) → Collecting F F (length chosen) 0 chosen
+unfolding choices
+collecting_start {F} chosen = record {
+  inside = λ c i. i;
   same_size = refl;
-  inside = omega arith;
+  within = omega arith;
   next = rw stored_none (sym numbers_none);
   formed = tt;
   stands = rw stored_none refl;
 }
 
-module _ {s : List ℤ} {t : List ℕ} {size : ℕ} (w : Counted input_reach s t) {at end : ℕ} {chosen : List ℤ} (i : Collecting s size at end chosen) (h : at < length s) where
+module _ {s : List ℤ} {t : List ℕ} {size : ℕ} (w : Counted input_reach s t) {end : ℕ} {chosen : List ℤ} {left : Formula} (i : Collecting (stored s) left size end chosen) {c : Clause} {rest : Formula} (e : left ≡ c ∷ rest) where
   abbrev F : Formula
   F = stored s
 
-  abbrev c : Clause
-  c = clause_at s at
+  there : Memᴰ c F
+  there = i.inside c (rw e (here refl))
 
-  same_test : deleted_at s at ≡ false → choice_by t c ≡ is_choice F c
-  same_test d =
-      choice_is input_reach (omega arith) t F w.table c (λ x j. (w.fits c (rw (stored_around s at h i.place d) (Memᴰ.append_right (stored (take at s)) (here refl))) x j).1)
+  same_test : choice_by t c ≡ is_choice F c
+  same_test = choice_is input_reach (omega arith) t F w.table c (λ x j. (w.fits c there x j).1)
 
-  -- the choices before the place past the entry
-  more : those (is_choice F) (stored (take (past s at) s)) ≡ those (is_choice F) (stored (take at s)) ++ chosen_at t s at
+  -- the choices of what is left
+  here_first : those (is_choice F) left ≡ if_choice t c ++ those (is_choice F) rest
   unfolding those
-  more =
-      by_test (deleted_at s at) (λ d. rw (prefix_deleted s at h i.place d, d) (sym (append-nil (those (is_choice F) (stored (take at s))))))
-      (λ d. rw (prefix_stands s at h i.place d, d, same_test d) (those-++ (is_choice F) (stored (take at s)) (c ∷ [])))
+  here_first = rw (e, same_test) (by_test (is_choice F c) (λ b. rw b refl) (λ b. rw b refl))
 
-  later : those (is_choice F) (stored (take (past s at) s)) ++ those (is_choice F) (stored (drop (past s at) s)) ≡ choices F
-  unfolding choices
-  later = sym (ap (those (is_choice F)) (stored_split (place_next s at h i.place)) ∙ those-++ (is_choice F) (stored (take (past s at) s)) (stored (drop (past s at) s)))
+  more : (stored (take end chosen) ++ if_choice t c) ++ those (is_choice F) rest ≡ choices F
+  more = append_assoc (stored (take end chosen)) (if_choice t c) (those (is_choice F) rest) ∙ ap (λ (r : Formula). stored (take end chosen) ++ r) (sym here_first) ∙ i.stands
 
-  pub collecting_room : numbers_of (choices (stored s)) ≤ size → end + numbers_of (chosen_at t s at) ≤ length chosen
+  pub collecting_room : numbers_of (choices (stored s)) ≤ size → end + numbers_of (if_choice t c) ≤ length chosen
   collecting_room space =
       omega (
         arith,
         i.next,
         i.same_size,
-        ap numbers_of later,
-        numbers-++ (those (is_choice F) (stored (take (past s at) s))) (those (is_choice F) (stored (drop (past s at) s))),
         ap numbers_of more,
-        numbers-++ (those (is_choice F) (stored (take at s))) (chosen_at t s at),
+        numbers-++ (stored (take end chosen) ++ if_choice t c) (those (is_choice F) rest),
+        numbers-++ (stored (take end chosen)) (if_choice t c),
       )
 
-  pub collecting_step : {r : ℕ} {new : List ℤ} → length new ≡ length chosen → Joined (chosen_at t s at) chosen end r new → Collecting s size (past s at) r new
-  collecting_step e j = record {
-    place = place_next s at h i.place;
-    same_size = e ∙ i.same_size;
-    inside = j.inside;
-    next = omega (arith, j.next, i.next, ap numbers_of more, numbers-++ (those (is_choice F) (stored (take at s))) (chosen_at t s at));
-    formed = j.formed i.formed;
-    stands = j.stands i.formed ∙ ap (λ (f : Formula). f ++ chosen_at t s at) i.stands ∙ sym more;
-  }
+  pub collecting_step : {r : ℕ} {new : List ℤ} → length new ≡ length chosen → Joined (if_choice t c) chosen end r new → Collecting (stored s) rest size r new
+  collecting_step k j =
+      let n = j.stands i.formed in
+      record {
+        inside = λ d m. i.inside d (rw e (there_behind m));
+        same_size = k ∙ i.same_size;
+        within = j.inside;
+        next = omega (arith, j.next, i.next, ap numbers_of n, numbers-++ (stored (take end chosen)) (if_choice t c));
+        formed = j.formed i.formed;
+        stands = rw n more;
+      }
+    where
+      there_behind : {d : Clause} → Memᴰ d rest → Memᴰ d (c ∷ rest)
+      there_behind m = behind m
 
-pub collecting_end : {s : List ℤ} {size at end : ℕ} {chosen : List ℤ} → Collecting s size at end chosen → length s ≤ at → Collected (choices (stored s)) size end chosen
-unfolding choices
-collecting_end {s} {at = at} i h =
-    record { same_size = i.same_size; inside = i.inside; formed = i.formed; stands = i.stands ∙ ap (λ (r : List ℤ). those (is_choice (stored s)) (stored r)) (take_all at s h) }
+pub collecting_end : {F : Formula} {size end : ℕ} {chosen : List ℤ} {left : Formula} → Collecting F left size end chosen → left ≡ [] → Collected (choices F) size end chosen
+unfolding those
+collecting_end {end = end} {chosen = chosen} i e =
+    record { same_size = i.same_size; inside = i.within; formed = i.formed; stands = sym (append-nil (stored (take end chosen))) ∙ rw e at i.stands }

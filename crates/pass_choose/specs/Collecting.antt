@@ -2,14 +2,14 @@
 use Rattle.std.specs.Prelude.{◌≡◌, cond, List, [], ◌∷◌, ◌++◌, ℕ, ◌+◌, ◌≤◌, ℤ, length, take}
 use Rattle.definition.specs.Literals.{Clause}
 use Rattle.definition.specs.Calls.{numbers_of}
-use Rattle.store.specs.Store.{Formed, stored, deleted_at, clause_at}
+use Rattle.store.specs.Store.{Formed, stored}
 use Rattle.tables.specs.Counts.{choice_by}
 
--- ---- at a place
+-- ---- one clause
 
--- the clause there, if it stands and is a choice
-abbrev pub chosen_at : List ℕ → List ℤ → ℕ → List Clause
-chosen_at t s at = cond (deleted_at s at) [] (cond (choice_by t (clause_at s at)) (clause_at s at ∷ []) [])
+-- the clause, if it is a choice
+abbrev pub if_choice : List ℕ → Clause → List Clause
+if_choice t c = cond (choice_by t c) (c ∷ []) []
 
 -- the clauses cs stand behind what was filled up to `end`
 pub record Joined (cs : List Clause) (old : List ℤ) (end r : ℕ) (new : List ℤ) : Type 0 where

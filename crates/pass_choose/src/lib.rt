@@ -7,7 +7,7 @@ ghost use Rattle.definition.specs.Counter.{choices};
 ghost use Rattle.tables.specs.Sizes.{input_reach};
 ghost use Rattle.store.specs.Store.{Formed, stored, Counted};
 ghost use Rattle.progress.specs.Progress.{standing, Good};
-ghost use Rattle.pass_choose.specs.Collecting.{chosen_at, Joined, Collected};
+ghost use Rattle.pass_choose.specs.Collecting.{if_choice, Joined, Collected};
 
 use progress::Progress;
 
@@ -16,25 +16,16 @@ fn append(chosen: &mut [i32], end: usize, clause: &[i32]) -> usize
     requires { (length clause.now ≤ 64) × (end + (length clause.now + 1) ≤ length chosen.old) }
     ensures { Joined (clause.now ∷ []) chosen.old end result chosen.new }
 {
-    match store::append_clause(chosen, end, clause) {
-        store::Added::To(next) => next,
-        store::Added::Full => end,
-    }
+    store::append_clause(chosen, end, clause).unwrap_or(end)
 }
 
-// Puts the clause at a place at the end of the list if it stands and is a choice; the result is the place past the list.
-fn collect_at(store: &[i32], at: usize, counts: &[u32], chosen: &mut [i32], end: usize) -> usize
-    requires at_in_bounds { (at < length store.now) × Formed (drop at store.now) }
-    requires at_in_bounds_2 { end + numbers_of (chosen_at counts.now store.now at) ≤ length chosen.old }
-    ensures { Joined (chosen_at counts.now store.now at) chosen.old end result chosen.new }
+// Puts a clause at the end of the list if it is a choice; the result is the place past the list.
+fn collect_one(clause: &[i32], counts: &[u32], chosen: &mut [i32], end: usize) -> usize
+    requires { end + numbers_of (if_choice counts.now clause.now) ≤ length chosen.old }
+    ensures { Joined (if_choice counts.now clause.now) chosen.old end result chosen.new }
 {
-    if literals::is_negative(store[at]) {
-        return end;
-    }
-    let next = store::next_at(store, at);
-    let first = at + 1;
-    if tables::is_choice(counts, &store[first..next]) {
-        append(chosen, end, &store[first..next])
+    if tables::is_choice(counts, clause) {
+        append(chosen, end, clause)
     } else {
         end
     }
@@ -46,10 +37,8 @@ fn collect_all(store: &[i32], counts: &[u32], chosen: &mut [i32]) -> usize
     ensures { Collected (choices (stored store.now)) (length chosen.old) result chosen.new }
 {
     let mut end = 0;
-    let mut at = 0;
-    while at < store.len() {
-        end = collect_at(store, at, counts, chosen, end);
-        at = store::next_at(store, at);
+    for clause in store::standing(store) {
+        end = collect_one(clause, counts, chosen, end);
     }
     end
 }

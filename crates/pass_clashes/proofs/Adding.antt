@@ -133,12 +133,6 @@ module _ {work : List ℤ} {newest : List ℕ} {p : Progress} {v x y : ℕ} (r :
         short c.other is_clash.other_stands,
       )
 
-  pub one_within : x < length work
-  one_within = omega (arith, r.clash.one_stands.inside, length-take-le p.end work r.good.inside, r.good.inside)
-
-  pub other_within : y < length work
-  other_within = omega (arith, r.clash.other_stands.inside, length-take-le p.end work r.good.inside, r.good.inside)
-
   one_inside : {e : ℕ} → e ≡ past work x → (x + 1 ≤ e) × (e ≤ p.end) × (e ≤ length work)
   one_inside i = let k = part_inside work p.end x r.clash.one_stands r.good.inside i in (k.0, k.1, omega (arith, k.1, r.good.inside))
 

@@ -3,20 +3,21 @@ use mathlib.Core.Path.{◌≡◌, refl, sym, ap, ap₂, ◌∙◌}
 use mathlib.Core.Logic.{⊎_elim}
 use mathlib.Core.Bool.{Bool, true, false, cond, not, ◌&&◌, ◌||◌, or-false, and-true, and-false}
 use mathlib.Core.List.Memᴰ
-use mathlib.Core.List.{List, [], ◌∷◌}
-use Prim.Native.Nat.{ℕ, ◌+◌, ◌-◌, ◌≤◌, ◌<◌}
+use mathlib.Core.List.Memᴰ.{head as here}
+use mathlib.Core.List.{List, [], ◌∷◌, ◌++◌, append-nil, append_assoc}
+use Prim.Native.Nat.{ℕ, ◌+◌, ◌≤◌, ◌<◌}
 use native.Mathlib.Numerals.{add-one}
 use native.Mathlib.Omega.{arith}
 use lib.Dec.{T, eqb, ltb}
 use lib.IntN.{ℤ, pos, neg_ℤ, nat_abs}
-use lib.ListN.{length, get_or, take, drop, replicate, length-replicate}
-use lib.Seq.{take-suc, take_all}
+use lib.ListN.{length, get_or, take, replicate, length-replicate}
+use lib.Seq.{take-suc}
 use borrow.Author.Tests.{eqb-true}
 use Rattle.definition.specs.Lists.{bit, any}
 use Rattle.definition.specs.Literals.{Clause, Formula, holds}
 use Rattle.definition.specs.Clearing.{unique}
 use Rattle.theory_base.specs.Clauses.{ProperAll, FitAll}
-use Rattle.theory_base.proofs.Tests.{each_way, or_cases, or_l, or_r, by_test}
+use Rattle.theory_base.proofs.Tests.{each_way, or_cases, or_l, or_r}
 use Rattle.theory_base.proofs.Members.{any_snoc, natAbs_neg, same_variable, holds_mem, mem_holds}
 use Rattle.theory_clearing.specs.Clashing.{in_ulc, mentions}
 use Rattle.theory_clearing.proofs.Clashing.{mentions_mem, mem_mentions, clashes_both}
@@ -29,10 +30,8 @@ use Rattle.tables.specs.Entries.{entry_of, with_entries}
 use Rattle.tables.specs.Counts.{unique_by}
 use Rattle.tables.proofs.Laws.{index_inside, entry_zeros, length_entries, entry_set_all}
 use Rattle.tables.proofs.Counting.{unique_is}
-use Rattle.store.specs.Store.{Formed, stored, Counted, deleted_at, clause_at, past, Place}
-use Rattle.store.proofs.Laws.{stored_none, place_start, place_next, prefix_deleted, prefix_stands, part_there}
+use Rattle.store.specs.Store.{stored, Counted}
 use Rattle.pass_clashes.specs.Marking.{MarksClashes, both, MarkedBoth, unique_part, TakenIn, Unmarked}
-use Rattle.pass_clashes.proofs.Parents.{standing_mem}
 
 -- ---- the variables of a clause
 mentions_one : (l : ℤ) (v : ℕ) → mentions (l ∷ []) v ≡ eqb (nat_abs l) v
@@ -60,14 +59,7 @@ mentions_holds c v = each_way to from
         (λ u. rw natAbs_neg at (mem_mentions c (neg_ℤ (pos v)) (holds_mem (neg_ℤ (pos v)) c u)))
         (or_cases (holds (pos v) c) _ t)
 
--- ---- the variable of a literal
-pub both_first : (t : List ℕ) (v : ℕ) {a b : Bool} → a ≡ ltb 0 (entry_of t (signed_of false v)) → a ≡ true → b ≡ ltb 0 (entry_of t (signed_of true v)) → b ≡ both t v
-both_first t v p q r = rw (sym p ∙ q) r
-
-pub both_none : (t : List ℕ) (v : ℕ) {a : Bool} → a ≡ ltb 0 (entry_of t (signed_of false v)) → a ≡ false → false ≡ both t v
-both_none t v p q = rw (sym p ∙ q) refl
-
--- by the answer r whether the table has its variable with both signs
+-- ---- the variable of a literal, by the answer r whether the table has it with both signs
 module _ (m t : List ℕ) (l : ℤ) {v : ℕ} (n : v ≡ nat_abs l) {r : Bool} (f : r ≡ both t v) where
   one_both : (b : Bool) → r ≡ b → (w : ℕ) → (mentions (l ∷ []) w && both t w) ≡ (eqb v w && b)
   one_both b e w = rw (mentions_one l w, ← n) (go (eqb v w) refl)
@@ -111,20 +103,16 @@ pub unmarked_next : (m m₁ new : List ℕ) (c : Clause) (i : ℕ) → i < lengt
 unmarked_next m m₁ new c i h p q v =
     q v ∙ rw (p v, mentions_next c i v h) (neither (mentions (take i c) v) (eqb (nat_abs (get_or c i (pos 0))) v) (marked m v))
 
--- ---- what is taken in at a place
-module _ (counts : List ℕ) (s : List ℤ) (at : ℕ) where
-  pub part_deleted : deleted_at s at ≡ true → unique_part counts s at ≡ []
-  part_deleted d = rw d refl
+-- ---- what is taken in
 
-  -- by the answer r of the test of the slice from the header to the next entry
-  pub part_tested : deleted_at s at ≡ false → (next : ℕ) → next ≡ past s at → {r b : Bool} → r ≡ unique_by counts (take (next - (at + 1)) (drop (at + 1) s)) → r ≡ b → unique_part counts s at ≡ cond b (take (next - (at + 1)) (drop (at + 1) s)) []
-  part_tested d next e f g = let k = part_there s at next e in rw (d, k, ap (unique_by counts) (sym k) ∙ sym f ∙ g) refl
+pub part_tested : (counts : List ℕ) (c : Clause) {r b : Bool} → r ≡ unique_by counts c → r ≡ b → unique_part counts c ≡ cond b c []
+part_tested counts c f g = rw (sym f ∙ g) refl
 
 pub part_none : {c : Clause} (m t : List ℕ) → c ≡ [] → (t ≡ with_entries t c 1) × MarkedBoth m t c m
 unfolding with_entries
 part_none m t e = rw e (refl, marked_start m t)
 
--- ---- the walk over the store
+-- ---- the loop over the standing clauses
 before_too : (a b x y : Bool) → (((a || x) && (b || y)) || (a && b)) ≡ ((a || x) && (b || y))
 before_too true true x y = refl
 before_too true false x y = or-false y
@@ -147,59 +135,53 @@ both_is t f e v h = ap₂ (λ (a b : Bool). a && b) (side false (pos v) (signed_
     side : (b : Bool) (l : ℤ) → signed_of b v ≡ l → nat_abs l ≤ input_reach → ltb 0 (entry_of t (signed_of b v)) ≡ f l
     side b l q k = rw q (rw (e l k) (positive (f l)))
 
--- the clauses before `at` are taken in
-pub record Marking (s : List ℤ) (at : ℕ) (t m : List ℕ) : Type 0 where
-  pub place : Place s at
+-- the clauses gone through are taken in; the others are left
+pub record Marking (F left : Formula) (t m : List ℕ) : Type 0 where
+  gone : Formula
+  split : F ≡ gone ++ left
   table_size : input_reach + input_reach + 2 ≤ length t
   pub marks_size : length m ≡ input_words
-  pub taken : TakenIn (stored s) (stored (take at s)) t m
+  pub taken : TakenIn F gone t m
 
-pub marking_start : {s : List ℤ} {t m : List ℕ} → Formed s → m ≡ replicate input_words 0 → t ≡ replicate input_size 0 → Marking s 0 t m
+pub marking_start : {F left : Formula} {t m : List ℕ} → left ≡ F → m ≡ replicate input_words 0 → t ≡ replicate input_size 0 → Marking F left t m
 unfolding any
-marking_start {s} {t} {m} f e g = record {
-  place = place_start f;
+marking_start {t = t} {m = m} d f g = record {
+  gone = [];
+  split = sym d;
   table_size = omega (arith, ap length g, length-replicate {A = ℕ} input_size 0);
-  marks_size = ap length e ∙ length-replicate {A = ℕ} input_words 0;
-  taken = rw stored_none (record { table = λ l b. rw g (entry_zeros input_size l); marks = λ v. rw e (none_in_zeros input_words v) });
+  marks_size = ap length f ∙ length-replicate {A = ℕ} input_words 0;
+  taken = record { table = λ l b. rw g (entry_zeros input_size l); marks = λ v. rw f (none_in_zeros input_words v) };
 }
 
-module _ {counts : List ℕ} {s : List ℤ} {at : ℕ} {t m : List ℕ} (k : Counted input_reach s counts) (i : Marking s at t m) (h : at < length s) where
+module _ {counts : List ℕ} {s : List ℤ} {left : Formula} {t m : List ℕ} (k : Counted input_reach s counts) (i : Marking (stored s) left t m) {c : Clause} {rest : Formula} (d : left ≡ c ∷ rest) where
   abbrev F : Formula
   F = stored s
 
   abbrev G : Formula
-  G = stored (take at s)
+  G = i.gone
 
   abbrev G₁ : Formula
-  G₁ = stored (take (past s at) s)
-
-  abbrev c : Clause
-  c = clause_at s at
+  G₁ = G ++ (c ∷ [])
 
   abbrev part : Clause
-  part = unique_part counts s at
+  part = unique_part counts c
 
-  clause_fits : deleted_at s at ≡ false → FitAll input_reach c
-  clause_fits d = k.fits c (standing_mem (record { inside = h; place = i.place; stands = d }))
+  clause_fits : FitAll input_reach c
+  clause_fits = k.fits c (rw (i.split, d) (Memᴰ.append_right G (here refl)))
 
   pub part_fits : FitAll input_reach part
-  part_fits = by_test (deleted_at s at) (λ d. rw d none_fits) (λ d. rw d (go (unique_by counts c) (clause_fits d)))
+  part_fits = go (unique_by counts c) clause_fits
     where
-      none_fits : FitAll input_reach []
-      none_fits x j = absurd (Memᴰ.not-nil j)
-
       go : (b : Bool) → FitAll input_reach c → FitAll input_reach (cond b c [])
       go true f = f
-      go false f = none_fits
+      go false f = λ l j. absurd (Memᴰ.not-nil j)
 
   -- the literals in unique literal clauses: those of the part are new
   in_ulc_next : (l : ℤ) → in_ulc F G₁ l ≡ (in_ulc F G l || holds l part)
   unfolding holds any
-  in_ulc_next l = by_test (deleted_at s at)
-      (λ d. rw (d, prefix_deleted s at h i.place d) (sym (or-false (in_ulc F G l))))
-      (λ d.
-      rw (d, prefix_stands s at h i.place d, any_snoc (λ b. holds l b && unique F b) G c, sym (unique_is input_reach (omega arith) counts F k.table c (λ x j. (clause_fits d x j).1)))
-      (ap (λ (b : Bool). in_ulc F G l || b) (go (unique_by counts c))))
+  in_ulc_next l =
+      rw (any_snoc (λ b. holds l b && unique F b) G c, sym (unique_is input_reach (omega arith) counts F k.table c (λ x j. (clause_fits x j).1)))
+      (ap (λ (b : Bool). in_ulc F G l || b) (go (unique_by counts c)))
     where
       go : (b : Bool) → (holds l c && b) ≡ holds l (cond b c [])
       go true = and-true (holds l c)
@@ -233,13 +215,16 @@ module _ {counts : List ℕ} {s : List ℤ} {at : ℕ} {t m : List ℕ} (k : Cou
         ∙ rw (mentions_holds part v, i.taken.marks v) (both_or (in_ulc F G (pos v)) (in_ulc F G (neg_ℤ (pos v))) (holds (pos v) part) (holds (neg_ℤ (pos v)) part) (λ u. both_next v u ∙ g))
         ∙ sym g
 
-    pub marking_next : {m₁ : List ℕ} → MarkedBoth m t₁ part m₁ → length m₁ ≡ length m → Marking s (past s at) t₁ m₁
+    pub marking_next : {m₁ : List ℕ} → MarkedBoth m t₁ part m₁ → length m₁ ≡ length m → Marking F rest t₁ m₁
     marking_next {m₁} q n = record {
-      place = place_next s at h i.place;
+      gone = G₁;
+      split = i.split ∙ ap (λ (r : Formula). G ++ r) d ∙ sym (append_assoc G (c ∷ []) rest);
       table_size = omega (arith, i.table_size, ap length e, length_entries t part 1);
       marks_size = n ∙ i.marks_size;
       taken = record { table = entry_next; marks = marks_next m₁ q };
     }
 
-pub marking_end : {s : List ℤ} {at : ℕ} {t m : List ℕ} → Marking s at t m → length s ≤ at → ProperAll (stored s) → MarksClashes (stored s) m
-marking_end {s} {at} i h p v = (rw (take_all at s h) at i.taken).marks v ∙ sym (clashes_both (stored s) p v)
+pub marking_end : {F left : Formula} {t m : List ℕ} → Marking F left t m → left ≡ [] → ProperAll F → MarksClashes F m
+marking_end {F} {t = t} {m = m} i d p v =
+    let all : i.gone ≡ F = sym (append-nil i.gone) ∙ ap (λ (r : Formula). i.gone ++ r) (sym d) ∙ sym i.split in
+    i.taken.marks v ∙ rw all (sym (clashes_both F p v))

@@ -1,16 +1,16 @@
 -- The test by a table of the one clause says whether the resolvent is opposed: both clauses are proper, so opposed literals come one from each. Assumes nothing.
-use mathlib.Core.Path.{◌≡◌, refl, sym, ap, ap₂, ◌∙◌}
+use mathlib.Core.Path.{◌≡◌, refl, sym, ap, ◌∙◌}
 use mathlib.Core.Logic.{◌⊎◌, inl, inr, ⊎_elim}
 use mathlib.Core.Bool.{Bool, true, false, not}
 use mathlib.Core.List.Memᴰ
 use mathlib.Core.List.{List, [], ◌∷◌, ◌++◌, Memᴰ}
-use Prim.Native.Nat.{ℕ, ◌+◌, ◌-◌, ◌≤◌}
+use Prim.Native.Nat.{ℕ, ◌+◌, ◌≤◌}
 use native.Mathlib.Omega.{arith}
 use lib.Dec.{T, eqb}
 use lib.IntN.{ℤ, pos, neg_ℤ, neg_ℤ-neg_ℤ, nat_abs}
 use mir.Syntax.{w32}
 use mir.Val.{SFits, of_z, to_z}
-use lib.ListN.{length, take, drop, replicate}
+use lib.ListN.{replicate}
 use Rattle.definition.specs.Lists.{bit, any}
 use Rattle.definition.specs.Literals.{Clause, same, holds, without, opposed}
 use Rattle.theory_base.proofs.Tests.{of_true, to_true, not_true, of_false, and_l, and_r, and_i, each_way}
@@ -18,9 +18,10 @@ use Rattle.theory_base.proofs.Members.{any_mem, mem_any, unlike, unlike_false, h
 use Rattle.theory_base.specs.Clauses.{Proper}
 use Rattle.definition.specs.Clearing.{resolvent}
 use Rattle.literals.specs.Literal.{signed_of}
-use Rattle.literals.proofs.Laws.{signed_small, negation_small, at_arg, at_arg2}
-use Rattle.store.specs.Store.{clause_at, past}
-use Rattle.store.proofs.Laws.{formed_next, part_there}
+use borrow.Author.Tests.{eq-eqb, ne_eqb}
+use Rattle.literals.proofs.Bits.{same_bits}
+use Rattle.literals.proofs.Laws.{signed_small, negation_small, at_arg}
+use Rattle.store.specs.Store.{clause_at}
 use Rattle.theory_soundness.proofs.Times.{times_nil, times_cons}
 use Rattle.theory_soundness.proofs.Without.{without_mem, mem_without}
 use Rattle.tables.specs.Entries.{entry_of, tallied, tallied_all}
@@ -84,22 +85,16 @@ module _ (A B : Clause) (v : ℤ) (p : Proper A) (q : Proper B) (f : (x : ℤ) �
       (λ u. let r = opposes_mem joint joint u in opposed_mem r.0 (Memᴰ.append_cases (without v A) r.1) (Memᴰ.append_cases (without v A) r.2))
 
 -- ---- the clauses at two places
-module _ {s : List ℤ} {v x y e f : ℕ} (p : Parents s v x y) (i : e ≡ past s x) (j : f ≡ past s y) where
-  pub parts_opposed : {t : Bool} → t ≡ any (opposite_in (tallied (replicate input_size 0) (take (e - (x + 1)) (drop (x + 1) s))) (signed_of true v)) (take (f - (y + 1)) (drop (y + 1) s)) →
-      t ≡ opposed (resolvent (clash_there s v x y))
-  unfolding resolvent
-  parts_opposed h =
-      h ∙ ap (λ (z : ℤ). any (opposite_in (tallied (replicate input_size 0) (take (e - (x + 1)) (drop (x + 1) s))) z) (take (f - (y + 1)) (drop (y + 1) s))) (signed_small true v (omega (arith, p.small)))
-      ∙ ap₂ (λ (a b : Clause). any (opposite_in (tallied (replicate input_size 0) a) (neg_ℤ (pos v))) b) (part_there s x e i) (part_there s y f j)
-      ∙ opposed_is (clause_at s x) (clause_at s y) (pos v) p.one_proper p.other_proper (λ z m. (p.other_fits z m).1)
+pub parts_opposed : {s : List ℤ} {v x y : ℕ} {one other : Clause} {t : Bool} → Parents s v x y → one ≡ clause_at s x → other ≡ clause_at s y →
+    t ≡ any (opposite_in (tallied (replicate input_size 0) one) (signed_of true v)) other → t ≡ opposed (resolvent (clash_there s v x y))
+unfolding resolvent
+parts_opposed {s} {v} {x} {y} p i j h =
+    h ∙ rw (i, j, signed_small true v (omega (arith, p.small))) (opposed_is (clause_at s x) (clause_at s y) (pos v) p.one_proper p.other_proper (λ z m. (p.other_fits z m).1))
 
-  pub parts_inside : (x + 1 ≤ e) × (e ≤ length s) × (y + 1 ≤ f) × (f ≤ length s)
-  parts_inside = omega (arith, i, j, (formed_next s x p.one_stands.inside p.one_stands.place.rest).0, (formed_next s y p.other_stands.inside p.other_stands.place.rest).0)
+-- ---- one literal, by the comparison of bits
+module _ (t : List ℕ) (out l : ℤ) (a : SFits w32 out) (b : SFits w32 l) where
+  pub opposite_gone : of_z w32 out ≡ of_z w32 l → false ≡ opposite_in t out l
+  opposite_gone k = let d : same out l ≡ true = sym (same_bits out l a b) ∙ eq-eqb _ _ k in rw d refl
 
--- ---- one literal, by what `same` and `is_pure` answer
-module _ (t : List ℕ) (out l : ℤ) (a : SFits w32 out) (b : SFits w32 l) {r : Bool} (e : r ≡ same (to_z w32 (of_z w32 out)) (to_z w32 (of_z w32 l))) where
-  pub opposite_gone : r ≡ true → false ≡ opposite_in t out l
-  opposite_gone k = let d : same out l ≡ true = sym (at_arg2 same out l a b) ∙ sym e ∙ k in rw d refl
-
-  pub opposite_kept : {q : Bool} → r ≡ false → q ≡ pure_in t (to_z w32 (of_z w32 l)) → not q ≡ opposite_in t out l
-  opposite_kept k f = let d : same out l ≡ false = sym (at_arg2 same out l a b) ∙ sym e ∙ k in rw d (ap not (f ∙ at_arg (pure_in t) l b))
+  pub opposite_kept : {q : Bool} → (of_z w32 out ≡ of_z w32 l → ⊥) → q ≡ pure_in t (to_z w32 (of_z w32 l)) → not q ≡ opposite_in t out l
+  opposite_kept k f = let d : same out l ≡ false = sym (same_bits out l a b) ∙ ne_eqb _ _ k in rw d (ap not (f ∙ at_arg (pure_in t) l b))

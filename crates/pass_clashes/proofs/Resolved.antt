@@ -92,9 +92,6 @@ module _ {work : List ℤ} {newest : List ℕ} {p : Progress} {v x y : ℕ} (r :
     there : Holds (stored s ++ added_by c) new q.end
     there = grown_holds d r.good.formed
 
-    pub end_inside : q.end ≤ length new
-    end_inside = there.inside
-
     size : length t ≡ q.end
     size = length-take-le q.end new there.inside
 

@@ -25,7 +25,7 @@ use Rattle.theory_clearing.proofs.Clash.{IsClash, after_proper, after_fits, afte
 use Rattle.theory_clearing.proofs.Clashes.{clash_at_some}
 use Rattle.theory_clearing.proofs.Clashing.{clashes_some, clashes_after, clear_clashes_at, clear_clashes_none}
 use Rattle.marks.specs.Marks.{input_words, marked, lowest_from}
-use Rattle.marks.specs.declared.Lowest.TheVariants.{At, Nothing}
+use Rattle.std.proofs.Common.{Some, None}
 use Rattle.marks.proofs.Laws.{lowest_marked, none_past}
 use Rattle.tables.specs.Sizes.{input_reach, input_size}
 use Rattle.store.proofs.Laws.{few_stored}
@@ -79,7 +79,7 @@ module _ {step : ℕ} {work : List ℤ} {newest table weights m : List ℕ} {z :
   none_below v f k h = by_test (ltb k (32 * z.word)) (λ t. s.passed k (ltb-true k _ t)) (λ t. f k (ltb-false k _ t) h)
 
   -- none is marked
-  module _ (e : lowest_from m (32 * z.word) ≡ Nothing) where
+  module _ (e : lowest_from m (32 * z.word) ≡ None) where
     none_marked : (k : ℕ) → marked m k ≡ false
     none_marked k = none_below (k + 1) (λ i a _. (lowest_marked m (32 * z.word)).none_marked e i a) k (omega arith)
 
@@ -97,7 +97,7 @@ module _ {step : ℕ} {work : List ℤ} {newest table weights m : List ℕ} {z :
   none_fewer h = omega (arith, s.size)
 
   -- v is the lowest
-  module _ {v : ℕ} (e : lowest_from m (32 * z.word) ≡ At v) where
+  module _ {v : ℕ} (e : lowest_from m (32 * z.word) ≡ Some v) where
     lowest : (32 * z.word ≤ v) × (marked m v ≡ true) × ((k : ℕ) → 32 * z.word ≤ k → k < v → marked m k ≡ false)
     lowest = (lowest_marked m (32 * z.word)).found v e
 

@@ -22,7 +22,7 @@ use Rattle.theory_base.proofs.Sums.{sum_none}
 use Rattle.theory_base.proofs.Loops.{replicate_mem}
 use Rattle.theory_clearing.proofs.Clash.{IsClash, resolvent_parents, after_shorter, v_unresolved, negation_unresolved}
 use Rattle.theory_clearing.proofs.Weights.{weighs_kept, weighs_given, resolved-++}
-use Rattle.literals.specs.Literal.{signed_of, index_of}
+use Rattle.literals.specs.Literal.{index_of}
 use Rattle.literals.proofs.Laws.{signed_small}
 use Rattle.tables.specs.Sizes.{input_reach, input_size}
 use Rattle.tables.specs.Entries.{entry_of}
@@ -94,18 +94,6 @@ module _ (w : List ℕ) (l k x : ℤ) where
 
     pub answers_within : a + b + n ≤ weight w
     answers_within = omega (arith, sum_is, given_within)
-
-    pub answers_given : {new : List ℕ} → new ≡ set r (index_of x) (a + b + n + 1) → new ≡ given w l k x
-    answers_given i = i ∙ ap₂ (λ (q : List ℕ) (m : ℕ). set q (index_of x) (m + 1)) left_is sum_is
-
--- by what `weigh` tests
-pub reweighed_first : (w : List ℕ) (d : Clause) (v : ℕ) → 0 < length d → given w (signed_of false v) (signed_of true v) (get_or d 0 (pos 0)) ≡ reweighed w d v
-reweighed_first w [] v h = absurd (omega arith)
-reweighed_first w (x ∷ d) v h = refl
-
-pub reweighed_none : (w : List ℕ) (d : Clause) (v : ℕ) → length d ≤ 0 → w ≡ reweighed w d v
-reweighed_none w [] v h = refl
-reweighed_none w (x ∷ d) v h = absurd (omega arith)
 
 -- ---- one clash
 module _ (F : Formula) (v : ℕ) (one other : Clause) where

@@ -8,7 +8,6 @@ use Rattle.marks.specs.Marks.{marked}
 use Rattle.tables.specs.Sizes.{input_reach}
 use Rattle.tables.specs.Entries.{entry_of}
 use Rattle.tables.specs.Counts.{unique_by}
-use Rattle.store.specs.Store.{deleted_at, clause_at}
 
 -- the marks are exactly the variables that clash
 abbrev pub MarksClashes : Formula → List ℕ → Type 0
@@ -24,9 +23,9 @@ both t v = ltb 0 (entry_of t (signed_of false v)) && ltb 0 (entry_of t (signed_o
 abbrev pub MarkedBoth : List ℕ → List ℕ → Clause → List ℕ → Type 0
 MarkedBoth m t c new = (v : ℕ) → marked new v ≡ ((mentions c v && both t v) || marked m v)
 
--- the literals of the clause at a place if it is a unique literal clause by the table of counts, none if it is not or is deleted
-abbrev pub unique_part : List ℕ → List ℤ → ℕ → Clause
-unique_part counts s at = cond (deleted_at s at) [] (cond (unique_by counts (clause_at s at)) (clause_at s at) [])
+-- the literals of a clause if it is a unique literal clause by the table of counts, else none
+abbrev pub unique_part : List ℕ → Clause → Clause
+unique_part counts c = cond (unique_by counts c) c []
 
 -- table and marks where the clauses G of F are taken in
 pub record TakenIn (F G : Formula) (t m : List ℕ) : Type 0 where

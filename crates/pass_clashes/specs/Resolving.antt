@@ -26,18 +26,18 @@ use Rattle.pass_clashes.specs.Clashes.{clash_there, Clashing}
 abbrev pub opposite_in : List ℕ → ℤ → ℤ → Bool
 opposite_in t out l = not (same out l) && not (pure_in t l)
 
--- n literals of a store from a place on, without a variable or its negation
-abbrev pub part_without : List ℤ → ℕ → ℕ → Bool → ℕ → Clause
-part_without s from n is_negative v = without (signed_of is_negative v) (take n (drop from s))
+-- n literals of a store from a place on, without a literal
+abbrev pub part_without : List ℤ → ℕ → ℕ → ℤ → Clause
+part_without s from n out = without out (take n (drop from s))
 
 -- they are copied to another place; r is the one past them
-pub record Copied (work : List ℤ) (to from n : ℕ) (is_negative : Bool) (v : ℕ) (new : List ℤ) (r : ℕ) : Type 0 where
-  pub next : r ≡ to + length (part_without work from n is_negative v)
-  pub copied : new ≡ sets work to (part_without work from n is_negative v)
+pub record Copied (work : List ℤ) (to from n : ℕ) (out : ℤ) (new : List ℤ) (r : ℕ) : Type 0 where
+  pub next : r ≡ to + length (part_without work from n out)
+  pub copied : new ≡ sets work to (part_without work from n out)
 
 -- na literals of a store from a on without v, then nb from b on without -v
 abbrev pub joined : List ℤ → ℕ → ℕ → ℕ → ℕ → ℕ → Clause
-joined s a na b nb v = part_without s a na false v ++ part_without s b nb true v
+joined s a na b nb v = part_without s a na (signed_of false v) ++ part_without s b nb (signed_of true v)
 
 -- both parts lie before the end, and the entry of what they give fits behind it
 pub record Joinable (work : List ℤ) (end a na b nb v : ℕ) : Type 0 where

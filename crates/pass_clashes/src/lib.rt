@@ -3,6 +3,7 @@
 
 ghost use Rattle.std.specs.Prelude.{◌≡◌, true, false, [], ◌∷◌, ◌+◌, ◌≤◌, ◌<◌, ◌^◌, ltb, pos, nat_abs, length, take, drop, get_or, set, replicate};
 ghost use Rattle.std.proofs.lemmas.List.Edits.{sets};
+ghost use Rattle.std.specs.List.{list_any};
 ghost use Rattle.definition.specs.Lists.{any};
 ghost use Rattle.definition.specs.Literals.{without, opposed};
 ghost use Rattle.definition.specs.Events.{clash_cleared};
@@ -24,7 +25,6 @@ ghost use Rattle.pass_clashes.specs.Resolving.{opposite_in, part_without, Copied
 ghost use Rattle.pass_clashes.specs.Weights.{Weighed, reweighed, weight, Light, Reweighs};
 ghost use Rattle.pass_clashes.specs.Scan.{ClashReady, Searching, Scanned, turns_left};
 
-use marks::Lowest;
 use progress::Progress;
 
 // ---- marks of the variables that clash: a table has for each literal whether it stands in a unique literal clause
@@ -40,11 +40,7 @@ fn is_in(table: &[u32], is_negative: bool, v: u32) -> bool
 fn is_both(table: &[u32], v: u32) -> bool
     ensures { result ≡ both table.now v }
 {
-    if is_in(table, false, v) {
-        is_in(table, true, v)
-    } else {
-        false
-    }
+    is_in(table, false, v) && is_in(table, true, v)
 }
 
 // Marks the variable of a literal if the table has it with both signs.
@@ -63,28 +59,20 @@ fn mark_variables(marks: &mut [u32], table: &[u32], clause: &[i32])
     requires { FitAll input_reach clause.now × (length marks.old ≡ input_words) }
     ensures { MarkedBoth marks.old table.now clause.now marks.new }
 {
-    let mut i = 0;
-    while i < clause.len() {
-        mark_variable(marks, table, clause[i]);
-        i += 1;
+    for l in clause {
+        mark_variable(marks, table, *l);
     }
 }
 
-// Takes in the clause at a place, if it stands and is a unique literal clause: its literals into the table, and marks.
-fn mark_entry(marks: &mut [u32], table: &mut [u32], counts: &[u32], store: &[i32], at: usize)
-    requires at_in_bounds { (at < length store.now) × Formed (drop at store.now) }
-    requires fit_all { FitAll input_reach (unique_part counts.now store.now at) × (length marks.old ≡ input_words) }
-    ensures table { table.new ≡ with_entries table.old (unique_part counts.now store.now at) 1 }
-    ensures marks { MarkedBoth marks.old table.new (unique_part counts.now store.now at) marks.new }
+// Takes in a clause if it is a unique literal clause: its literals into the table, and marks.
+fn mark_clause(marks: &mut [u32], table: &mut [u32], counts: &[u32], clause: &[i32])
+    requires { FitAll input_reach (unique_part counts.now clause.now) × (length marks.old ≡ input_words) }
+    ensures table { table.new ≡ with_entries table.old (unique_part counts.now clause.now) 1 }
+    ensures marks { MarkedBoth marks.old table.new (unique_part counts.now clause.now) marks.new }
 {
-    if literals::is_negative(store[at]) {
-        return;
-    }
-    let next = store::next_at(store, at);
-    let first = at + 1;
-    if tables::is_unique(counts, &store[first..next]) {
-        tables::set_entries(table, &store[first..next], 1);
-        mark_variables(marks, table, &store[first..next]);
+    if tables::is_unique(counts, clause) {
+        tables::set_entries(table, clause, 1);
+        mark_variables(marks, table, clause);
     }
 }
 
@@ -94,10 +82,8 @@ fn mark_all(marks: &mut [u32], table: &mut [u32], counts: &[u32], store: &[i32])
     requires marks_value { (marks.old ≡ replicate input_words 0) × (table.old ≡ replicate input_size 0) }
     ensures { MarksClashes (stored store.now) marks.new }
 {
-    let mut at = 0;
-    while at < store.len() {
-        mark_entry(marks, table, counts, store, at);
-        at = store::next_at(store, at);
+    for clause in store::standing(store) {
+        mark_clause(marks, table, counts, clause);
     }
 }
 
@@ -117,28 +103,29 @@ fn mark_clashes(marks: &mut [u32], work: &[i32], p: Progress)
 fn unmark_variables(marks: &mut [u32], clause: &[i32])
     ensures { Unmarked marks.old clause.now marks.new }
 {
-    let mut i = 0;
-    while i < clause.len() {
-        marks::clear(marks, literals::variable(clause[i]));
-        i += 1;
+    for l in clause {
+        marks::clear(marks, literals::variable(*l));
     }
 }
 
 // ---- the clauses of a clash
 
-// Where the two clauses of a clash are.
+// A clash: its variable, and where its two clauses are, the one with the variable and the one with its negation.
 #[derive(Clone, Copy)]
-pub struct Places {
+pub struct Clash {
+    pub v: u32,
     pub one: usize,
     pub other: usize,
 }
 
-// The places of the clauses of a variable's clash.
-fn find_clash(work: &[i32], newest: &[u32], end: usize, v: u32) -> Places
+// The clash of a variable, with the places of its clauses.
+fn find_clash(work: &[i32], newest: &[u32], end: usize, v: u32) -> Clash
     requires { Indexed work.now end newest.now × (v ≤ input_reach) }
-    ensures { clashes (stored (take end work.now)) v ≡ true → Clashing (take end work.now) v result.one result.other }
+    ensures variable { result.v ≡ v }
+    ensures places { clashes (stored (take end work.now)) v ≡ true → Clashing (take end work.now) v result.one result.other }
 {
-    Places {
+    Clash {
+        v,
         one: lookup::place_with(work, newest, end, literals::signed(false, v)),
         other: lookup::place_with(work, newest, end, literals::signed(true, v)),
     }
@@ -150,24 +137,14 @@ fn find_clash(work: &[i32], newest: &[u32], end: usize, v: u32) -> Places
 fn is_opposite(table: &[u32], gone: i32, l: i32) -> bool
     ensures { result ≡ opposite_in table.now gone l }
 {
-    if literals::same(gone, l) {
-        return false;
-    }
-    !tables::is_pure(table, l)
+    gone != l && !tables::is_pure(table, l)
 }
 
 // Whether the negation of a literal of a clause, without one literal, is counted.
 fn any_opposite(table: &[u32], gone: i32, clause: &[i32]) -> bool
-    ensures { result ≡ any (opposite_in table.now gone) clause.now }
+    ensures { result ≡ list_any (opposite_in table.now gone) clause.now }
 {
-    let mut i = 0;
-    while i < clause.len() {
-        if is_opposite(table, gone, clause[i]) {
-            return true;
-        }
-        i += 1;
-    }
-    false
+    clause.iter().any(|l| is_opposite(table, gone, *l))
 }
 
 // Whether a clause, without -v, has a literal whose negation is in another clause. The table of zeros is lent.
@@ -189,109 +166,92 @@ fn copy_one(work: &mut [i32], to: usize, from: usize, gone: i32) -> usize
     ensures copied { work.new ≡ sets work.old to (without gone (get_or work.old from (pos 0) ∷ [])) }
 {
     let l = work[from];
-    if literals::same(gone, l) {
+    if gone == l {
         return to;
     }
     work[to] = l;
     to + 1
 }
 
-// Copies n elements further on, without a variable or its negation; the result is the place past them.
-fn copy_without(
-    work: &mut [i32],
-    to: usize,
+// A part of the list: where it begins, and how many elements it has.
+#[derive(Clone, Copy)]
+struct Part {
     from: usize,
-    n: usize,
-    is_negative: bool,
-    v: u32,
-) -> usize
-    requires { (from + n ≤ to) × (to + length (part_without work.old from n is_negative v) ≤ length work.old) }
-    ensures { Copied work.old to from n is_negative v work.new result }
+    len: usize,
+}
+
+// Copies a part further on, without a literal; the result is the place past it.
+fn copy_without(work: &mut [i32], to: usize, part: Part, gone: i32) -> usize
+    requires { (part.from + part.len ≤ to) × (to + length (part_without work.old part.from part.len gone) ≤ length work.old) }
+    ensures { Copied work.old to part.from part.len gone work.new result }
 {
-    let gone = literals::signed(is_negative, v);
     let mut end = to;
-    let mut i = 0;
-    while i < n {
-        end = copy_one(work, end, from + i, gone);
-        i += 1;
+    for i in 0..part.len {
+        end = copy_one(work, end, part.from + i, gone);
     }
     end
 }
 
-// Writes the entry of a resolvent at the end of what is filled: na literals from a on without v, then nb from b on without -v.
-fn append_resolvent(
-    work: &mut [i32],
-    end: usize,
-    a: usize,
-    na: usize,
-    b: usize,
-    nb: usize,
-    v: u32,
-) -> usize
-    requires { Joinable work.old end a na b nb v }
-    ensures next { result ≡ end + (length (joined work.old a na b nb v) + 1) }
-    ensures written { work.new ≡ sets work.old end (entry (joined work.old a na b nb v)) }
+// Writes the entry of a resolvent at the end of what is filled: the literals of one clause without v, then those of the other without -v.
+fn append_resolvent(work: &mut [i32], end: usize, one: Part, other: Part, v: u32) -> usize
+    requires { Joinable work.old end one.from one.len other.from other.len v }
+    ensures next { result ≡ end + (length (joined work.old one.from one.len other.from other.len v) + 1) }
+    ensures written { work.new ≡ sets work.old end (entry (joined work.old one.from one.len other.from other.len v)) }
 {
     let first = end + 1;
-    let c = copy_without(work, first, a, na, false, v);
-    let d = copy_without(work, c, b, nb, true, v);
+    let c = copy_without(work, first, one, literals::signed(false, v));
+    let d = copy_without(work, c, other, literals::signed(true, v));
     work[end] = literals::header(d - first);
     d
 }
 
-// Whether the resolvent of the clauses at x and y has a literal and its negation.
-fn is_tautology(table: &mut [u32], store: &[i32], v: u32, x: usize, y: usize) -> bool
-    requires { Parents store.now v x y × (length store.now < 2 ^ 31) × (table.old ≡ replicate input_size 0) }
-    ensures answer { result ≡ opposed (resolvent (clash_there store.now v x y)) }
+// Whether the resolvent of a clash has a literal and its negation.
+fn is_tautology(table: &mut [u32], store: &[i32], clash: Clash) -> bool
+    requires { Parents store.now clash.v clash.one clash.other × (length store.now < 2 ^ 31) × (table.old ≡ replicate input_size 0) }
+    ensures answer { result ≡ opposed (resolvent (clash_there store.now clash.v clash.one clash.other)) }
     ensures table { table.new ≡ replicate input_size 0 }
 {
-    let a = x + 1;
-    let b = y + 1;
-    let past_a = store::next_at(store, x);
-    let past_b = store::next_at(store, y);
-    is_opposed(table, &store[a..past_a], v, &store[b..past_b])
+    let one = store::clause_at(store, clash.one);
+    let other = store::clause_at(store, clash.other);
+    is_opposed(table, one, clash.v, other)
 }
 
 // ---- one clash
 
-// Adds the resolvent of the clauses at x and y, which is no tautology, and records it.
+// Adds the resolvent of a clash, which is no tautology, and records it.
 fn add_resolvent(
     work: &mut [i32],
     newest: &mut [u32],
     log: &mut [u8],
     p: Progress,
-    v: u32,
-    x: usize,
-    y: usize,
+    clash: Clash,
 ) -> Progress
-    requires resolvable { Resolvable work.old newest.old p v x y }
-    requires y_value { opposed (resolvent (clash_there (take p.end work.old) v x y)) ≡ false }
-    ensures { Grown (added_by (clash_there (take p.end work.old) v x y)) work.old newest.old log.old p work.new newest.new log.new result }
+    requires resolvable { Resolvable work.old newest.old p clash.v clash.one clash.other }
+    requires y_value { opposed (resolvent (clash_there (take p.end work.old) clash.v clash.one clash.other)) ≡ false }
+    ensures { Grown (added_by (clash_there (take p.end work.old) clash.v clash.one clash.other)) work.old newest.old log.old p work.new newest.new log.new result }
 {
-    let a = x + 1;
-    let b = y + 1;
-    let past_a = store::next_at(work, x);
-    let past_b = store::next_at(work, y);
-    let end = p.end;
-    let next = append_resolvent(work, end, a, past_a - a, b, past_b - b, v);
+    let a = clash.one + 1;
+    let b = clash.other + 1;
+    let one = Part {
+        from: a,
+        len: store::next_at(work, clash.one) - a,
+    };
+    let other = Part {
+        from: b,
+        len: store::next_at(work, clash.other) - b,
+    };
+    let next = append_resolvent(work, p.end, one, other, clash.v);
     progress::record_added(work, newest, log, p, next)
 }
 
-// Deletes the two clauses of a clash: that with v at x, that with -v at y.
-fn delete_parents(
-    store: &mut [i32],
-    log: &mut [u8],
-    p: Progress,
-    v: u32,
-    x: usize,
-    y: usize,
-) -> Progress
-    requires parents { Parents store.old v x y }
-    requires log_room { LogRoom (parent_lines (clash_there store.old v x y)) p }
-    ensures { ParentsGone (clash_there store.old v x y) store.old log.old p store.new log.new result }
+// Deletes the two clauses of a clash, each recorded with the clash's literal first.
+fn delete_parents(store: &mut [i32], log: &mut [u8], p: Progress, clash: Clash) -> Progress
+    requires parents { Parents store.old clash.v clash.one clash.other }
+    requires log_room { LogRoom (parent_lines (clash_there store.old clash.v clash.one clash.other)) p }
+    ensures { ParentsGone (clash_there store.old clash.v clash.one clash.other) store.old log.old p store.new log.new result }
 {
-    let q = progress::delete_first(store, x, log, p, literals::signed(false, v));
-    progress::delete_first(store, y, log, q, literals::signed(true, v))
+    let q = progress::delete_first(store, clash.one, log, p, literals::signed(false, clash.v));
+    progress::delete_first(store, clash.other, log, q, literals::signed(true, clash.v))
 }
 
 // Clears the marks of the variables of the clause at a place.
@@ -299,9 +259,7 @@ fn unmark_entry(marks: &mut [u32], store: &[i32], at: usize)
     requires { (at < length store.now) × Formed (drop at store.now) }
     ensures { Unmarked marks.old (clause_at store.now at) marks.new }
 {
-    let next = store::next_at(store, at);
-    let first = at + 1;
-    unmark_variables(marks, &store[first..next]);
+    unmark_variables(marks, store::clause_at(store, at));
 }
 
 // Takes the weight of a variable or its negation away; the result is what it was.
@@ -320,15 +278,15 @@ fn weigh(weights: &mut [u32], clause: &[i32], v: u32)
     requires { weight weights.old < 2 ^ 31 }
     ensures { weights.new ≡ reweighed weights.old clause.now v }
 {
-    if 0 < clause.len() {
+    if let Some(first) = clause.first() {
         let a = take_weight(weights, false, v);
         let b = take_weight(weights, true, v);
-        let n = tables::entry_of(weights, clause[0]);
-        tables::set_entry(weights, clause[0], a + b + n + 1);
+        let n = tables::entry_of(weights, *first);
+        tables::set_entry(weights, *first, a + b + n + 1);
     }
 }
 
-// Clears the clash of v whose clauses are at x and y, and the marks of the clashes that end with it: that of v; where the resolvent is not added, those of all variables of the two clauses. A resolvent that is added is weighed.
+// Clears a clash, and the marks of the clashes that end with it: its own; where the resolvent is not added, those of all variables of the two clauses. A resolvent that is added is weighed.
 fn resolve(
     work: &mut [i32],
     newest: &mut [u32],
@@ -337,29 +295,27 @@ fn resolve(
     log: &mut [u8],
     marks: &mut [u32],
     p: Progress,
-    v: u32,
-    x: usize,
-    y: usize,
+    clash: Clash,
 ) -> Progress
-    requires { Resolvable work.old newest.old p v x y × (table.old ≡ replicate input_size 0) × Light (standing work.old p) weights.old }
-    ensures runs { Runs (clash_cleared (clash_there (take p.end work.old) v x y) ∷ []) work.old log.old p work.new log.new result }
-    ensures ended { Ended (clash_there (take p.end work.old) v x y) marks.old marks.new }
+    requires { Resolvable work.old newest.old p clash.v clash.one clash.other × (table.old ≡ replicate input_size 0) × Light (standing work.old p) weights.old }
+    ensures runs { Runs (clash_cleared (clash_there (take p.end work.old) clash.v clash.one clash.other) ∷ []) work.old log.old p work.new log.new result }
+    ensures ended { Ended (clash_there (take p.end work.old) clash.v clash.one clash.other) marks.old marks.new }
     ensures indexed { Indexed work.new result.end newest.new }
     ensures table { table.new ≡ replicate input_size 0 }
-    ensures weights { Reweighs (clash_cleared (clash_there (take p.end work.old) v x y) ∷ []) (standing work.old p) weights.old (standing work.new result) weights.new }
+    ensures weights { Reweighs (clash_cleared (clash_there (take p.end work.old) clash.v clash.one clash.other) ∷ []) (standing work.old p) weights.old (standing work.new result) weights.new }
 {
     let end = p.end;
-    if is_tautology(table, &work[..end], v, x, y) {
-        unmark_entry(marks, &work[..end], x);
-        unmark_entry(marks, &work[..end], y);
-        return delete_parents(&mut work[..end], log, p, v, x, y);
+    if is_tautology(table, &work[..end], clash) {
+        unmark_entry(marks, &work[..end], clash.one);
+        unmark_entry(marks, &work[..end], clash.other);
+        return delete_parents(&mut work[..end], log, p, clash);
     }
-    marks::clear(marks, v);
-    let q = add_resolvent(work, newest, log, p, v, x, y);
+    marks::clear(marks, clash.v);
+    let q = add_resolvent(work, newest, log, p, clash);
     let grown = q.end;
     let first = end + 1;
-    weigh(weights, &work[first..grown], v);
-    delete_parents(&mut work[..grown], log, q, v, x, y)
+    weigh(weights, &work[first..grown], clash.v);
+    delete_parents(&mut work[..grown], log, q, clash)
 }
 
 // ---- all clashes
@@ -388,19 +344,16 @@ fn clear_next(
 {
     let before = s.progress;
     match marks::lowest_from(marks, s.word) {
-        Lowest::At(v) => {
+        Some(v) => {
             let p = progress::make_room(work, newest, before, step);
             let end = p.end;
-            let at = find_clash(work, newest, end, v);
-            let x = at.one;
-            let y = at.other;
-            let q = resolve(work, newest, table, weights, log, marks, p, v, x, y);
+            let clash = find_clash(work, newest, end, v);
             Scan {
-                progress: q,
+                progress: resolve(work, newest, table, weights, log, marks, p, clash),
                 word: marks::word_of(v),
             }
         }
-        Lowest::Nothing => Scan {
+        None => Scan {
             progress: before,
             word: marks.len(),
         },
@@ -429,6 +382,7 @@ fn clear_marked(
         progress: p,
         word: 0,
     };
+    // no loop over the words, since the lowest mark left may be in the same word
     while s.word < marks.len() {
         s = clear_next(work, newest, table, weights, log, marks, s, step);
     }

@@ -1,7 +1,8 @@
 -- A choice that is taken out of a store.
-use Rattle.std.specs.Prelude.{◌≡◌, List, [], ◌∷◌, ℕ, ◌+◌, ℤ, take, drop}
+use Rattle.std.specs.Prelude.{◌≡◌, List, [], ◌∷◌, ℕ, ◌+◌, ◌≤◌, ℤ, length, take, drop}
 use Rattle.definition.specs.Literals.{Clause, literals_of}
 use Rattle.definition.specs.Text.{Bytes}
+use Rattle.definition.specs.Events as Events
 use Rattle.definition.specs.Events.{choice_of}
 use Rattle.definition.specs.Counter.{counter, take_choice}
 use Rattle.definition.specs.Calls.{numbers_of}
@@ -12,6 +13,7 @@ use Rattle.tables.specs.Places.{Small}
 use Rattle.store.specs.Store.{stored, Place}
 use Rattle.index.specs.Index.{nodes, Indexed, Roomy}
 use Rattle.progress.specs.declared.Progress.{Progress}
+use Rattle.pass_counter.specs.declared.Choice.{Choice}
 use Rattle.progress.specs.Progress.{standing, Good, Runs}
 
 -- what the taking of a choice needs
@@ -36,3 +38,11 @@ pub record Taken (work : List ℤ) (newest : List ℕ) (l : Clause) (below : ℕ
   pub filled : r.end ≡ p.end + numbers_of (counter (choice_of l below))
   pub indexed : Indexed new_work r.end new_newest
   pub nodes_are : nodes new_newest ≡ nodes newest + literals_of (counter (choice_of l below))
+
+-- ---- a choice as the code has it
+
+abbrev pub choice_in : Choice → Events.Choice
+choice_in c = choice_of c.literals.now c.below
+
+abbrev pub SmallChoice : Choice → Type 0
+SmallChoice c = Small c.literals.now c.below × (2 ≤ length c.literals.now)

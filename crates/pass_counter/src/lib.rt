@@ -4,7 +4,6 @@
 ghost use Rattle.std.specs.Prelude.{◌≡◌, [], ◌∷◌, ◌-◌, ◌≤◌, length, take, replicate};
 ghost use Rattle.definition.specs.Lists.{for_from};
 ghost use Rattle.definition.specs.Standing.{take_out};
-ghost use Rattle.definition.specs.Events.{choice_of};
 ghost use Rattle.definition.specs.Counter.{counter, stage_2, stage_3};
 ghost use Rattle.theory_base.specs.Clauses.{FitAll};
 ghost use Rattle.tables.specs.Sizes.{input_reach};
@@ -13,44 +12,19 @@ ghost use Rattle.store.specs.Store.{stored};
 ghost use Rattle.index.specs.Index.{Indexed};
 ghost use Rattle.progress.specs.Growth.{GrowRoom, Grown};
 ghost use Rattle.pairs.specs.Pairs.{slots, PairsTaken};
-ghost use Rattle.pass_counter.specs.Choice.{ChoiceReady, Taken};
+ghost use Rattle.pass_counter.specs.Choice.{ChoiceReady, Taken, SmallChoice, choice_in};
 ghost use Rattle.pass_counter.specs.Links.{link_2, link_3};
 
+use drat::ProofLine;
 use progress::Progress;
 
 // ---- the counter clauses
 
-// Adds a clause of two literals.
-fn put_two(
-    work: &mut [i32],
-    newest: &mut [u32],
-    log: &mut [u8],
-    p: Progress,
-    a: i32,
-    b: i32,
-) -> Progress
-    requires { GrowRoom ((a ∷ b ∷ []) ∷ []) work.old newest.old p }
-    ensures { Grown ((a ∷ b ∷ []) ∷ []) work.old newest.old log.old p work.new newest.new log.new result }
-{
-    let clause = [a, b];
-    progress::add_clause(work, newest, log, p, &clause)
-}
-
-// Adds a clause of three literals.
-fn put_three(
-    work: &mut [i32],
-    newest: &mut [u32],
-    log: &mut [u8],
-    p: Progress,
-    a: i32,
-    b: i32,
-    c: i32,
-) -> Progress
-    requires { GrowRoom ((a ∷ b ∷ c ∷ []) ∷ []) work.old newest.old p }
-    ensures { Grown ((a ∷ b ∷ c ∷ []) ∷ []) work.old newest.old log.old p work.new newest.new log.new result }
-{
-    let clause = [a, b, c];
-    progress::add_clause(work, newest, log, p, &clause)
+// A choice: its literals, and the variable before its first new one.
+#[derive(Clone, Copy)]
+struct Choice<'a> {
+    literals: &'a [i32],
+    below: u32,
 }
 
 // Adds the clauses of stage 2 of the literal at a place, from 2 on.
@@ -59,23 +33,22 @@ fn put_link_2(
     newest: &mut [u32],
     log: &mut [u8],
     p: Progress,
-    choice: &[i32],
-    below: u32,
+    choice: &Choice,
     i: usize,
 ) -> Progress
-    requires small { Small choice.now below × (2 ≤ i) × (i ≤ length choice.now) }
-    requires grow_room { GrowRoom (link_2 (choice_of choice.now below) i) work.old newest.old p }
-    ensures { Grown (link_2 (choice_of choice.now below) i) work.old newest.old log.old p work.new newest.new log.new result }
+    requires small { Small choice.now.literals.now choice.now.below × (2 ≤ i) × (i ≤ length choice.now.literals.now) }
+    requires grow_room { GrowRoom (link_2 (choice_in choice.now) i) work.old newest.old p }
+    ensures { Grown (link_2 (choice_in choice.now) i) work.old newest.old log.old p work.new newest.new log.new result }
 {
-    let n = below + i as u32;
+    let n = choice.below + i as u32;
     let s = literals::signed(false, n);
     let not_s = literals::signed(true, n);
     let before = literals::signed(false, n - 1);
     let not_before = literals::signed(true, n - 1);
-    let l = choice[i - 1];
-    let a = put_three(work, newest, log, p, not_s, before, l);
-    let b = put_two(work, newest, log, a, s, not_before);
-    put_two(work, newest, log, b, s, literals::negated(l))
+    let l = choice.literals[i - 1];
+    let a = progress::add_clause(work, newest, log, p, &[not_s, before, l]);
+    let b = progress::add_clause(work, newest, log, a, &[s, not_before]);
+    progress::add_clause(work, newest, log, b, &[s, literals::negated(l)])
 }
 
 // Adds the clause of stage 3 of the literal at a place, from 2 on.
@@ -84,17 +57,16 @@ fn put_link_3(
     newest: &mut [u32],
     log: &mut [u8],
     p: Progress,
-    choice: &[i32],
-    below: u32,
+    choice: &Choice,
     i: usize,
 ) -> Progress
-    requires small { Small choice.now below × (2 ≤ i) × (i ≤ length choice.now) }
-    requires grow_room { GrowRoom (link_3 (choice_of choice.now below) i) work.old newest.old p }
-    ensures { Grown (link_3 (choice_of choice.now below) i) work.old newest.old log.old p work.new newest.new log.new result }
+    requires small { Small choice.now.literals.now choice.now.below × (2 ≤ i) × (i ≤ length choice.now.literals.now) }
+    requires grow_room { GrowRoom (link_3 (choice_in choice.now) i) work.old newest.old p }
+    ensures { Grown (link_3 (choice_in choice.now) i) work.old newest.old log.old p work.new newest.new log.new result }
 {
-    let not_l = literals::negated(choice[i - 1]);
-    let not_s = literals::signed(true, below + i as u32 - 1);
-    put_two(work, newest, log, p, not_l, not_s)
+    let not_l = literals::negated(choice.literals[i - 1]);
+    let not_s = literals::signed(true, choice.below + i as u32 - 1);
+    progress::add_clause(work, newest, log, p, &[not_l, not_s])
 }
 
 // Adds the clauses of stage 2 of the literals between the first and the last.
@@ -103,18 +75,15 @@ fn put_links_2(
     newest: &mut [u32],
     log: &mut [u8],
     p: Progress,
-    choice: &[i32],
-    below: u32,
+    choice: &Choice,
 ) -> Progress
-    requires small { Small choice.now below × (2 ≤ length choice.now) }
-    requires grow_room { GrowRoom (for_from 2 (length choice.now - 2) (link_2 (choice_of choice.now below))) work.old newest.old p }
-    ensures { Grown (for_from 2 (length choice.now - 2) (link_2 (choice_of choice.now below))) work.old newest.old log.old p work.new newest.new log.new result }
+    requires small { SmallChoice choice.now }
+    requires grow_room { GrowRoom (for_from 2 (length choice.now.literals.now - 2) (link_2 (choice_in choice.now))) work.old newest.old p }
+    ensures { Grown (for_from 2 (length choice.now.literals.now - 2) (link_2 (choice_in choice.now))) work.old newest.old log.old p work.new newest.new log.new result }
 {
     let mut q = p;
-    let mut i = 2;
-    while i < choice.len() {
-        q = put_link_2(work, newest, log, q, choice, below, i);
-        i += 1;
+    for i in 2..choice.literals.len() {
+        q = put_link_2(work, newest, log, q, choice, i);
     }
     q
 }
@@ -125,18 +94,15 @@ fn put_links_3(
     newest: &mut [u32],
     log: &mut [u8],
     p: Progress,
-    choice: &[i32],
-    below: u32,
+    choice: &Choice,
 ) -> Progress
-    requires small { Small choice.now below × (2 ≤ length choice.now) }
-    requires grow_room { GrowRoom (for_from 2 (length choice.now - 1) (link_3 (choice_of choice.now below))) work.old newest.old p }
-    ensures { Grown (for_from 2 (length choice.now - 1) (link_3 (choice_of choice.now below))) work.old newest.old log.old p work.new newest.new log.new result }
+    requires small { SmallChoice choice.now }
+    requires grow_room { GrowRoom (for_from 2 (length choice.now.literals.now - 1) (link_3 (choice_in choice.now))) work.old newest.old p }
+    ensures { Grown (for_from 2 (length choice.now.literals.now - 1) (link_3 (choice_in choice.now))) work.old newest.old log.old p work.new newest.new log.new result }
 {
     let mut q = p;
-    let mut i = 2;
-    while i <= choice.len() {
-        q = put_link_3(work, newest, log, q, choice, below, i);
-        i += 1;
+    for i in 2..=choice.literals.len() {
+        q = put_link_3(work, newest, log, q, choice, i);
     }
     q
 }
@@ -147,25 +113,18 @@ fn put_stage_2(
     newest: &mut [u32],
     log: &mut [u8],
     p: Progress,
-    choice: &[i32],
-    below: u32,
+    choice: &Choice,
 ) -> Progress
-    requires small { Small choice.now below × (2 ≤ length choice.now) }
-    requires grow_room { GrowRoom (stage_2 (choice_of choice.now below)) work.old newest.old p }
-    ensures { Grown (stage_2 (choice_of choice.now below)) work.old newest.old log.old p work.new newest.new log.new result }
+    requires small { SmallChoice choice.now }
+    requires grow_room { GrowRoom (stage_2 (choice_in choice.now)) work.old newest.old p }
+    ensures { Grown (stage_2 (choice_in choice.now)) work.old newest.old log.old p work.new newest.new log.new result }
 {
-    let s = below + 1;
-    let l = choice[0];
-    let a = put_two(work, newest, log, p, literals::signed(true, s), l);
-    let b = put_two(
-        work,
-        newest,
-        log,
-        a,
-        literals::signed(false, s),
-        literals::negated(l),
-    );
-    put_links_2(work, newest, log, b, choice, below)
+    let s = literals::signed(false, choice.below + 1);
+    let not_s = literals::signed(true, choice.below + 1);
+    let l = choice.literals[0];
+    let a = progress::add_clause(work, newest, log, p, &[not_s, l]);
+    let b = progress::add_clause(work, newest, log, a, &[s, literals::negated(l)]);
+    put_links_2(work, newest, log, b, choice)
 }
 
 // Adds the clauses of stage 3.
@@ -174,24 +133,16 @@ fn put_stage_3(
     newest: &mut [u32],
     log: &mut [u8],
     p: Progress,
-    choice: &[i32],
-    below: u32,
+    choice: &Choice,
 ) -> Progress
-    requires small { Small choice.now below × (2 ≤ length choice.now) }
-    requires grow_room { GrowRoom (stage_3 (choice_of choice.now below)) work.old newest.old p }
-    ensures { Grown (stage_3 (choice_of choice.now below)) work.old newest.old log.old p work.new newest.new log.new result }
+    requires small { SmallChoice choice.now }
+    requires grow_room { GrowRoom (stage_3 (choice_in choice.now)) work.old newest.old p }
+    ensures { Grown (stage_3 (choice_in choice.now)) work.old newest.old log.old p work.new newest.new log.new result }
 {
-    let last = choice.len() - 1;
-    let s = below + last as u32;
-    let a = put_links_3(work, newest, log, p, choice, below);
-    put_two(
-        work,
-        newest,
-        log,
-        a,
-        literals::signed(false, s),
-        choice[last],
-    )
+    let last = choice.literals.len() - 1;
+    let s = literals::signed(false, choice.below + last as u32);
+    let a = put_links_3(work, newest, log, p, choice);
+    progress::add_clause(work, newest, log, a, &[s, choice.literals[last]])
 }
 
 // Adds the counter clauses of a choice.
@@ -200,15 +151,14 @@ fn put_counter(
     newest: &mut [u32],
     log: &mut [u8],
     p: Progress,
-    choice: &[i32],
-    below: u32,
+    choice: &Choice,
 ) -> Progress
-    requires small { Small choice.now below × (2 ≤ length choice.now) }
-    requires grow_room { GrowRoom (counter (choice_of choice.now below)) work.old newest.old p }
-    ensures { Grown (counter (choice_of choice.now below)) work.old newest.old log.old p work.new newest.new log.new result }
+    requires small { SmallChoice choice.now }
+    requires grow_room { GrowRoom (counter (choice_in choice.now)) work.old newest.old p }
+    ensures { Grown (counter (choice_in choice.now)) work.old newest.old log.old p work.new newest.new log.new result }
 {
-    let q = put_stage_2(work, newest, log, p, choice, below);
-    put_stage_3(work, newest, log, q, choice, below)
+    let q = put_stage_2(work, newest, log, p, choice);
+    put_stage_3(work, newest, log, q, choice)
 }
 
 // ---- the choice
@@ -248,8 +198,9 @@ pub fn take_choice(
 {
     let end = p.end;
     clear_store(work, newest, end, literals, places, counts);
-    let a = put_counter(work, newest, log, p, literals, below);
-    let b = progress::record_line(log, a, true, literals);
+    let choice = Choice { literals, below };
+    let a = put_counter(work, newest, log, p, &choice);
+    let b = progress::record_line(log, a, ProofLine::Deletion(literals));
     let r = pairs::record_pairs(log, b, counts, literals);
     pairs::clear_counts(counts, literals);
     r

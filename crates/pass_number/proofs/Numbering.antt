@@ -2,16 +2,15 @@
 use mathlib.Core.Path.{◌≡◌, refl, sym, ap, ◌∙◌}
 use mathlib.Core.List.Memᴰ
 use mathlib.Core.List.Memᴰ.{head as here}
-use mathlib.Core.List.{List, [], ◌∷◌, ◌++◌}
+use mathlib.Core.List.{List, [], ◌∷◌, ◌++◌, map-append}
 use Prim.Native.Nat.{ℕ, ◌+◌, ◌*◌, ◌-◌, ◌≤◌, ◌^◌}
 use native.Mathlib.Omega.{arith}
-use lib.ListN.{length, length-append}
+use lib.ListN.{length, set, length-append, length-map}
 use lib.Seq.{sets, length-sets}
-use Rattle.definition.specs.Lists.{for_each, sum_of}
+use Rattle.definition.specs.Lists.{sum_of}
 use Rattle.definition.specs.Literals.{Clause}
 use Rattle.definition.specs.Events.{TableRecord}
 use Rattle.definition.specs.Counter.{below_new, last_new}
-use Rattle.theory_base.proofs.Loops.{for_each-++}
 use Rattle.theory_base.proofs.Slices.{sets_then}
 use Rattle.theory_base.proofs.Sums.{sum_most}
 use Rattle.theory_counter.proofs.NewVariables.{below_new_least}
@@ -20,16 +19,12 @@ use Rattle.theory_room.proofs.Lines.{used_least, used-++}
 use Rattle.theory_run.specs.Table.{taken_records}
 use Rattle.theory_run.proofs.Table.{taken_records_length}
 use Rattle.tables.specs.Entries.{entry_of}
-use Rattle.records.specs.Rows.{rows_of}
+use Rattle.records.specs.declared.ChoiceRecord.{ChoiceRecord}
+use Rattle.records.specs.Rows.{shown_record, rows_of}
 use Rattle.pass_number.specs.declared.Numbered.{Numbered}
 use Rattle.pass_number.specs.Numbering.{weighed, Numberable, Numbers}
 
 -- ---- rows
-
-length_rows : (rs : List TableRecord) → length (rows_of rs) ≡ 3 * length rs
-unfolding rows_of for_each
-length_rows [] = refl
-length_rows (r ∷ rs) = omega (arith, length_rows rs)
 
 taken-++ : (g : ℕ) (order : Clause → Clause) (count : Clause → ℕ) (n : ℕ) (cs ds : List Clause) →
     taken_records g order count n (cs ++ ds) ≡ taken_records g order count n cs ++ taken_records g order count (used_after g order n cs) ds
@@ -40,47 +35,46 @@ taken-++ g order count n (c ∷ cs) ds =
     ap (λ (rs : List TableRecord). record { first = k.below + 1; length = length k.literals; clauses = count c } ∷ rs) (taken-++ g order count (last_new k) cs ds)
 
 -- the rows of choices
-abbrev rows_for : ℕ → List ℕ → ℕ → List Clause → List ℕ
+abbrev rows_for : ℕ → List ℕ → ℕ → List Clause → List ChoiceRecord
 rows_for g w n ls = rows_of (taken_records g (λ l. l) (weighed w) n ls)
 
-rows_for_length : (g : ℕ) (w : List ℕ) (n : ℕ) (ls : List Clause) → length (rows_for g w n ls) ≡ 3 * length ls
-rows_for_length g w n ls = omega (arith, length_rows (taken_records g (λ l. l) (weighed w) n ls), taken_records_length g (λ l. l) (weighed w) n ls)
+rows_for_length : (g : ℕ) (w : List ℕ) (n : ℕ) (ls : List Clause) → length (rows_for g w n ls) ≡ length ls
+rows_for_length g w n ls = omega (arith, length-map (taken_records g (λ l. l) (weighed w) n ls) shown_record, taken_records_length g (λ l. l) (weighed w) n ls)
 
 rows_for-++ : (g : ℕ) (w : List ℕ) (n : ℕ) (ls ks : List Clause) → rows_for g w n (ls ++ ks) ≡ rows_for g w n ls ++ rows_for g w (used_after g (λ l. l) n ls) ks
-unfolding rows_of
 rows_for-++ g w n ls ks =
     ap rows_of (taken-++ g (λ l. l) (weighed w) n ls ks)
-    ∙ for_each-++ (taken_records g (λ l. l) (weighed w) n ls) (taken_records g (λ l. l) (weighed w) (used_after g (λ l. l) n ls) ks) _
+    ∙ map-append shown_record (taken_records g (λ l. l) (weighed w) n ls) (taken_records g (λ l. l) (weighed w) (used_after g (λ l. l) n ls) ks)
 
 -- ---- no choice, and one part after another
 
-pub none_numbered : (g : ℕ) (w rows : List ℕ) (m : Numbered) → Numbers g [] w rows m.highest m.choices rows m
-unfolding used_after taken_records rows_of for_each
+pub none_numbered : (g : ℕ) (w : List ℕ) (rows : List ChoiceRecord) (m : Numbered) → Numbers g [] w rows m.highest m.choices rows m
+unfolding used_after taken_records
 none_numbered g w rows m = record { choices = omega arith; highest = refl; written = refl }
 
-module _ {g : ℕ} {ls : List Clause} {w rows : List ℕ} {n m : ℕ} {new : List ℕ} {r : Numbered} (a : Numbers g ls w rows n m new r) where
+module _ {g : ℕ} {ls : List Clause} {w : List ℕ} {rows : List ChoiceRecord} {n m : ℕ} {new : List ChoiceRecord} {r : Numbered} (a : Numbers g ls w rows n m new r) where
   pub numbered_length : length new ≡ length rows
-  numbered_length = ap length a.written ∙ length-sets rows (3 * m) (rows_for g w n ls)
+  numbered_length = ap length a.written ∙ length-sets rows m (rows_for g w n ls)
 
-  pub numbers_join : {ks : List Clause} {last : List ℕ} {q : Numbered} → Numbers g ks w new r.highest r.choices last q → Numbers g (ls ++ ks) w rows n m last q
+  pub numbers_join : {ks : List Clause} {last : List ChoiceRecord} {q : Numbered} → Numbers g ks w new r.highest r.choices last q → Numbers g (ls ++ ks) w rows n m last q
   numbers_join {ks} b =
       let front = rows_for g w n ls in
       let behind = rows_for g w (used_after g (λ l. l) n ls) ks in
-      let place : 3 * r.choices ≡ 3 * m + length front = omega (arith, a.choices, rows_for_length g w n ls) in
+      let place : r.choices ≡ m + length front = omega (arith, a.choices, rows_for_length g w n ls) in
       record {
         choices = omega (arith, a.choices, b.choices, length-append ls ks);
         highest = b.highest ∙ ap (λ (k : ℕ). used_after g (λ l. l) k ks) a.highest ∙ sym (used-++ g (λ l. l) n ls ks);
         written = b.written
-            ∙ ap (λ (k : ℕ). sets new (3 * r.choices) (rows_for g w k ks)) a.highest
-            ∙ ap (λ (x : List ℕ). sets x (3 * r.choices) behind) a.written
-            ∙ ap (λ (k : ℕ). sets (sets rows (3 * m) front) k behind) place
-            ∙ sets_then front behind rows (3 * m)
-            ∙ ap (sets rows (3 * m)) (sym (rows_for-++ g w n ls ks));
+            ∙ ap (λ (k : ℕ). sets new r.choices (rows_for g w k ks)) a.highest
+            ∙ ap (λ (x : List ChoiceRecord). sets x r.choices behind) a.written
+            ∙ ap (λ (k : ℕ). sets (sets rows m front) k behind) place
+            ∙ sets_then front behind rows m
+            ∙ ap (sets rows m) (sym (rows_for-++ g w n ls ks));
       }
 
 -- ---- what is asked of the parts
 
-module _ (ls ks : List Clause) {g : ℕ} {w rows : List ℕ} {n m : ℕ} (a : Numberable g (ls ++ ks) w rows n m) where
+module _ (ls ks : List Clause) {g : ℕ} {w : List ℕ} {rows : List ChoiceRecord} {n m : ℕ} (a : Numberable g (ls ++ ks) w rows n m) where
   pub numberable_first : Numberable g ls w rows n m
   numberable_first = record {
     step_least = a.step_least;
@@ -92,7 +86,7 @@ module _ (ls ks : List Clause) {g : ℕ} {w rows : List ℕ} {n m : ℕ} (a : Nu
     room = omega (arith, a.room, length-append ls ks);
   }
 
-  pub numberable_rest : {new : List ℕ} {r : Numbered} → Numbers g ls w rows n m new r → Numberable g ks w new r.highest r.choices
+  pub numberable_rest : {new : List ChoiceRecord} {r : Numbered} → Numbers g ls w rows n m new r → Numberable g ks w new r.highest r.choices
   numberable_rest b = record {
     step_least = a.step_least;
     step_most = a.step_most;
@@ -105,7 +99,7 @@ module _ (ls ks : List Clause) {g : ℕ} {w rows : List ℕ} {n m : ℕ} (a : Nu
 
 -- ---- one choice: the numbers that the code makes stay small
 
-module _ {g : ℕ} {l : Clause} {w rows : List ℕ} {n m : ℕ} (a : Numberable g (l ∷ []) w rows n m) where
+module _ {g : ℕ} {l : Clause} {w : List ℕ} {rows : List ChoiceRecord} {n m : ℕ} (a : Numberable g (l ∷ []) w rows n m) where
   pub one_least : 1 ≤ length l
   one_least = a.least l (here refl)
 
@@ -123,7 +117,7 @@ module _ {g : ℕ} {l : Clause} {w rows : List ℕ} {n m : ℕ} (a : Numberable 
   one_weighs = omega (arith, sum_most (2 ^ 20) (entry_of w) a.few l, one_most)
 
 -- the row that the code writes, and what it answers
-pub one_numbered : {g : ℕ} {l : Clause} {w rows : List ℕ} {n m : ℕ} {new : List ℕ} (below size clauses : ℕ) → below ≡ below_new g n → size ≡ length l → clauses ≡ weighed w l →
-    new ≡ sets rows (3 * m) ((below + 1) ∷ size ∷ clauses ∷ []) → Numbers g (l ∷ []) w rows n m new (record { choices = m + 1; highest = below + (size - 1) })
-unfolding used_after last_new taken_records rows_of for_each
+pub one_numbered : {g : ℕ} {l : Clause} {w : List ℕ} {rows : List ChoiceRecord} {n m : ℕ} {new : List ChoiceRecord} (below size clauses : ℕ) → below ≡ below_new g n → size ≡ length l → clauses ≡ weighed w l →
+    new ≡ set rows m (record { first = below + 1; length = size; clauses = clauses }) → Numbers g (l ∷ []) w rows n m new (record { choices = m + 1; highest = below + (size - 1) })
+unfolding used_after last_new taken_records
 one_numbered below size clauses b s c e = record { choices = refl; highest = rw (b, s) refl; written = e ∙ rw (b, s, c) refl }

@@ -10,6 +10,7 @@ use Rattle.theory_base.specs.Clauses.{Proper, FitAll}
 use Rattle.theory_base.specs.Cells.{cells_of}
 use Rattle.theory_counter.specs.Ready.{WellFormed}
 use Rattle.tables.specs.Places.{Places, Small}
+use Rattle.replacement.specs.declared.Placed.{Placed}
 use Rattle.store.specs.Store.{Formed, stored, clause_at, marked, Place}
 use Rattle.index.specs.Index.{nodes, Indexed, Roomy}
 use Rattle.progress.specs.declared.Progress.{Progress}
@@ -25,6 +26,9 @@ pub record Tabled (t : List ℕ) (l : Clause) (below : ℕ) : Type 0 where
   pub places : Places t l
   pub small : Small l below
   pub well_formed : WellFormed (choice_of l below)
+
+abbrev pub TabledIn : Placed → Type 0
+TabledIn c = Tabled c.places.now c.literals.now c.below
 
 -- what replacing d needs
 pub record Replaceable (k : Choice) (d : Clause) (work : List ℤ) (newest : List ℕ) (p : Progress) : Type 0 where

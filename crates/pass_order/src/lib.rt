@@ -2,7 +2,7 @@
 #![tactic(auto)]
 
 ghost use Rattle.std.specs.Prelude.{◌≡◌, [], ◌∷◌, ◌+◌, ◌≤◌, nat_abs, pos, length, take, drop, get_or};
-ghost use Rattle.definition.specs.Lists.{only_if, for_from};
+ghost use Rattle.definition.specs.Lists.{for_from};
 ghost use Rattle.definition.specs.Events.{choice_of};
 ghost use Rattle.definition.specs.Order.{order_events, deletions_of};
 ghost use Rattle.tables.specs.Sizes.{log_reach};
@@ -12,10 +12,13 @@ ghost use Rattle.index.specs.Index.{Indexed};
 ghost use Rattle.lookup.specs.Lookup.{touched_places};
 ghost use Rattle.progress.specs.Progress.{standing, Runs};
 ghost use Rattle.progress.specs.Growth.{Grown};
-ghost use Rattle.pass_order.specs.Pass.{result_of, Tabled, Replaceable, StepReady, ReplacedAt};
+ghost use Rattle.replacement.specs.Replaced.{choice_in};
+ghost use Rattle.pass_order.specs.Pass.{result_of, TabledIn, Replaceable, StepReady, ReplacedAt};
 ghost use Rattle.pass_order.specs.Order.{front, OrderReady, Passed, Deletes, first_deletion, Deletable};
 
+use drat::ProofLine;
 use progress::Progress;
+use replacement::Placed;
 
 // ---- the pass
 
@@ -27,20 +30,17 @@ fn add_result(
     p: Progress,
     from: usize,
     n: usize,
-    places: &[u32],
-    choice: &[i32],
-    below: u32,
+    choice: &Placed,
 ) -> Progress
-    requires tabled { Tabled places.now choice.now below × (from + n ≤ p.end) × Indexed work.old p.end newest.old }
-    requires replaceable { Replaceable (choice_of choice.now below) (take n (drop from work.old)) work.old newest.old p }
-    ensures { Grown (result_of (choice_of choice.now below) (take n (drop from work.old))) work.old newest.old log.old p work.new newest.new log.new result }
+    requires tabled { TabledIn choice.now × (from + n ≤ p.end) × Indexed work.old p.end newest.old }
+    requires replaceable { Replaceable (choice_in choice.now) (take n (drop from work.old)) work.old newest.old p }
+    ensures { Grown (result_of (choice_in choice.now) (take n (drop from work.old))) work.old newest.old log.old p work.new newest.new log.new result }
 {
-    let behind = from + n;
-    if replacement::is_opposed(places, &work[from..behind]) {
+    if replacement::is_opposed(choice.places, &work[from..from + n]) {
         return p;
     }
     let end = p.end;
-    let next = replacement::append_replaced(work, end, from, n, places, choice, below);
+    let next = replacement::append_replaced(work, end, from, n, choice);
     progress::record_added(work, newest, log, p, next)
 }
 
@@ -51,18 +51,16 @@ fn replace_at(
     log: &mut [u8],
     p: Progress,
     at: usize,
-    places: &[u32],
-    choice: &[i32],
-    below: u32,
+    choice: &Placed,
 ) -> Progress
-    requires { StepReady places.now choice.now below work.old newest.old at p }
-    ensures { ReplacedAt (choice_of choice.now below) (clause_at work.old at) work.old newest.old at log.old p work.new newest.new log.new result }
+    requires { StepReady choice.now.places.now choice.now.literals.now choice.now.below work.old newest.old at p }
+    ensures { ReplacedAt (choice_in choice.now) (clause_at work.old at) work.old newest.old at log.old p work.new newest.new log.new result }
 {
     let next = store::next_at(work, at);
     let first = at + 1;
     let n = next - first;
-    let q = add_result(work, newest, log, p, first, n, places, choice, below);
-    let r = progress::record_line(log, q, true, &work[first..next]);
+    let q = add_result(work, newest, log, p, first, n, choice);
+    let r = progress::record_line(log, q, ProofLine::Deletion(&work[first..next]));
     store::mark_deleted(work, at);
     r
 }
@@ -74,22 +72,18 @@ fn replace_all(
     log: &mut [u8],
     p: Progress,
     start: usize,
-    choice: &[i32],
-    below: u32,
-    places: &[u32],
+    choice: &Placed,
     list: &mut [u32],
 ) -> Progress
-    requires { OrderReady work.old newest.old p start choice.now below × Places places.now choice.now × (length (touched_places choice.now (take start work.old)) ≤ length list.old) }
-    ensures { Passed (choice_of choice.now below) (front work.old start) (drop start (take p.end work.old)) start work.old log.old p work.new newest.new log.new result }
+    requires { OrderReady work.old newest.old p start choice.now.literals.now choice.now.below × Places choice.now.places.now choice.now.literals.now × (length (touched_places choice.now.literals.now (take start work.old)) ≤ length list.old) }
+    ensures { Passed (choice_in choice.now) (front work.old start) (drop start (take p.end work.old)) start work.old log.old p work.new newest.new log.new result }
 {
     let end = p.end;
-    let from = lookup::gather(work, newest, end, start, choice, list);
+    let from = lookup::gather(work, newest, end, start, choice.literals, list);
     let mut q = p;
-    let mut j = from;
-    while j < list.len() {
-        let at = list[j] as usize;
-        q = replace_at(work, newest, log, q, at, places, choice, below);
-        j += 1;
+    // a range and no part of the list: where nothing is gathered, `from` may be any place
+    for j in from..list.len() {
+        q = replace_at(work, newest, log, q, list[j] as usize, choice);
     }
     q
 }
@@ -110,30 +104,11 @@ fn delete_clause(
 {
     let end = p.end;
     lookup::delete_clause(work, newest, end, clause);
-    progress::record_line(log, p, true, clause)
-}
-
-// The same of two literals, if it is wanted.
-fn delete_pair_if(
-    work: &mut [i32],
-    newest: &[u32],
-    log: &mut [u8],
-    p: Progress,
-    wanted: bool,
-    a: i32,
-    b: i32,
-) -> Progress
-    requires { (nat_abs a ≤ log_reach) × Deletable (only_if «wanted» ((a ∷ b ∷ []) ∷ [])) work.old newest.now p }
-    ensures { Deletes (only_if «wanted» ((a ∷ b ∷ []) ∷ [])) work.old newest.now log.old p work.new log.new result }
-{
-    if wanted {
-        let clause = [a, b];
-        return delete_clause(work, newest, log, p, &clause);
-    }
-    p
+    progress::record_line(log, p, ProofLine::Deletion(clause))
 }
 
 // Deletes the clause with the literal at place i: li, -si, s(i-1), where each exists.
+#[tactic(auto, unfolding(definition::specs::Lists::only_if), using(literals::proofs::Laws::signed_small))]
 fn delete_positive(
     work: &mut [i32],
     newest: &[u32],
@@ -148,12 +123,14 @@ fn delete_positive(
     requires deletable { Deletable (first_deletion l i size below ∷ []) work.old newest.now p }
     ensures { Deletes (first_deletion l i size below ∷ []) work.old newest.now log.old p work.new log.new result }
 {
-    let mut clause = [l, 0, 0];
     let after = literals::signed(true, below + i);
-    let a = replacement::put_if(&mut clause, 1, i < size, after);
     let before = literals::signed(false, below + (i - 1));
-    let b = replacement::put_if(&mut clause, a, 1 < i, before);
-    delete_clause(work, newest, log, p, &clause[..b])
+    match (i < size, 1 < i) {
+        (true, true) => delete_clause(work, newest, log, p, &[l, after, before]),
+        (true, false) => delete_clause(work, newest, log, p, &[l, after]),
+        (false, true) => delete_clause(work, newest, log, p, &[l, before]),
+        (false, false) => delete_clause(work, newest, log, p, &[l]),
+    }
 }
 
 // Deletes the clauses with the literal at place i.
@@ -162,22 +139,26 @@ fn delete_literal(
     newest: &[u32],
     log: &mut [u8],
     p: Progress,
-    choice: &[i32],
+    choice: &Placed,
     i: u32,
-    below: u32,
 ) -> Progress
-    requires le_i { (1 ≤ i) × (i ≤ length choice.now) × Small choice.now below }
-    requires deletable { Deletable (deletions_of (choice_of choice.now below) i) work.old newest.now p }
-    ensures { Deletes (deletions_of (choice_of choice.now below) i) work.old newest.now log.old p work.new log.new result }
+    requires le_i { (1 ≤ i) × (i ≤ length choice.now.literals.now) × Small choice.now.literals.now choice.now.below }
+    requires deletable { Deletable (deletions_of (choice_in choice.now) i) work.old newest.now p }
+    ensures { Deletes (deletions_of (choice_in choice.now) i) work.old newest.now log.old p work.new log.new result }
 {
-    let size = choice.len() as u32;
-    let l = choice[i as usize - 1];
-    let q = delete_positive(work, newest, log, p, l, i, size, below);
-    let m = literals::negated(l);
-    let after = literals::signed(false, below + i);
-    let r = delete_pair_if(work, newest, log, q, i < size, m, after);
-    let before = literals::signed(true, below + (i - 1));
-    delete_pair_if(work, newest, log, r, 1 < i, m, before)
+    let size = choice.literals.len() as u32;
+    let l = choice.literals[i as usize - 1];
+    let not_l = literals::negated(l);
+    let mut q = delete_positive(work, newest, log, p, l, i, size, choice.below);
+    if i < size {
+        let after = literals::signed(false, choice.below + i);
+        q = delete_clause(work, newest, log, q, &[not_l, after]);
+    }
+    if 1 < i {
+        let before = literals::signed(true, choice.below + (i - 1));
+        q = delete_clause(work, newest, log, q, &[not_l, before]);
+    }
+    q
 }
 
 // Deletes the clauses with the choice's literals, one literal after the other.
@@ -186,19 +167,15 @@ fn delete_literals(
     newest: &[u32],
     log: &mut [u8],
     p: Progress,
-    choice: &[i32],
-    below: u32,
+    choice: &Placed,
 ) -> Progress
-    requires small { Small choice.now below }
-    requires deletable { Deletable (for_from 1 (length choice.now) (deletions_of (choice_of choice.now below))) work.old newest.now p }
-    ensures { Deletes (for_from 1 (length choice.now) (deletions_of (choice_of choice.now below))) work.old newest.now log.old p work.new log.new result }
+    requires small { Small choice.now.literals.now choice.now.below }
+    requires deletable { Deletable (for_from 1 (length choice.now.literals.now) (deletions_of (choice_in choice.now))) work.old newest.now p }
+    ensures { Deletes (for_from 1 (length choice.now.literals.now) (deletions_of (choice_in choice.now))) work.old newest.now log.old p work.new log.new result }
 {
-    let size = choice.len() as u32;
     let mut q = p;
-    let mut i = 1;
-    while i <= size {
-        q = delete_literal(work, newest, log, q, choice, i, below);
-        i += 1;
+    for i in 1..=choice.literals.len() as u32 {
+        q = delete_literal(work, newest, log, q, choice, i);
     }
     q
 }
@@ -219,6 +196,11 @@ pub fn order_choice(
     ensures runs { Runs (order_events (choice_of literals.now below) (standing work.old p)) work.old log.old p work.new log.new result }
     ensures indexed { Indexed work.new result.end newest.new }
 {
-    let q = replace_all(work, newest, log, p, start, literals, below, places, list);
-    delete_literals(work, newest, log, q, literals, below)
+    let choice = Placed {
+        literals,
+        below,
+        places,
+    };
+    let q = replace_all(work, newest, log, p, start, &choice, list);
+    delete_literals(work, newest, log, q, &choice)
 }

@@ -5,7 +5,7 @@ use mathlib.Core.List.Memᴰ
 use mathlib.Core.List.Memᴰ.{head as here}
 use mathlib.Core.List.{List, [], ◌∷◌, ◌++◌, append-nil, append_assoc, Memᴰ}
 use mathlib.Core.Option.{Option, some, none}
-use Prim.Native.Nat.{ℕ, ◌+◌, ◌-◌, ◌≤◌, ◌<◌, ◌^◌}
+use Prim.Native.Nat.{ℕ, ◌≤◌, ◌<◌, ◌^◌}
 use native.Mathlib.Omega.{arith}
 use lib.IntN.{ℤ, neg_ℤ}
 use lib.ListN.{length, take, drop, length-set, replicate}
@@ -29,17 +29,17 @@ use Rattle.tables.specs.Sizes.{input_reach, input_size}
 use Rattle.tables.specs.Entries.{tallied_all}
 use Rattle.tables.specs.Counts.{Counts}
 use Rattle.store.specs.Store.{Formed, stored, deleted_at, clause_at, past, marked, Place}
-use Rattle.store.proofs.Laws.{place_start, place_formed, place_next, stored_end, stored_around, rest_deleted, rest_stands, marked_place, marked_past, marked_behind, marked_stored, part_there}
+use Rattle.store.proofs.Laws.{place_start, place_formed, place_next, stored_end, stored_around, rest_deleted, rest_stands, marked_place, marked_past, marked_behind, marked_stored}
 use Rattle.index.specs.Index.{Indexed, SameEntries, KeepsIndex}
 use Rattle.index.proofs.Walk.{marked_same, same_refl}
 use Rattle.index.proofs.Laws.{indexed_part}
 use Rattle.progress.specs.declared.Progress.{Progress}
 use Rattle.progress.specs.Progress.{Written, LogRoom, standing, Good, Runs}
 use Rattle.progress.proofs.Laws.{lines_none, lines_one, written_none, written_then, room_rest, runs_lines, standing_part, good_counts, good_part}
-use Rattle.pass_pure.specs.declared.Pure.{Pure}
-use Rattle.pass_pure.specs.declared.Pure.TheVariants.{Literal, Nothing}
-use Rattle.pass_pure.specs.Pass.{pure_by, as_pure, pure_at, Step, Passable}
-use Rattle.pass_pure.proofs.Tests.{literal_is, nothing_is, pure_literal_is}
+use Rattle.std.proofs.Common.{Some, None}
+use Rattle.std.proofs.Common.{Option as Answer}
+use Rattle.pass_pure.specs.Pass.{pure_by, pure_at, Step, Passable}
+use Rattle.pass_pure.proofs.Tests.{shown, pure_literal_is}
 
 -- the events of a clause, tested where F stands
 abbrev pub pure_of : Formula → Clause → List Event
@@ -156,26 +156,26 @@ module _ {F : Formula} {x y : Bytes} {p q : Progress} {s : List ℤ} {at : ℕ} 
 
   -- only the clause's mark changes
   module _ (t : List ℕ) (u : List ℤ) (z : Bytes) (r : Progress) where
-    marked_or_same : (o : Option ℤ) → Step o s at y q u z r → SameEntries s u
-    marked_or_same none w = rw w.0 (same_refl s)
-    marked_or_same (some l) w = rw w.0 (marked_same i.place h)
+    marked_or_same : (o : Answer ℤ) → Step o s at y q u z r → SameEntries s u
+    marked_or_same None w = rw w.0 (same_refl s)
+    marked_or_same (Some l) w = rw w.0 (marked_same i.place h)
 
     pub step_same : Step (pure_at t s at) s at y q u z r → SameEntries s u
     step_same w = marked_or_same (pure_at t s at) w
 
   module _ (t : List ℕ) (f : Fits input_reach F) (k : Counts input_reach t F) (u : List ℤ) (z : Bytes) (r : Progress) where
-    by_literal : deleted_at s at ≡ false → (o : Option ℤ) → pure_literal F (clause_at s at) ≡ o → Step o s at y q u z r → Passing F x p u (past s at) z r
+    by_literal : deleted_at s at ≡ false → (o : Option ℤ) → pure_literal F (clause_at s at) ≡ o → Step (shown o) s at y q u z r → Passing F x p u (past s at) z r
     unfolding for_each pure_next
     by_literal d none e w =
         rw (w.0, w.1, w.2) (passing_kept (sym (ap (λ (g : Formula). for_each g (pure_of F)) (rest_stands s at h d) ∙ rw e refl)))
     by_literal d (some l) e w = rw w.0 (passing_deleted d l e w.1 w.2)
 
-    same_literal : deleted_at s at ≡ false → pure_by t (clause_at s at) ≡ pure_literal F (clause_at s at)
+    same_literal : deleted_at s at ≡ false → pure_by t (clause_at s at) ≡ shown (pure_literal F (clause_at s at))
     same_literal d =
         pure_literal_is input_reach (omega arith) t F k (clause_at s at)
         (λ b j. (f (clause_at s at) (i.inside (clause_at s at) (rw (stored_around s at h i.place d) (Memᴰ.append_right (stored (take at s)) (here refl)))) b j).1)
 
-    passing_stays : deleted_at s at ≡ true → Step none s at y q u z r → Passing F x p u (past s at) z r
+    passing_stays : deleted_at s at ≡ true → Step None s at y q u z r → Passing F x p u (past s at) z r
     passing_stays d w = rw (w.0, w.1, w.2) (passing_kept (ap (λ (g : Formula). for_each g (pure_of F)) (sym (rest_deleted s at h d))))
 
     pub passing_step : Step (pure_at t s at) s at y q u z r → Passing F x p u (past s at) z r
@@ -201,26 +201,6 @@ passing_room {F} {s = s} {at = at} b i =
     let e : lines (clear_pure F) ≡ lines i.events ++ lines others = ap lines (sym i.rest) ∙ lines-++ i.events others in
     let r = room_rest (lines i.events) (lines others) (rw e at b) i.written in
     (omega (arith, r.text), omega (arith, r.count))
-
--- ---- at a place, by what the functions answer there
-
-pub at_deleted : (t : List ℕ) (s : List ℤ) (at : ℕ) (log : Bytes) (p : Progress) → deleted_at s at ≡ true → Step (pure_at t s at) s at log p s log p
-at_deleted t s at log p d = rw d (refl, refl, refl)
-
-module _ (t : List ℕ) (s : List ℤ) (at next : ℕ) (e : next ≡ past s at) (d : deleted_at s at ≡ false) where
-  part : take (next - (at + 1)) (drop (at + 1) s) ≡ clause_at s at
-  part = part_there s at next e
-
-  pub at_nothing : (log : Bytes) (p : Progress) {r : Pure} → r ≡ as_pure (pure_by t (take (next - (at + 1)) (drop (at + 1) s))) → r ≡ Nothing → Step (pure_at t s at) s at log p s log p
-  at_nothing log p a b =
-      let k = nothing_is (pure_by t (clause_at s at)) (ap (λ (c : Clause). as_pure (pure_by t c)) (sym part) ∙ sym a ∙ b) in
-      rw (d, k) (refl, refl, refl)
-
-  pub at_literal : {log new_log : Bytes} {p q : Progress} {new : List ℤ} {r : Pure} (l : ℤ) → r ≡ as_pure (pure_by t (take (next - (at + 1)) (drop (at + 1) s))) → r ≡ Literal l → new ≡ marked s at →
-      Written (deletion (with_first l (clause_at s at)) ∷ []) log p new_log q → q.end ≡ p.end → Step (pure_at t s at) s at log p new new_log q
-  at_literal l a b n w f =
-      let k = literal_is (pure_by t (clause_at s at)) l (ap (λ (c : Clause). as_pure (pure_by t c)) (sym part) ∙ sym a ∙ b) in
-      rw (d, k) (n, w, f)
 
 -- ---- the workspace's store
 

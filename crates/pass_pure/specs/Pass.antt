@@ -1,7 +1,6 @@
 -- The pass over a store: the literal for which a clause is deleted, by a table of counts, and what happens at a place.
-use Rattle.std.specs.Prelude.{◌≡◌, cond, List, [], ◌∷◌, ℕ, ℤ, length}
-use Rattle.std.proofs.Math.Option.{Option, some, none}
-use Rattle.definition.specs.Lists.{first}
+use Rattle.std.specs.Prelude.{◌≡◌, cond, List, [], ◌∷◌, ℕ, ℤ, length, Option, Some, None}
+use Rattle.std.specs.List.{find}
 use Rattle.definition.specs.Literals.{Clause, with_first}
 use Rattle.definition.specs.Text.{Bytes}
 use Rattle.definition.specs.Standing.{deletion}
@@ -12,26 +11,19 @@ use Rattle.tables.specs.Counts.{Counts, pure_in, deletable_by}
 use Rattle.store.specs.Store.{deleted_at, clause_at, marked}
 use Rattle.progress.specs.declared.Progress.{Progress}
 use Rattle.progress.specs.Progress.{Written, standing, Good}
-use Rattle.pass_pure.specs.declared.Pure.{Pure}
-use Rattle.pass_pure.specs.declared.Pure.TheVariants.{Literal, Nothing}
 
 -- the literal for which a clause is deleted, if it is
 abbrev pub pure_by : List ℕ → Clause → Option ℤ
-pure_by t c = cond (deletable_by t c) (first (pure_in t) c) none
-
--- the same as the function answers it
-abbrev pub as_pure : Option ℤ → Pure
-as_pure none = Nothing
-as_pure (some l) = Literal l
+pure_by t c = cond (deletable_by t c) (find (pure_in t) c) None
 
 -- the same of the clause at a place
 abbrev pub pure_at : List ℕ → List ℤ → ℕ → Option ℤ
-pure_at t s at = cond (deleted_at s at) none (pure_by t (clause_at s at))
+pure_at t s at = cond (deleted_at s at) None (pure_by t (clause_at s at))
 
 -- nothing happens, or the clause is deleted for a literal
 abbrev pub Step : Option ℤ → List ℤ → ℕ → Bytes → Progress → List ℤ → Bytes → Progress → Type 0
-Step none s at log p new_s new_log q = (new_s ≡ s) × (new_log ≡ log) × (q ≡ p)
-Step (some l) s at log p new_s new_log q =
+Step None s at log p new_s new_log q = (new_s ≡ s) × (new_log ≡ log) × (q ≡ p)
+Step (Some l) s at log p new_s new_log q =
     (new_s ≡ marked s at) × Written (deletion (with_first l (clause_at s at)) ∷ []) log p new_log q × (q.end ≡ p.end)
 
 -- a good workspace that is all store, without a clash, and the table of its counts

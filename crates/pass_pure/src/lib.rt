@@ -2,7 +2,7 @@
 #![tactic(auto)]
 
 ghost use Rattle.std.specs.Prelude.{◌≡◌, ◌<◌, ◌^◌, length, drop};
-ghost use Rattle.definition.specs.Lists.{first as first_of};
+ghost use Rattle.std.specs.List.{find};
 ghost use Rattle.definition.specs.Clearing.{clear_pure};
 ghost use Rattle.theory_clearing.specs.Clashes.{ClashFree};
 ghost use Rattle.tables.specs.Sizes.{input_reach};
@@ -10,43 +10,27 @@ ghost use Rattle.tables.specs.Counts.{pure_in};
 ghost use Rattle.store.specs.Store.{Formed};
 ghost use Rattle.index.specs.Index.{SameEntries, KeepsIndex};
 ghost use Rattle.progress.specs.Progress.{standing, Good, Runs};
-ghost use Rattle.pass_pure.specs.Pass.{pure_by, as_pure, pure_at, Step, Passable};
+ghost use Rattle.pass_pure.specs.Pass.{pure_by, pure_at, Step, Passable};
 
 use progress::Progress;
-
-// What was found in a clause: its first pure literal.
-#[derive(Clone, Copy)]
-pub enum Pure {
-    Literal(i32),
-    Nothing,
-}
 
 // ---- the literal for which a clause is deleted, by a table of how often each literal stands
 
 // The first literal of a clause whose negation stands nowhere.
-fn first_pure(counts: &[u32], clause: &[i32]) -> Pure
-    ensures { result ≡ as_pure (first_of (pure_in counts.now) clause.now) }
+fn first_pure(counts: &[u32], clause: &[i32]) -> Option<i32>
+    ensures { result ≡ find (pure_in counts.now) clause.now }
 {
-    let mut i = 0;
-    while i < clause.len() {
-        let l = clause[i];
-        if tables::is_pure(counts, l) {
-            return Pure::Literal(l);
-        }
-        i += 1;
-    }
-    Pure::Nothing
+    clause.iter().copied().find(|l| tables::is_pure(counts, *l))
 }
 
 // The literal for which a clause is deleted, if it is.
-#[tactic(auto, using(crate::proofs::Tests::pure_yes, crate::proofs::Tests::pure_no))]
-fn pure_literal(counts: &[u32], clause: &[i32]) -> Pure
-    ensures { result ≡ as_pure (pure_by counts.now clause.now) }
+fn pure_literal(counts: &[u32], clause: &[i32]) -> Option<i32>
+    ensures { result ≡ pure_by counts.now clause.now }
 {
     if tables::is_deletable(counts, clause) {
         first_pure(counts, clause)
     } else {
-        Pure::Nothing
+        None
     }
 }
 
@@ -61,11 +45,9 @@ fn delete_at(work: &mut [i32], at: usize, counts: &[u32], log: &mut [u8], p: Pro
     if literals::is_negative(work[at]) {
         return p;
     }
-    let next = store::next_at(work, at);
-    let first = at + 1;
-    match pure_literal(counts, &work[first..next]) {
-        Pure::Literal(l) => progress::delete_first(work, at, log, p, l),
-        Pure::Nothing => p,
+    match pure_literal(counts, store::clause_at(work, at)) {
+        Some(l) => progress::delete_first(work, at, log, p, l),
+        None => p,
     }
 }
 
@@ -78,6 +60,7 @@ fn delete_all(work: &mut [i32], counts: &[u32], log: &mut [u8], p: Progress) -> 
 {
     let mut q = p;
     let mut at = 0;
+    // a walk, since entries differ in length and are marked on the way
     while at < work.len() {
         let next = store::next_at(work, at);
         q = delete_at(work, at, counts, log, q);

@@ -4,7 +4,7 @@
 ghost use Rattle.std.specs.Prelude.{◌≡◌, ◌≤◌, length};
 ghost use Rattle.std.specs.Io.{ReadsAtMost};
 
-use formula_run::Tallied;
+use refusals::Refusal;
 use run::{Arrangement, Form, Settings};
 use std::env::Env;
 use std::fs::Files;
@@ -15,10 +15,7 @@ use std::{fs, io, str};
 fn put_arg(rt: &impl Env, i: usize, buf: &mut [u8]) -> usize
     ensures { result ≤ length buf.new }
 {
-    match rt.arg(i, buf) {
-        Ok(n) => n,
-        Err(_) => 0,
-    }
+    rt.arg(i, buf).unwrap_or(0)
 }
 
 // Whether an argument is a word.
@@ -31,17 +28,19 @@ fn is_arg(rt: &impl Env, i: usize, word: &[u8]) -> bool {
 // The form that the first argument names: the order form for `order`, else the counter form.
 fn named_form(rt: &impl Env) -> Form {
     if is_arg(rt, 1, b"order") {
-        return Form::Order;
+        Form::Order
+    } else {
+        Form::Counter
     }
-    Form::Counter
 }
 
 // The arrangement that the second argument names: alignment for `align`, else as the literals stand.
 fn named_arrangement(rt: &impl Env) -> Arrangement {
     if is_arg(rt, 2, b"align") {
-        return Arrangement::Alignment;
+        Arrangement::Alignment
+    } else {
+        Arrangement::AsListed
     }
-    Arrangement::AsListed
 }
 
 // The settings that the arguments name.
@@ -59,11 +58,7 @@ fn named_settings(rt: &impl Env) -> Settings {
 pub fn number_arg(rt: &impl Env, i: usize) -> usize {
     let mut buf = [0u8; 16];
     let n = put_arg(rt, i, &mut buf);
-    match text::read_natural(&buf[..n]) {
-        text::Natural::Value(k) => k as usize,
-        text::Natural::Large => 0,
-        text::Natural::NotANumber => 0,
-    }
+    text::read_natural(&buf[..n]).unwrap_or(0) as usize
 }
 
 // Reads until a buffer is full or the input ends; the answer is how many bytes stand at the start of the buffer. A read that fails
@@ -104,9 +99,9 @@ pub fn print_number(rt: &impl Print, n: usize) -> io::Result<()> {
     print!(rt; " {n}")
 }
 
-// Prints the number of a refusal on a line.
-pub fn print_refusal(rt: &impl Print, n: u8) -> io::Result<()> {
-    println!(rt; "refused {n}")
+// Prints a refusal on a line.
+pub fn print_refusal(rt: &impl Print, refusal: Refusal) -> io::Result<()> {
+    println!(rt; "refused {refusal}")
 }
 
 // Prints that a text does not fit its buffer.
@@ -139,8 +134,8 @@ fn print_reencoded(
     }
     let settings = named_settings(rt);
     match call_reencode::reencode_texts(&text[..n], settings, work, log, formula) {
-        Tallied::Refused(k) => print_refusal(rt, k),
-        Tallied::Done(t) => {
+        Err(refusal) => print_refusal(rt, refusal),
+        Ok(t) => {
             if is_log {
                 print_start(rt, log, t.log_bytes)
             } else {

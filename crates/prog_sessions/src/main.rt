@@ -3,7 +3,7 @@
 
 mod texts;
 
-use formula_run::{Tallied, Tally};
+use formula_run::Tally;
 use run::{Arrangement, Form, Settings};
 use std::io;
 
@@ -39,12 +39,12 @@ fn print_outcome(rt: &impl Print, text: &[u8], step: u32) -> io::Result<()> {
     let mut formula = [0u8; 1024];
     let s = counter(Arrangement::AsListed, step);
     match call_reencode::reencode_texts(text, s, &mut work, &mut log, &mut formula) {
-        Tallied::Done(t) => {
+        Ok(t) => {
             print!(rt; "accepted")?;
             print_tally(rt, t)?;
             print_end(rt)
         }
-        Tallied::Refused(k) => prog_common::print_refusal(rt, k),
+        Err(refusal) => prog_common::print_refusal(rt, refusal),
     }
 }
 
@@ -79,8 +79,8 @@ fn print_size(rt: &impl Print, size: u8) -> io::Result<()> {
     if n <= text.len() {
         let s = counter(Arrangement::AsListed, 1);
         match call_reencode::reencode_texts(&text[..n], s, &mut work, &mut log, &mut formula) {
-            Tallied::Done(t) => print_tally(rt, t)?,
-            Tallied::Refused(k) => prog_common::print_refusal(rt, k)?,
+            Ok(t) => print_tally(rt, t)?,
+            Err(refusal) => prog_common::print_refusal(rt, refusal)?,
         }
     }
     print_end(rt)
@@ -95,12 +95,12 @@ fn print_alignment(rt: &impl Print, arrangement: Arrangement) -> io::Result<()> 
     let mut formula = [0u8; 1024];
     let s = counter(arrangement, 1);
     match call_reencode::reencode_texts(text, s, &mut work, &mut log, &mut formula) {
-        Tallied::Done(_) => {
+        Ok(_) => {
             let a = texts::past_lines(&log, 33);
             let b = texts::past_lines(&log, 34);
             texts::print_part(rt, &log, a, b)
         }
-        Tallied::Refused(k) => prog_common::print_refusal(rt, k),
+        Err(refusal) => prog_common::print_refusal(rt, refusal),
     }
 }
 

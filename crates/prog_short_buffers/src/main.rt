@@ -1,31 +1,26 @@
 // Buffers and workspaces of just the length that is asked for, and one short: the refusal, and its buffers all zero.
 #![tactic(auto)]
 
-use carry::Carried;
-use formula_run::Tallied;
+use refusals::Refusal;
 use run::{Arrangement, Form, Settings};
 use std::io;
 
 // Fills a buffer with a pattern.
 fn fill(buf: &mut [u8]) {
-    for b in buf {
-        *b = 170;
-    }
+    buf.fill(170);
 }
 
 // Whether every byte is 0.
 fn is_zero(buf: &[u8]) -> bool {
-    for b in buf {
-        if *b != 0 {
-            return false;
-        }
-    }
-    true
+    buf.iter().all(|b| *b == 0)
 }
 
-// Prints the number of the outcome after the call's name.
-fn print_outcome(rt: &impl Print, name: &str, n: u8) -> io::Result<()> {
-    print!(rt; "{name} {n}")
+// Prints the number of the outcome after the call's name, 0 for a result.
+fn print_outcome<T>(rt: &impl Print, name: &str, r: &Result<T, Refusal>) -> io::Result<()> {
+    match r {
+        Ok(_) => print!(rt; "{name} 0"),
+        Err(refusal) => print!(rt; "{name} {refusal}"),
+    }
 }
 
 // Prints whether a buffer is all zero.
@@ -50,13 +45,11 @@ fn order() -> Settings {
 
 // Prints the bytes of log and formula in order form, told beforehand.
 fn print_sizes(rt: &impl Print, text: &[u8], work: &mut [i32]) -> io::Result<()> {
-    match call_sizes::sizes(text, order(), work) {
-        Tallied::Done(t) => {
-            print_outcome(rt, "sizes", 0)?;
-            prog_common::print_number(rt, t.log_bytes)?;
-            prog_common::print_number(rt, t.formula_bytes)?;
-        }
-        Tallied::Refused(n) => print_outcome(rt, "sizes", n)?,
+    let r = call_sizes::sizes(text, order(), work);
+    print_outcome(rt, "sizes", &r)?;
+    if let Ok(t) = r {
+        prog_common::print_number(rt, t.log_bytes)?;
+        prog_common::print_number(rt, t.formula_bytes)?;
     }
     println!(rt)
 }
@@ -71,21 +64,21 @@ fn print_reencoding(
 ) -> io::Result<()> {
     fill(log);
     fill(formula);
-    match call_reencode::reencode_texts(text, order(), work, log, formula) {
-        Tallied::Done(_) => print_outcome(rt, "reencode", 0)?,
-        Tallied::Refused(n) => print_outcome(rt, "reencode", n)?,
-    }
+    let r = call_reencode::reencode_texts(text, order(), work, log, formula);
+    print_outcome(rt, "reencode", &r)?;
     print_zero(rt, is_zero(log))?;
     print_zero(rt, is_zero(formula))?;
     println!(rt)
 }
 
 // Prints the outcome of a call that writes a line, and whether its buffer is all zero.
-fn print_carried(rt: &impl Print, name: &str, r: Carried, out: &[u8]) -> io::Result<()> {
-    match r {
-        Carried::Line(_) => print_outcome(rt, name, 0)?,
-        Carried::Refused(n) => print_outcome(rt, name, n)?,
-    }
+fn print_carried(
+    rt: &impl Print,
+    name: &str,
+    r: Result<usize, Refusal>,
+    out: &[u8],
+) -> io::Result<()> {
+    print_outcome(rt, name, &r)?;
     print_zero(rt, is_zero(out))?;
     println!(rt)
 }

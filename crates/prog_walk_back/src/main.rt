@@ -2,7 +2,6 @@
 // log's file and the number of lines to keep.
 #![tactic(auto)]
 
-use carry::Carried;
 use std::env::Env;
 use std::fs::Files;
 use std::io;
@@ -18,8 +17,8 @@ fn print_plan(
 ) -> io::Result<()> {
     let kept = prog_common::number_arg(rt, 3);
     match call_walk_back::walk_back(formula, log, kept, answer, work, out) {
-        Carried::Refused(k) => prog_common::print_refusal(rt, k),
-        Carried::Line(n) => prog_common::print_start(rt, out, n),
+        Ok(n) => prog_common::print_start(rt, out, n),
+        Err(refusal) => prog_common::print_refusal(rt, refusal),
     }
 }
 

@@ -17,7 +17,7 @@ use Rattle.theory_base.proofs.Slices.{sets_before, getD_before}
 use Rattle.literals.specs.Literal.{largest, header_of, header_literals}
 use Rattle.literals.proofs.Laws.{literals_header}
 use Rattle.store.specs.Store.{Formed, stored, entry, header_at, size_at, clause_at, past, end_after, with_entry}
-use Rattle.store.specs.declared.Added.TheVariants.{To, Full}
+use Rattle.std.specs.Prelude.{Some, None}
 use Rattle.store.proofs.Laws.{formed-++, stored-++, stored_none, entry_formed, entry_stored, entry_header, entry_clause, fits_within, prefix_next, part_there, kept_clause}
 use Rattle.index.specs.Index.{nodes, Indexed}
 use Rattle.index.proofs.Laws.{indexed_sets}
@@ -154,7 +154,7 @@ pub record PutThere (c : Clause) (w : List ℤ) (m : List ℕ) (p : Progress) (v
 clause_space : (c : Clause) {w : List ℤ} {m : List ℕ} {p : Progress} → GrowRoom (c ∷ []) w m p → p.end + (length c + 1) + 2 * (nodes m + length c) ≤ length w
 clause_space c r = omega (arith, r.space, numbers_first c [], numbers_none, literals_first c [], literals_none)
 
-pub never_full : {P : Type 0} (c : Clause) {w : List ℤ} {m : List ℕ} {p : Progress} → length c ≤ largest → GrowRoom (c ∷ []) w m p → end_after (length w) p.end c ≡ Full → P
+pub never_full : {P : Type 0} (c : Clause) {w : List ℤ} {m : List ℕ} {p : Progress} → length c ≤ largest → GrowRoom (c ∷ []) w m p → end_after (length w) p.end c ≡ None → P
 never_full c {w} {p = p} h r e = absurd (let z : ◌≡◌ {A = ℕ} 0 1 = cc (rw (fits_within (length w) p.end c (omega arith) (omega (arith, clause_space c r))) at e) in omega arith)
 
 -- an entry set there
@@ -177,11 +177,11 @@ put_at {w} {v} {m} {p} {next} c h r e f =
     }
 
 -- by what append_clause answers
-pub put_there : {w v : List ℤ} {m : List ℕ} {p : Progress} {next : ℕ} (c : Clause) → length c ≤ largest → GrowRoom (c ∷ []) w m p → end_after (length w) p.end c ≡ To next → v ≡ with_entry w p.end c → PutThere c w m p v next
+pub put_there : {w v : List ℤ} {m : List ℕ} {p : Progress} {next : ℕ} (c : Clause) → length c ≤ largest → GrowRoom (c ∷ []) w m p → end_after (length w) p.end c ≡ Some next → v ≡ with_entry w p.end c → PutThere c w m p v next
 put_there {w} {v} {m} {p} {next} c h r e f =
     let space = clause_space c r in
     let fit = fits_within (length w) p.end c (omega arith) (omega arith) in
-    let a : To (p.end + (length c + 1)) ≡ To next = rw fit at e in
+    let a : Some (p.end + (length c + 1)) ≡ Some next = rw fit at e in
     let b : v ≡ sets w p.end (entry c) = rw fit at f in
     let g : p.end + (length c + 1) ≡ next = cc in
     put_at c h r (sym g) b

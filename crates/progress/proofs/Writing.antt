@@ -2,12 +2,13 @@
 use mathlib.Core.Path.{◌≡◌, refl, sym, ap, subst, ◌∙◌}
 use mathlib.Core.Bool.{Bool, true, false, not, cond}
 use mathlib.Core.List.{List, [], ◌∷◌, ◌++◌, append-nil, append_assoc}
-use Prim.Native.Nat.{ℕ, ◌+◌, ◌-◌, ◌*◌, ◌≤◌, ◌<◌, ◌^◌}
+use Prim.Native.Nat.{ℕ, ◌+◌, ◌*◌, ◌≤◌, ◌<◌, ◌^◌}
 use native.Mathlib.Omega.{arith}
 use native.Mathlib.Numerals.{add-one}
 use lib.IntN.{ℤ, pos}
 use lib.ListN.{length, get_or, take, drop, length-take}
 use lib.Seq.{take-suc, take_all}
+use borrow.Author.Tests.{eq-eqb, ne_eqb}
 use mir.Syntax.{w32}
 use mir.Val.{SFits, of_z, to_z}
 use mir.ValLaws.{to_z-of_z}
@@ -16,11 +17,12 @@ use Rattle.definition.specs.Literals.{Clause, same, without, with_first}
 use Rattle.definition.specs.Text.{Bytes, bytes, literal_text}
 use Rattle.definition.specs.Standing.{deletion}
 use Rattle.definition.specs.Log.{clause_text, log_line_text}
+use Rattle.literals.specs.Literal.{header_literals}
 use Rattle.theory_base.proofs.Loops.{for_each-++}
-use Rattle.literals.proofs.Laws.{at_arg, at_arg2, literals_within}
+use Rattle.literals.proofs.Laws.{at_arg, answer, literals_within}
+use Rattle.literals.proofs.Bits.{same_bits}
 use Rattle.theory_text.specs.ClauseText.{literals_text}
-use Rattle.store.specs.Store.{header_at, clause_at, past}
-use Rattle.store.proofs.Laws.{part_there}
+use Rattle.store.specs.Store.{header_at, size_at, clause_at, past}
 use Rattle.text.specs.Output.{Put}
 use Rattle.text.proofs.Output.{put_none, put_then, put_same, put_length}
 use Rattle.progress.specs.declared.Progress.{Progress}
@@ -43,15 +45,14 @@ unfolding literals_text
 texts-++ a b = for_each-++ a b (λ l. literal_text l ++ bytes " ")
 
 -- one literal
-pub skipped : {x : Bytes} {at : ℕ} {t : Bool} (f l : ℤ) → SFits w32 f → SFits w32 l → t ≡ same (to_z w32 (of_z w32 f)) (to_z w32 (of_z w32 l)) → t ≡ true → Put x at (literals_text (without f (l ∷ []))) at x
+pub skipped : (x : Bytes) (at : ℕ) (f l : ℤ) → SFits w32 f → SFits w32 l → of_z w32 f ≡ of_z w32 l → Put x at (literals_text (without f (l ∷ []))) at x
 unfolding without those literals_text for_each
-skipped {x} {at} f l a b e k = let d : same f l ≡ true = sym (at_arg2 same f l a b) ∙ sym e ∙ k in rw d (put_none x at)
+skipped x at f l a b e = let d : same f l ≡ true = sym (same_bits f l a b) ∙ eq-eqb _ _ e in rw d (put_none x at)
 
-pub one_other : {x y : Bytes} {at r : ℕ} {t : Bool} (f l : ℤ) → SFits w32 f → SFits w32 l → t ≡ same (to_z w32 (of_z w32 f)) (to_z w32 (of_z w32 l)) →
-    t ≡ false → Put x at (literal_text (to_z w32 (of_z w32 l)) ++ bytes " ") r y → Put x at (literals_text (without f (l ∷ []))) r y
+pub one_other : {x y : Bytes} {at r : ℕ} (f l : ℤ) → SFits w32 f → SFits w32 l → (of_z w32 f ≡ of_z w32 l → ⊥) → Put x at (literal_text (to_z w32 (of_z w32 l)) ++ bytes " ") r y → Put x at (literals_text (without f (l ∷ []))) r y
 unfolding without those literals_text for_each
-one_other f l a b e k p =
-    let d : same f l ≡ false = sym (at_arg2 same f l a b) ∙ sym e ∙ k in
+one_other f l a b n p =
+    let d : same f l ≡ false = sym (same_bits f l a b) ∙ ne_eqb _ _ n in
     rw d (put_same p (at_arg (λ (z : ℤ). literal_text z ++ bytes " ") l b ∙ sym (append-nil (literal_text l ++ bytes " "))))
 
 -- the first i literals, without f
@@ -101,13 +102,16 @@ line_put f c s p q t u =
 
 -- ---- a clause of a store deleted
 
--- its line, written from its part of the store
-pub clause_written : {x y : Bytes} {p q : Progress} (l : ℤ) (s : List ℤ) (at next : ℕ) → SFits w32 l → next ≡ past s at → Written (deletion (with_first (to_z w32 (of_z w32 l)) (take (next - (at + 1)) (drop (at + 1) s))) ∷ []) x p y q
-    → Written (deletion (with_first l (clause_at s at)) ∷ []) x p y q
-clause_written {x} {y} {p} {q} l s at next f e w =
-    subst (λ (c : Clause). Written (deletion (with_first l c) ∷ []) x p y q) (part_there s at next e)
-    (subst (λ (z : ℤ). Written (deletion (with_first z (take (next - (at + 1)) (drop (at + 1) s))) ∷ []) x p y q) (to_z-of_z w32 l f) w)
+-- the place past it, by what its header answers
+pub past_is : (s : List ℤ) (at : ℕ) {n : ℕ} → SFits w32 (header_at s at) → n ≡ header_literals (to_z w32 (of_z w32 (header_at s at))) → at + (1 + n) ≡ past s at
+past_is s at f e = ap (λ (n : ℕ). at + (1 + n)) (answer header_literals (header_at s at) f e)
+
+-- its line
+pub clause_written : {x y : Bytes} {p q : Progress} {c : Clause} (l : ℤ) (d : Clause) → SFits w32 l → c ≡ d → Written (deletion (with_first (to_z w32 (of_z w32 l)) c) ∷ []) x p y q → Written (deletion (with_first l d) ∷ []) x p y q
+clause_written {x} {y} {p} {q} {c} l d f e w =
+    subst (λ (c : Clause). Written (deletion (with_first l c) ∷ []) x p y q) e
+    (subst (λ (z : ℤ). Written (deletion (with_first z c) ∷ []) x p y q) (to_z-of_z w32 l f) w)
 
 -- it is short enough for a line
-pub clause_short : (s : List ℤ) (at next : ℕ) → SFits w32 (header_at s at) → next ≡ past s at → length (take (next - (at + 1)) (drop (at + 1) s)) < 2 ^ 31
-clause_short s at next f e = omega (arith, literals_within (header_at s at) f, length-take (next - (at + 1)) (drop (at + 1) s))
+pub clause_short : (s : List ℤ) (at : ℕ) → SFits w32 (header_at s at) → length (clause_at s at) < 2 ^ 31
+clause_short s at f = omega (arith, literals_within (header_at s at) f, length-take (size_at s at) (drop (at + 1) s))

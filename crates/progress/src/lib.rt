@@ -10,12 +10,12 @@ ghost use Rattle.literals.specs.Literal.{largest};
 ghost use Rattle.text.specs.Output.{Put};
 ghost use Rattle.theory_base.specs.Cells.{cells_of};
 ghost use Rattle.store.specs.Store.{clause_at, marked, Formed};
-ghost use Rattle.drat.specs.Lines.{line_of};
+ghost use Rattle.drat.specs.Lines.{line_clause, line_said};
 ghost use Rattle.index.specs.Index.{nodes, Indexed, Roomy};
 ghost use Rattle.progress.specs.Progress.{Written, standing, Runs};
 ghost use Rattle.progress.specs.Growth.{GrowRoom, Grown, EntryThere};
 
-use store::Added;
+use drat::ProofLine;
 
 // How far a run is: the store's end, the log's end and the lines in the log.
 #[derive(Clone, Copy)]
@@ -25,30 +25,31 @@ pub struct Progress {
     pub lines: usize,
 }
 
-// Records a proof line: an added clause, or a deleted one.
-pub fn record_line(log: &mut [u8], p: Progress, is_deletion: bool, clause: &[i32]) -> Progress
-    requires clause_bound { p.at + 12 * length clause.now + 4 < 2 ^ 64 }
+// Records a proof line.
+pub fn record_line(log: &mut [u8], p: Progress, line: ProofLine) -> Progress
+    requires clause_bound { p.at + 12 * length (line_clause line) + 4 < 2 ^ 64 }
     requires lines_bound { p.lines + 1 < 2 ^ 64 }
-    ensures written { Written (line_of is_deletion clause.now ∷ []) log.old p log.new result }
+    ensures written { Written (line_said line.entry ∷ []) log.old p log.new result }
     ensures kept { result.end ≡ p.end }
 {
-    let at = drat::log_line(log, p.at, is_deletion, clause);
+    let at = drat::log_line(log, p.at, line);
     Progress {
-        end: p.end,
         at,
         lines: p.lines + 1,
+        ..p
     }
 }
 
 // ---- a deletion with a literal first
 
 // Writes a literal and a blank, unless it is the first one.
+#[tactic(auto, using(crate::proofs::Writing::skipped, crate::proofs::Writing::one_other))]
 fn put_other(log: &mut [u8], at: usize, first: i32, l: i32) -> usize
     requires { at + 12 < 2 ^ 64 }
     ensures written { Put log.old at (literals_text (without first (l ∷ []))) result log.new }
     ensures within { result ≤ at + 12 }
 {
-    if literals::same(first, l) {
+    if first == l {
         return at;
     }
     text::put_item(log, at, l)
@@ -61,10 +62,8 @@ fn put_others(log: &mut [u8], at: usize, first: i32, clause: &[i32]) -> usize
     ensures within { result ≤ at + 12 * length clause.now }
 {
     let mut end = at;
-    let mut i = 0;
-    while i < clause.len() {
-        end = put_other(log, end, first, clause[i]);
-        i += 1;
+    for l in clause {
+        end = put_other(log, end, first, *l);
     }
     end
 }
@@ -75,8 +74,8 @@ fn put_first(log: &mut [u8], at: usize, first: i32) -> usize
     ensures written { Put log.old at (bytes "d " ++ literal_text first ++ bytes " ") result log.new }
     ensures within { result ≤ at + 14 }
 {
-    let a = text::put_byte(log, at, 100);
-    let b = text::put_byte(log, a, 32);
+    let a = text::put_byte(log, at, b'd');
+    let b = text::put_byte(log, a, b' ');
     text::put_item(log, b, first)
 }
 
@@ -89,12 +88,12 @@ fn record_first(log: &mut [u8], p: Progress, first: i32, clause: &[i32]) -> Prog
 {
     let a = put_first(log, p.at, first);
     let b = put_others(log, a, first, clause);
-    let c = text::put_byte(log, b, 48);
-    let at = text::put_byte(log, c, 10);
+    let c = text::put_byte(log, b, b'0');
+    let at = text::put_byte(log, c, b'\n');
     Progress {
-        end: p.end,
         at,
         lines: p.lines + 1,
+        ..p
     }
 }
 
@@ -106,10 +105,9 @@ pub fn delete_first(work: &mut [i32], at: usize, log: &mut [u8], p: Progress, l:
     ensures kept { result.end ≡ p.end }
     ensures marked { work.new ≡ marked work.old at }
 {
-    let n = literals::header_length(work[at]);
-    let first = at + 1;
-    let next = first + n;
-    let q = record_first(log, p, l, &work[first..next]);
+    // the header, read here, bounds the clause's length
+    let next = at + (1 + literals::header_length(work[at]));
+    let q = record_first(log, p, l, &work[at + 1..next]);
     store::mark_deleted(work, at);
     q
 }
@@ -124,11 +122,7 @@ pub fn make_room(work: &mut [i32], newest: &mut [u32], p: Progress, cells: usize
     ensures roomy { Roomy cells work.new result.end newest.new }
 {
     let end = index::make_room(work, newest, p.end, cells);
-    Progress {
-        end,
-        at: p.at,
-        lines: p.lines,
-    }
+    Progress { end, ..p }
 }
 
 // ---- clauses added behind the store
@@ -147,14 +141,9 @@ pub fn record_added(
     ensures { Grown (clause_at work.old p.end ∷ []) work.old newest.old log.old p work.new newest.new log.new result }
 {
     let end = p.end;
-    let first = end + 1;
     index::enter(work, newest, end, next);
-    let q = record_line(log, p, false, &work[first..next]);
-    Progress {
-        end: next,
-        at: q.at,
-        lines: q.lines,
-    }
+    let q = record_line(log, p, ProofLine::Addition(&work[end + 1..next]));
+    Progress { end: next, ..q }
 }
 
 // Adds a clause to the store, and records it.
@@ -170,7 +159,7 @@ pub fn add_clause(
 {
     let from = p.end;
     match store::append_clause(work, from, clause) {
-        Added::To(end) => record_added(work, newest, log, p, end),
-        Added::Full => p,
+        Some(end) => record_added(work, newest, log, p, end),
+        None => p,
     }
 }

@@ -9,12 +9,14 @@ use lib.Dec.{T, ltb, eqb}
 use lib.IntN.{ℤ, neg_ℤ}
 use lib.ListN.{length, get_or, replicate}
 use borrow.Author.Tests.{lt-ltb, ltb-true, eqb-true, eq-eqb}
-use Rattle.definition.specs.Lists.{for_each}
+use Rattle.definition.specs.Lists.{any, for_each}
 use Rattle.definition.specs.Literals.{Clause, opposed}
 use Rattle.definition.specs.Events.{Choice}
 use Rattle.definition.specs.Counter.{size, lit, new}
 use Rattle.definition.specs.Order.{place_from, previous, negated_new, instead_of, replaced}
 use Rattle.theory_base.proofs.Tests.{of_true, to_true, each_way, and_l, and_r, and_i}
+use mathlib.Core.Bool.{Bool, false}
+use Rattle.theory_base.proofs.Chains.{any_is}
 use Rattle.theory_base.proofs.Members.{any_mem, mem_any}
 use Rattle.theory_base.specs.Clauses.{Proper, FitAll}
 use Rattle.theory_base.proofs.Places.{place_of}
@@ -68,21 +70,21 @@ module _ {t : List ℕ} (k : Choice) (v : Places t k.literals) where
   -- the next place is marked exactly where the clause holds the negation of the next literal
   pub opposed_is : WellFormed k → length k.literals ≤ 64 → (d : Clause) → Proper d → FitAll k.below d → opposed_by t d ≡ opposed (replaced k d)
   unfolding size
-  opposed_is u b d a g = each_way (λ z. of_true ((opposed_exactly k u d f a).1 (one z))) (λ z. two ((opposed_exactly k u d f a).0 (to_true z)))
+  opposed_is u b d a g = any_is (next_in t w) d ∙ each_way (λ z. of_true ((opposed_exactly k u d f a).1 (one z))) (λ z. two ((opposed_exactly k u d f a).0 (to_true z)))
     where
       f : UpTo k.below d
       f x i = (g x i).1
 
-      w : List ℕ
-      w = with_place_marks t (replicate 66 0) d
+      w : List Bool
+      w = with_place_marks t (replicate 66 false) d
 
-      one : T (opposed_by t d) → Neighbours k d
+      one : T (any (next_in t w) d) → Neighbours k d
       one z =
           let r = any_mem (next_in t w) d z in
           let p = place_in t r.0 in
-          let h : 0 < p = ltb-true 0 p (to_true (and_l (ltb 0 p) (eqb (get_or w (p + 1) 0) 1) r.2)) in
+          let h : 0 < p = ltb-true 0 p (to_true (and_l (ltb 0 p) (get_or w (p + 1) false) r.2)) in
           let q = placed_at r.0 h in
-          let n = any_mem (λ m. eqb (place_in t m) (p + 1)) d (of_true (sym (mark_tells t (p + 1) d (omega (arith, q.0))) ∙ to_true (and_r (ltb 0 p) (eqb (get_or w (p + 1) 0) 1) r.2))) in
+          let n = any_mem (λ m. eqb (place_in t m) (p + 1)) d (of_true (sym (mark_tells t (p + 1) d (omega (arith, q.0))) ∙ to_true (and_r (ltb 0 p) (get_or w (p + 1) false) r.2))) in
           let e : place_in t n.0 ≡ p + 1 = eqb-true (place_in t n.0) (p + 1) (to_true n.2) in
           let g = placed_at n.0 (omega arith) in
           record {
@@ -93,13 +95,13 @@ module _ {t : List ℕ} (k : Choice) (v : Places t k.literals) where
             next = Memᴰ.cast (sym (g.1 ∙ ap (λ (i : ℕ). neg_ℤ (lit k i)) e)) n.1;
           }
 
-      two : Neighbours k d → T (opposed_by t d)
+      two : Neighbours k d → T (any (next_in t w) d)
       two n =
           let m = neg_ℤ (lit k n.place) in
           let e : place_in t m ≡ n.place = at_place u.proper n.place n.from_first (omega (arith, n.before_last)) in
           let g : place_in t (neg_ℤ (lit k (n.place + 1))) ≡ n.place + 1 = at_place u.proper (n.place + 1) (omega arith) (omega (arith, n.before_last)) in
           mem_any (next_in t w) d m n.one
-          (and_i (ltb 0 (place_in t m)) (eqb (get_or w (place_in t m + 1) 0) 1)
+          (and_i (ltb 0 (place_in t m)) (get_or w (place_in t m + 1) false)
           (of_true (lt-ltb 0 (place_in t m) (omega (arith, n.from_first))))
           (of_true (mark_tells t (place_in t m + 1) d (omega (arith, n.before_last))
           ∙ to_true (mem_any (λ x. eqb (place_in t x) (place_in t m + 1)) d (neg_ℤ (lit k (n.place + 1))) n.next

@@ -1,82 +1,58 @@
 // The result of a clause in order form: its negated choice literals replaced. Tested, and written behind the store.
 #![tactic(auto)]
 
-ghost use Rattle.std.specs.Prelude.{◌≡◌, [], ◌∷◌, ◌+◌, ◌≤◌, length, take, drop};
+ghost use Rattle.std.specs.Prelude.{◌≡◌, ◌+◌, ◌≤◌, length, take, drop};
+ghost use Rattle.std.specs.List.{list_any};
 ghost use Rattle.std.proofs.lemmas.List.Edits.{sets};
-ghost use Rattle.definition.specs.Lists.{any, only_if};
 ghost use Rattle.definition.specs.Literals.{opposed};
-ghost use Rattle.definition.specs.Events.{Choice, choice_of};
+ghost use Rattle.definition.specs.Events.{Choice};
 ghost use Rattle.definition.specs.Order.{replaced};
 ghost use Rattle.theory_base.specs.Clauses.{Proper, FitAll};
 ghost use Rattle.theory_counter.specs.Ready.{WellFormed};
 ghost use Rattle.tables.specs.Sizes.{log_reach};
-ghost use Rattle.tables.specs.Places.{Places, Small};
+ghost use Rattle.tables.specs.Places.{Places};
 ghost use Rattle.store.specs.Store.{entry};
-ghost use Rattle.replacement.specs.Replaced.{with_place_marks, next_in, instead_by};
+ghost use Rattle.replacement.specs.Replaced.{with_place_marks, next_in, instead_by, choice_in, PlacedWell};
 
 // ---- whether the result holds a literal and its negation: the clause holds the negations of two neighbours
 
 // Marks the places of the negated choice literals of a clause.
-fn mark_places(marks: &mut [u32], places: &[u32], clause: &[i32])
+fn mark_places(marks: &mut [bool], places: &[u32], clause: &[i32])
     ensures { marks.new ≡ with_place_marks places.now marks.old clause.now }
 {
-    let mut i = 0;
-    while i < clause.len() {
-        tables::set_at(marks, tables::place_of(places, clause[i]) as usize, 1);
-        i += 1;
+    for m in clause {
+        slices::put(marks, tables::place_of(places, *m) as usize, true);
     }
 }
 
 // Whether a literal is a negated choice literal and the next place is marked.
-fn has_next(marks: &[u32], places: &[u32], l: i32) -> bool
+fn has_next(marks: &[bool], places: &[u32], l: i32) -> bool
     ensures { result ≡ next_in places.now marks.now l }
 {
     let place = tables::place_of(places, l) as usize;
-    if place == 0 {
-        return false;
-    }
-    tables::entry_at(marks, place + 1) == 1
+    place != 0 && marks.get(place + 1).copied().unwrap_or(false)
 }
 
 // Whether a literal of a clause has its next place marked.
-fn any_next(marks: &[u32], places: &[u32], clause: &[i32]) -> bool
-    ensures { result ≡ any (next_in places.now marks.now) clause.now }
+fn any_next(marks: &[bool], places: &[u32], clause: &[i32]) -> bool
+    ensures { result ≡ list_any (next_in places.now marks.now) clause.now }
 {
-    let mut i = 0;
-    while i < clause.len() {
-        if has_next(marks, places, clause[i]) {
-            return true;
-        }
-        i += 1;
-    }
-    false
+    clause.iter().any(|m| has_next(marks, places, *m))
 }
 
 // Whether the result of a clause of older variables holds a literal and its negation.
 pub fn is_opposed(places: &[u32], clause: &[i32]) -> bool
     ensures { (k : Choice) → Places places.now k.literals → WellFormed k → length k.literals ≤ 64 → Proper clause.now → FitAll k.below clause.now → result ≡ opposed (replaced k clause.now) }
 {
-    let mut marks = [0u32; 66];
+    let mut marks = [false; 66];
     mark_places(&mut marks, places, clause);
     any_next(&marks, places, clause)
 }
 
 // ---- the result, written behind the store
 
-// Writes a literal if it is wanted; the result is the place past it.
-pub fn put_if(work: &mut [i32], to: usize, wanted: bool, l: i32) -> usize
-    requires { to + length (only_if «wanted» (l ∷ [])) ≤ length work.old }
-    ensures next { result ≡ to + length (only_if «wanted» (l ∷ [])) }
-    ensures written { work.new ≡ sets work.old to (only_if «wanted» (l ∷ [])) }
-{
-    if wanted {
-        work[to] = l;
-        return to + 1;
-    }
-    to
-}
-
-// Writes what stands for a literal whose negation has a place in a choice of `size` literals.
+// Writes what stands for a literal whose negation has a place in a choice of `size` literals; the result is the place past it.
+#[tactic(auto, unfolding(definition::specs::Lists::only_if), using(literals::proofs::Laws::signed_small))]
 fn put_instead(work: &mut [i32], to: usize, l: i32, place: u32, size: u32, below: u32) -> usize
     requires place_bound { (place ≤ 64) × (below ≤ log_reach + 1) }
     requires place_in_bounds { to + length (instead_by size below l place) ≤ length work.old }
@@ -84,36 +60,42 @@ fn put_instead(work: &mut [i32], to: usize, l: i32, place: u32, size: u32, below
     ensures written { work.new ≡ sets work.old to (instead_by size below l place) }
 {
     if place == 0 {
-        return put_if(work, to, true, l);
+        work[to] = l;
+        return to + 1;
     }
-    let before = literals::signed(false, below + (place - 1));
-    let a = put_if(work, to, 1 < place, before);
-    let after = literals::signed(true, below + place);
-    put_if(work, a, place < size, after)
+    let mut end = to;
+    if 1 < place {
+        work[end] = literals::signed(false, below + (place - 1));
+        end += 1;
+    }
+    if place < size {
+        work[end] = literals::signed(true, below + place);
+        end += 1;
+    }
+    end
+}
+
+// A choice, and the table of its places.
+#[derive(Clone, Copy)]
+pub struct Placed<'a> {
+    pub literals: &'a [i32],
+    pub below: u32,
+    pub places: &'a [u32],
 }
 
 // Writes the result of the n literals from a place on; the result is the place past it.
-fn put_replaced(
-    work: &mut [i32],
-    to: usize,
-    from: usize,
-    n: usize,
-    places: &[u32],
-    choice: &[i32],
-    below: u32,
-) -> usize
-    requires n_bound { (from + n ≤ to) × Places places.now choice.now × Small choice.now below }
-    requires work_in_bounds { to + length (replaced (choice_of choice.now below) (take n (drop from work.old))) ≤ length work.old }
-    ensures next { result ≡ to + length (replaced (choice_of choice.now below) (take n (drop from work.old))) }
-    ensures written { work.new ≡ sets work.old to (replaced (choice_of choice.now below) (take n (drop from work.old))) }
+fn put_replaced(work: &mut [i32], to: usize, from: usize, n: usize, choice: &Placed) -> usize
+    requires n_bound { (from + n ≤ to) × PlacedWell choice.now }
+    requires work_in_bounds { to + length (replaced (choice_in choice.now) (take n (drop from work.old))) ≤ length work.old }
+    ensures next { result ≡ to + length (replaced (choice_in choice.now) (take n (drop from work.old))) }
+    ensures written { work.new ≡ sets work.old to (replaced (choice_in choice.now) (take n (drop from work.old))) }
 {
-    let size = choice.len() as u32;
+    let size = choice.literals.len() as u32;
     let mut end = to;
-    let mut i = 0;
-    while i < n {
+    for i in 0..n {
         let l = work[from + i];
-        end = put_instead(work, end, l, tables::place_of(places, l), size, below);
-        i += 1;
+        let place = tables::place_of(choice.places, l);
+        end = put_instead(work, end, l, place, size, choice.below);
     }
     end
 }
@@ -124,17 +106,15 @@ pub fn append_replaced(
     end: usize,
     from: usize,
     n: usize,
-    places: &[u32],
-    choice: &[i32],
-    below: u32,
+    choice: &Placed,
 ) -> usize
-    requires n_bound { (from + n ≤ end) × Places places.now choice.now × Small choice.now below }
-    requires work_in_bounds { end + length (entry (replaced (choice_of choice.now below) (take n (drop from work.old)))) ≤ length work.old }
-    ensures next { result ≡ end + length (entry (replaced (choice_of choice.now below) (take n (drop from work.old)))) }
-    ensures written { work.new ≡ sets work.old end (entry (replaced (choice_of choice.now below) (take n (drop from work.old)))) }
+    requires n_bound { (from + n ≤ end) × PlacedWell choice.now }
+    requires work_in_bounds { end + length (entry (replaced (choice_in choice.now) (take n (drop from work.old)))) ≤ length work.old }
+    ensures next { result ≡ end + length (entry (replaced (choice_in choice.now) (take n (drop from work.old)))) }
+    ensures written { work.new ≡ sets work.old end (entry (replaced (choice_in choice.now) (take n (drop from work.old)))) }
 {
     let first = end + 1;
-    let next = put_replaced(work, first, from, n, places, choice, below);
+    let next = put_replaced(work, first, from, n, choice);
     work[end] = literals::header(next - first);
     next
 }

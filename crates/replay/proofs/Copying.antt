@@ -1,49 +1,20 @@
--- Elements copied further on in a slice.
-use mathlib.Core.Path.{◌≡◌, refl, sym, ap, ap₂, ◌∙◌}
-use mathlib.Core.List.{List}
-use Prim.Native.Nat.{ℕ, ◌+◌, ◌≤◌, ◌<◌}
-use native.Mathlib.Nat.{add-zero}
-use native.Mathlib.Numerals.{add-one}
-use native.Mathlib.Omega.{arith}
-use lib.IntN.{ℤ, pos}
-use lib.ListN.{length, get_or, set, take, drop, length-set, length-drop}
-use lib.Seq.{sets, length-take-le, take-set-le, get_or-take, get_or-drop}
+-- Elements copied further on in a slice, and the header put in front.
+use Rattle.std.proofs.Common.{◌≡◌, sym, ap, ap₂, ◌∙◌, List, ℕ, ◌+◌, ◌-◌, ◌≤◌, ◌++◌, ℤ, length, set, take, drop, add-one, arith, length-drop}
+use Rattle.std.proofs.Math.Seq.{length-take-le}
+use Rattle.std.proofs.lemmas.List.Edits.{sets, sets-eq}
+use Rattle.std.specs.List.{copy_within}
 use Rattle.literals.specs.Literal.{header_of}
 use Rattle.store.specs.Store.{entry}
-use Rattle.theory_base.proofs.Slices.{sets_step, sets_first, drop_end}
+use Rattle.theory_base.proofs.Slices.{sets_first}
 
--- the first i of n elements are copied
-pub record Copying (old : List ℤ) (to from n : ℕ) (work : List ℤ) (i : ℕ) : Type 0 where
-  pub inside : i ≤ n
-  pub size : length work ≡ length old
-  pub kept : take to work ≡ take to old
-  pub rest : sets work (to + i) (drop i (take n (drop from old))) ≡ sets old to (take n (drop from old))
+pub copied : (w : List ℤ) (from n to : ℕ) → from + n ≤ length w → to + n ≤ length w → copy_within w from (from + n) to ≡ sets w to (take n (drop from w))
+copied w from n to h l =
+    let k : length (take n (drop from w)) ≡ n = length-take-le n (drop from w) (omega (arith, length-drop from w)) in
+    let e : from + n - from ≡ n = omega arith in
+    rw e (sym (sets-eq (take n (drop from w)) w to (omega (arith, k)) ∙ ap (λ (j : ℕ). take to w ++ take n (drop from w) ++ drop (to + j) w) k))
 
-pub copying_start : (old : List ℤ) (to from n : ℕ) → Copying old to from n old 0
-copying_start old to from n = record { inside = omega arith; size = refl; kept = refl; rest = ap (λ (k : ℕ). sets old k (take n (drop from old))) (add-zero to) }
-
-module _ {old : List ℤ} {to from n : ℕ} {work : List ℤ} {i : ℕ} (c : Copying old to from n work i) (h : i < n) (l : from + n ≤ to) (m : to ≤ length old) where
-  copied : get_or work (from + i) (pos 0) ≡ get_or (take n (drop from old)) i (pos 0)
-  copied =
-      sym (get_or-take to work (from + i) (pos 0) (omega arith))
-      ∙ ap (λ (s : List ℤ). get_or s (from + i) (pos 0)) c.kept
-      ∙ get_or-take to old (from + i) (pos 0) (omega arith)
-      ∙ sym (get_or-take n (drop from old) i (pos 0) h ∙ get_or-drop from old i (pos 0))
-
-  pub copying_step : {x : ℤ} → x ≡ get_or work (from + i) (pos 0) → Copying old to from n (set work (to + i) x) (i + 1)
-  copying_step {x} e = record {
-    inside = omega arith;
-    size = length-set work (to + i) x ∙ c.size;
-    kept = take-set-le to work (to + i) x (omega arith) ∙ c.kept;
-    rest =
-        ap (λ (z : ℤ). sets (set work (to + i) z) (to + (i + 1)) (drop (i + 1) (take n (drop from old)))) (e ∙ copied)
-        ∙ sets_step work (take n (drop from old)) to i (pos 0) (omega (arith, length-take-le n (drop from old) (omega (arith, length-drop from old))))
-        ∙ c.rest;
-  }
-
-pub copying_end : {old : List ℤ} {to from n : ℕ} {work : List ℤ} {i : ℕ} → Copying old to from n work i → n ≤ i → from + n ≤ length old → work ≡ sets old to (take n (drop from old))
-copying_end {old} {to} {from} {n} {work} {i} c h l =
-    ap (sets work (to + i)) (sym (drop_end (take n (drop from old)) i (omega (arith, length-take-le n (drop from old) (omega (arith, length-drop from old)))))) ∙ c.rest
+pub copied_front : (w : List ℤ) (n to : ℕ) → n ≤ length w → to + n ≤ length w → copy_within w 0 n to ≡ sets w to (take n w)
+copied_front w n to h l = let e : n ≡ 0 + n = omega arith in ap (λ (k : ℕ). copy_within w 0 k to) e ∙ copied w 0 n to (omega arith) l
 
 -- the header in front
 pub entry_written : (old work : List ℤ) (end n : ℕ) (c : List ℤ) (h : ℤ) → length c ≡ n → work ≡ sets old (end + 1) c → h ≡ header_of n → set work end h ≡ sets old end (entry c)

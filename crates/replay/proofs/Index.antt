@@ -8,6 +8,9 @@ use mathlib.Core.List.{List, [], ◌∷◌, ◌++◌, Memᴰ}
 use Prim.Native.Nat.{ℕ, zero, suc, ◌+◌, ◌≤◌, ◌<◌, min, ◌*◌, ◌%◌, max}
 use native.Mathlib.Omega.{arith}
 use lib.Dec.{eqb}
+use Rattle.std.specs.List.{fold}
+use Rattle.std.specs.Prelude.{Option, Some, None}
+use Rattle.std.specs.Option.{option_or}
 use lib.IntN.{ℤ, pos}
 use lib.ListN.{length, get_or, take, drop}
 use lib.Seq.{take-append-le, take_all, take-take, take-length, length-take-le}
@@ -16,11 +19,9 @@ use Rattle.definition.specs.Literals.{Clause, same_set}
 use Rattle.theory_base.proofs.Tests.{of_true, by_test}
 use Rattle.theory_base.proofs.Members.{same_set_same}
 use Rattle.theory_base.specs.Clauses.{Within}
-use Rattle.theory_base.proofs.Slices.{drop_step, drop_end}
+use Rattle.theory_base.proofs.Slices.{drop_step}
 use Rattle.literals.specs.Literal.{index_of, header_literals}
 use Rattle.store.specs.Store.{FormedFrom, Formed, header_at, size_at, deleted_at, clause_at, past, Place, begins_with, place_from, place_of}
-use Rattle.store.specs.declared.Found.{Found}
-use Rattle.store.specs.declared.Found.TheVariants.{At, Nothing}
 use Rattle.store.proofs.Laws.{by_entries, place_end, clause_length, prefix_next}
 use Rattle.store.proofs.Finding.{matches_deleted, matches_stands}
 use Rattle.replay.specs.Index.{last_index, keys, lowest_index, greatest_index, key_of, key_at, last_from, last_with, Indexed}
@@ -33,17 +34,13 @@ unfolding lowest_index
 lowest_most [] = omega arith
 lowest_most (l ∷ c) = omega (arith, lowest_most c)
 
-pub lowest_start : (c : Clause) → min last_index (lowest_index c) ≡ lowest_index c
-lowest_start c = omega (arith, lowest_most c)
+lowest_from : (c : Clause) (k : ℕ) → k ≤ last_index → fold (λ low l. min low (index_of l)) k c ≡ min k (lowest_index c)
+unfolding lowest_index
+lowest_from [] k h = omega arith
+lowest_from (l ∷ c) k h = omega (arith, lowest_from c (min k (index_of l)) (omega arith))
 
-module _ (c : Clause) (i k : ℕ) where
-  pub lowest_step : i < length c → min (min k (index_of (get_or c i (pos 0)))) (lowest_index (drop (i + 1) c)) ≡ min k (lowest_index (drop i c))
-  unfolding lowest_index
-  lowest_step h = rw (drop_step c i (pos 0) h) (omega arith)
-
-  pub lowest_end : length c ≤ i → k ≤ last_index → k ≡ min k (lowest_index (drop i c))
-  unfolding lowest_index
-  lowest_end h l = rw (drop_end c i h) (omega arith)
+pub lowest_is : (c : Clause) → fold (λ low l. min low (index_of l)) last_index c ≡ lowest_index c
+lowest_is c = omega (arith, lowest_from c last_index (omega arith), lowest_most c)
 
 lowest_least : (c : Clause) (l : ℤ) → Memᴰ l c → lowest_index c ≤ index_of l
 unfolding lowest_index
@@ -62,14 +59,13 @@ unfolding greatest_index
 greatest_most [] = omega arith
 greatest_most (l ∷ c) = omega (arith, greatest_most c)
 
-module _ (c : Clause) (i k : ℕ) where
-  pub greatest_step : i < length c → max (max k (min last_index (index_of (get_or c i (pos 0))))) (greatest_index (drop (i + 1) c)) ≡ max k (greatest_index (drop i c))
-  unfolding greatest_index
-  greatest_step h = rw (drop_step c i (pos 0) h) (omega arith)
+greatest_from : (c : Clause) (k : ℕ) → min (fold (λ top l. max top (index_of l)) k c) last_index ≡ max (min k last_index) (greatest_index c)
+unfolding greatest_index
+greatest_from [] k = omega arith
+greatest_from (l ∷ c) k = omega (arith, greatest_from c (max k (index_of l)))
 
-  pub greatest_end : length c ≤ i → k ≡ max k (greatest_index (drop i c))
-  unfolding greatest_index
-  greatest_end h = rw (drop_end c i h) (omega arith)
+pub greatest_is : (c : Clause) → min (fold (λ top l. max top (index_of l)) 0 c) last_index ≡ greatest_index c
+greatest_is c = omega (arith, greatest_from c 0)
 
 greatest_top : (c : Clause) (l : ℤ) → Memᴰ l c → min last_index (index_of l) ≤ greatest_index c
 unfolding greatest_index
@@ -150,57 +146,50 @@ last_within key s = omega (arith, last_before key 0 0 0 s (omega arith))
 
 -- ---- the first match
 
--- the first of two outcomes that found something
-unfoldable pub or_else : Found → Found → Found
-or_else (At a) f = At a
-or_else Nothing f = f
+or_none : (f : Option ℕ) → option_or f None ≡ f
+or_none (Some a) = refl
+or_none None = refl
 
-or_nothing : (f : Found) → or_else f Nothing ≡ f
-unfolding or_else
-or_nothing (At a) = refl
-or_nothing Nothing = refl
+or_some : (f : Option ℕ) (t : Bool) (a : ℕ) (g : Option ℕ) → option_or (option_or f (cond t (Some a) None)) g ≡ option_or f (cond t (Some a) g)
+or_some (Some b) t a g = refl
+or_some None true a g = refl
+or_some None false a g = refl
 
-or_found : (f : Found) (t : Bool) (a : ℕ) (g : Found) → or_else (or_else f (cond t (At a) Nothing)) g ≡ or_else f (cond t (At a) g)
-unfolding or_else
-or_found (At b) t a g = refl
-or_found Nothing true a g = refl
-or_found Nothing false a g = refl
-
-place-++ : (c : Clause) (k at : ℕ) (s t : List ℤ) → FormedFrom k s → place_from c k at (s ++ t) ≡ or_else (place_from c k at s) (place_from c 0 (at + length s) t)
-unfolding place_from begins_with or_else
+place-++ : (c : Clause) (k at : ℕ) (s t : List ℤ) → FormedFrom k s → place_from c k at (s ++ t) ≡ option_or (place_from c k at s) (place_from c 0 (at + length s) t)
+unfolding place_from begins_with
 place-++ c zero at [] t f = ap (λ (n : ℕ). place_from c 0 n t) (omega arith)
 place-++ c (suc k) at [] t f = absurd f
 place-++ c zero at (h ∷ s) t f = rw (take-append-le (header_literals h) s t (formed_reach (header_literals h) s f)) (go (begins_with c (h ∷ s)) (place-++ c (header_literals h) (at + 1) s t f))
   where
-    go : (b : Bool) → place_from c (header_literals h) (at + 1) (s ++ t) ≡ or_else (place_from c (header_literals h) (at + 1) s) (place_from c 0 (at + 1 + length s) t)
-        → cond b (At at) (place_from c (header_literals h) (at + 1) (s ++ t)) ≡ or_else (cond b (At at) (place_from c (header_literals h) (at + 1) s)) (place_from c 0 (at + length (h ∷ s)) t)
+    go : (b : Bool) → place_from c (header_literals h) (at + 1) (s ++ t) ≡ option_or (place_from c (header_literals h) (at + 1) s) (place_from c 0 (at + 1 + length s) t)
+        → cond b (Some at) (place_from c (header_literals h) (at + 1) (s ++ t)) ≡ option_or (cond b (Some at) (place_from c (header_literals h) (at + 1) s)) (place_from c 0 (at + length (h ∷ s)) t)
     go true r = refl
-    go false r = r ∙ ap (λ (n : ℕ). or_else (place_from c (header_literals h) (at + 1) s) (place_from c 0 n t)) (omega arith)
-place-++ c (suc k) at (x ∷ s) t f = place-++ c k (at + 1) s t f ∙ ap (λ (n : ℕ). or_else (place_from c k (at + 1) s) (place_from c 0 n t)) (omega arith)
+    go false r = r ∙ ap (λ (n : ℕ). option_or (place_from c (header_literals h) (at + 1) s) (place_from c 0 n t)) (omega arith)
+place-++ c (suc k) at (x ∷ s) t f = place-++ c k (at + 1) s t f ∙ ap (λ (n : ℕ). option_or (place_from c k (at + 1) s) (place_from c 0 n t)) (omega arith)
 
-place_none : (c : Clause) (k at : ℕ) (s : List ℤ) → length s ≤ k → place_from c k at s ≡ Nothing
+place_none : (c : Clause) (k at : ℕ) (s : List ℤ) → length s ≤ k → place_from c k at s ≡ None
 unfolding place_from
 place_none c zero at [] h = refl
 place_none c (suc k) at [] h = refl
 place_none c zero at (x ∷ s) h = absurd (omega arith)
 place_none c (suc k) at (x ∷ s) h = place_none c k (at + 1) s (omega arith)
 
-place_one : (c : Clause) (at : ℕ) (h : ℤ) (d : Clause) → length d ≤ header_literals h → place_from c 0 at (h ∷ d) ≡ cond (begins_with c (h ∷ d)) (At at) Nothing
+place_one : (c : Clause) (at : ℕ) (h : ℤ) (d : Clause) → length d ≤ header_literals h → place_from c 0 at (h ∷ d) ≡ cond (begins_with c (h ∷ d)) (Some at) None
 unfolding place_from
-place_one c at h d n = ap (λ (f : Found). cond (begins_with c (h ∷ d)) (At at) f) (place_none c (header_literals h) (at + 1) d n)
+place_one c at h d n = ap (λ (f : Option ℕ). cond (begins_with c (h ∷ d)) (Some at) f) (place_none c (header_literals h) (at + 1) d n)
 
 module _ (c : Clause) (s : List ℤ) (at : ℕ) (h : at < length s) (p : Place s at) where
   begins_same : begins_with c (header_at s at ∷ clause_at s at) ≡ begins_with c (drop at s)
   unfolding begins_with
   begins_same = rw (drop_step s at (pos 0) h, take-take (size_at s at) (size_at s at) (drop (at + 1) s) (omega arith)) refl
 
-  place_next_entry : place_of c (take (past s at) s) ≡ or_else (place_of c (take at s)) (cond (begins_with c (drop at s)) (At at) Nothing)
+  place_next_entry : place_of c (take (past s at) s) ≡ option_or (place_of c (take at s)) (cond (begins_with c (drop at s)) (Some at) None)
   place_next_entry =
       ap (place_of c) (prefix_next s at h)
       ∙ place-++ c 0 0 (take at s) (header_at s at ∷ clause_at s at) p.before
-      ∙ ap (λ (n : ℕ). or_else (place_of c (take at s)) (place_from c 0 n (header_at s at ∷ clause_at s at))) (let e : 0 + length (take at s) ≡ at = omega (arith, length-take-le at s p.inside) in e)
-      ∙ ap (or_else (place_of c (take at s))) (place_one c at (header_at s at) (clause_at s at) (omega (arith, clause_length s at h p.rest)))
-      ∙ ap (λ (b : Bool). or_else (place_of c (take at s)) (cond b (At at) Nothing)) begins_same
+      ∙ ap (λ (n : ℕ). option_or (place_of c (take at s)) (place_from c 0 n (header_at s at ∷ clause_at s at))) (let e : 0 + length (take at s) ≡ at = omega (arith, length-take-le at s p.inside) in e)
+      ∙ ap (option_or (place_of c (take at s))) (place_one c at (header_at s at) (clause_at s at) (omega (arith, clause_length s at h p.rest)))
+      ∙ ap (λ (b : Bool). option_or (place_of c (take at s)) (cond b (Some at) None)) begins_same
 
   -- an entry with another key is no match
   other_key : eqb (key_at s at) (key_of c) ≡ false → begins_with c (drop at s) ≡ false
@@ -212,8 +201,8 @@ module _ (c : Clause) (s : List ℤ) (at : ℕ) (h : at < length s) (p : Place s
 -- ---- from the last entry with the clause's key on
 
 abbrev Newest : Clause → List ℤ → ℕ → ℕ → Type 0
-Newest c s q zero = place_of c (take q s) ≡ Nothing
-Newest c s q (suc a) = (a < q) × Place s a × (key_at s a ≡ key_of c) × (place_of c (take q s) ≡ or_else (place_of c (take a s)) (cond (begins_with c (drop a s)) (At a) Nothing))
+Newest c s q zero = place_of c (take q s) ≡ None
+Newest c s q (suc a) = (a < q) × Place s a × (key_at s a ≡ key_of c) × (place_of c (take q s) ≡ option_or (place_of c (take a s)) (cond (begins_with c (drop a s)) (Some a) None))
 
 newest_later : (c : Clause) (s : List ℤ) (a b p : ℕ) → a ≤ b → place_of c (take b s) ≡ place_of c (take a s) → Newest c s a p → Newest c s b p
 newest_later c s a b zero l e n = e ∙ n
@@ -230,26 +219,26 @@ newest c s q e = by_entries s (λ (q : ℕ). Newest c s q (last_with (key_of c) 
         go true m = (omega arith, p, eqb-true (key_at s at) (key_of c) m, place_next_entry c s at h p)
         go false m =
             newest_later c s at (past s at) (last_with (key_of c) (take at s)) (omega arith)
-            (place_next_entry c s at h p ∙ ap (λ (b : Bool). or_else (place_of c (take at s)) (cond b (At at) Nothing)) (other_key c s at h p m) ∙ or_nothing (place_of c (take at s)))
+            (place_next_entry c s at h p ∙ ap (λ (b : Bool). option_or (place_of c (take at s)) (cond b (Some at) None)) (other_key c s at h p m) ∙ or_none (place_of c (take at s)))
             n
 
 -- ---- the walk along the links of a key: the entries behind `bound` are seen, `best` is the first match among them, and p leads on
 
-pub record Walking (c : Clause) (s : List ℤ) (p : ℕ) (best : Found) : Type 0 where
+pub record Walking (c : Clause) (s : List ℤ) (p : ℕ) (best : Option ℕ) : Type 0 where
   pub bound : ℕ
   pub place : Place s bound
   pub here : p ≡ last_with (key_of c) (take bound s)
-  pub first : or_else (place_of c (take bound s)) best ≡ place_of c s
+  pub first : option_or (place_of c (take bound s)) best ≡ place_of c s
 
-pub walking_start : (c : Clause) (s links : List ℤ) (heads : List ℕ) (p : ℕ) → Formed s → Indexed s (length s) links heads → p ≡ get_or heads (key_of c) 0 → Walking c s p Nothing
+pub walking_start : (c : Clause) (s links : List ℤ) (heads : List ℕ) (p : ℕ) → Formed s → Indexed s (length s) links heads → p ≡ get_or heads (key_of c) 0 → Walking c s p None
 walking_start c s links heads p f i e = record {
   bound = length s;
   place = place_end f;
   here = e ∙ i.newest (key_of c) (key_within c);
-  first = or_nothing (place_of c (take (length s) s)) ∙ ap (place_of c) (take-length s);
+  first = or_none (place_of c (take (length s) s)) ∙ ap (place_of c) (take-length s);
 }
 
-module _ (c : Clause) (s : List ℤ) (p : ℕ) (best : Found) (w : Walking c s p best) where
+module _ (c : Clause) (s : List ℤ) (p : ℕ) (best : Option ℕ) (w : Walking c s p best) where
   walked : Newest c s w.bound p
   walked = subst (λ (k : ℕ). Newest c s w.bound k) (sym w.here) (newest c s w.bound w.place)
 
@@ -267,20 +256,19 @@ module _ (c : Clause) (s : List ℤ) (p : ℕ) (best : Found) (w : Walking c s p
     pub led_back : (links : List ℤ) (heads : List ℕ) (next : ℕ) → Indexed s (length s) links heads → next ≡ header_literals (header_at links a) → next ≤ a
     led_back links heads next i n = omega (arith, n, i.linked a led_inside led_place, last_within (key_at s a) (take a s), length-take-le a s led_place.inside)
 
-    pub walking_step : (links : List ℤ) (heads : List ℕ) (next : ℕ) (more : Found) → Indexed s (length s) links heads → next ≡ header_literals (header_at links a) → more ≡ cond (begins_with c (drop a s)) (At a) best → Walking c s next more
+    pub walking_step : (links : List ℤ) (heads : List ℕ) (next : ℕ) (more : Option ℕ) → Indexed s (length s) links heads → next ≡ header_literals (header_at links a) → more ≡ cond (begins_with c (drop a s)) (Some a) best → Walking c s next more
     walking_step links heads next more i n m = record {
       bound = a;
       place = led_place;
       here = n ∙ i.linked a led_inside led_place ∙ ap (λ (k : ℕ). last_with k (take a s)) led.2;
       first =
-          ap (or_else (place_of c (take a s))) m
-          ∙ sym (or_found (place_of c (take a s)) (begins_with c (drop a s)) a best)
-          ∙ ap (λ (f : Found). or_else f best) (sym led.3)
+          ap (option_or (place_of c (take a s))) m
+          ∙ sym (or_some (place_of c (take a s)) (begins_with c (drop a s)) a best)
+          ∙ ap (λ (f : Option ℕ). option_or f best) (sym led.3)
           ∙ w.first;
     }
 
   pub walking_end : p ≡ 0 → best ≡ place_of c s
-  unfolding or_else
   walking_end e =
-      let n : place_of c (take w.bound s) ≡ Nothing = subst (λ (k : ℕ). Newest c s w.bound k) e walked in
-      sym (ap (λ (f : Found). or_else f best) n) ∙ w.first
+      let n : place_of c (take w.bound s) ≡ None = subst (λ (k : ℕ). Newest c s w.bound k) e walked in
+      sym (ap (λ (f : Option ℕ). option_or f best) n) ∙ w.first

@@ -5,7 +5,7 @@ use Rattle.definition.specs.Literals.{Clause}
 use Rattle.tables.specs.Sizes.{log_size}
 use Rattle.literals.specs.Literal.{largest, index_of, header_literals}
 use Rattle.store.specs.Store.{Formed, header_at, clause_at, Place}
-use Rattle.replay.specs.declared.Replayed.{Replayed}
+use Rattle.replay.specs.declared.Layout.{Layout}
 use Rattle.theory_base.specs.Slices.{between}
 
 -- the greatest index that counts, and how many keys there are
@@ -45,27 +45,26 @@ pub record Indexed (s : List ℤ) (q : ℕ) (links : List ℤ) (heads : List ℕ
   pub newest : (key : ℕ) → key < keys → get_or heads key 0 ≡ last_with key (take q s)
   pub linked : (a : ℕ) → a < q → Place s a → header_literals (header_at links a) ≡ last_with (key_at s a) (take a s)
 
+-- the store that a layout shows
+abbrev pub store_in : Layout → List ℤ → List ℤ
+store_in l work = between l.store l.end work
+
 -- A store between two places with its links behind it, from `links` on. The index serves where every place + 1 is an i32.
-pub record Linked (work : List ℤ) (heads : List ℕ) (store end links : ℕ) : Type 0 where
-  pub order : store ≤ end
-  pub within : end ≤ links
-  pub room : links + (links - store) ≤ length work
+pub record Linked (work : List ℤ) (heads : List ℕ) (l : Layout) : Type 0 where
+  pub order : l.store ≤ l.end
+  pub within : l.end ≤ l.links
+  pub room : l.links + (l.links - l.store) ≤ length work
   pub table : length heads ≡ keys
-  pub formed : Formed (between store end work)
-  pub index : links - store ≤ largest → Indexed (between store end work) (end - store) (drop links work) heads
+  pub formed : Formed (store_in l work)
+  pub index : l.links - l.store ≤ largest → Indexed (store_in l work) (l.end - l.store) (drop l.links work) heads
 
 -- a store between two places with room for links, and an empty table
-pub record Linkable (work : List ℤ) (heads : List ℕ) (store end links : ℕ) : Type 0 where
-  pub order : store ≤ end
-  pub within : end ≤ links
-  pub room : links + (links - store) ≤ length work
+pub record Linkable (work : List ℤ) (heads : List ℕ) (l : Layout) : Type 0 where
+  pub order : l.store ≤ l.end
+  pub within : l.end ≤ l.links
+  pub room : l.links + (l.links - l.store) ≤ length work
   pub none : heads ≡ replicate keys 0
-  pub formed : Formed (between store end work)
-
--- after a line
-abbrev pub LinkedAfter : Replayed → List ℤ → List ℕ → ℕ → ℕ → Type 0
-LinkedAfter (Replayed.Standing end) work heads store links = Linked work heads store end links
-LinkedAfter Replayed.NoClause work heads store links = Unit {0}
+  pub formed : Formed (store_in l work)
 
 -- the clauses 2 -1 and 3; the clause 2 1 between them is deleted
 sample : List ℤ

@@ -38,17 +38,19 @@ use Rattle.progress.specs.declared.Progress.{Progress}
 use Rattle.progress.specs.Progress.{standing, Good, Runs}
 use Rattle.progress.proofs.Laws.{good_first, good_rest, good_up, good_as, runs_from, runs_join, runs_as}
 use Rattle.tables.specs.Entries.{entry_of}
+use Rattle.records.specs.declared.ChoiceRecord.{ChoiceRecord}
 use Rattle.records.specs.Rows.{rows_of}
 use Rattle.pass_clashes.specs.Weights.{Weighed}
 use Rattle.pass_number.specs.Numbering.{weighed, Numberable}
 use Rattle.run.specs.declared.Reached.{Reached}
-use Rattle.run.specs.declared.Ran as Code
+use Rattle.std.specs.Prelude.{Result}
+use Rattle.refusals.specs.declared.Refusal.{Refusal}
 use Rattle.run.specs.Choices.{Choosable, Chosen, TakenAll, TakeReady, TookAll}
 use Rattle.run.specs.Run.{ClearReady, input_in, start_at, RunReady, Reaches, RanAll}
 
 -- ---- the clauses entered
 
-module _ {work : List ℤ} {end h g : ℕ} {rows : List ℕ} (r : RunReady work end h g rows) where
+module _ {work : List ℤ} {end h g : ℕ} {rows : List ChoiceRecord} (r : RunReady work end h g rows) where
   literals_are : literals_in (take end work) ≡ literals_of (stored (take end work))
   literals_are =
       let s = take end work in
@@ -88,7 +90,7 @@ module _ {work : List ℤ} {end h g : ℕ} {rows : List ℕ} (r : RunReady work 
       highest = rw same_input at a.highest;
     }
 
-    pub ran_same : {s : Settings} {x y : Bytes} {old fresh : List ℕ} {new : List ℤ} {q : Code.Ran} →
+    pub ran_same : {s : Settings} {x y : Bytes} {old fresh : List ChoiceRecord} {new : List ℤ} {q : Result Reached Refusal} →
         RanAll s (input_in w end h) w x end old new y fresh q → RanAll s (input_in work end h) work x end old new y fresh q
     ran_same {s} a = record {
       high = rw same_input at a.high;
@@ -97,7 +99,7 @@ module _ {work : List ℤ} {end h g : ℕ} {rows : List ℕ} (r : RunReady work 
       row_room = rw same_input at a.row_room;
     }
 
-module _ {work : List ℤ} {end h : ℕ} {rows : List ℕ} (s : Settings) (r : RunReady work end h s.step rows) where
+module _ {work : List ℤ} {end h : ℕ} {rows : List ChoiceRecord} (s : Settings) (r : RunReady work end h s.step rows) where
   abbrev i : Input
   i = input_in work end h
 
@@ -219,7 +221,7 @@ module _ {work : List ℤ} {end h : ℕ} {rows : List ℕ} (s : Settings) (r : R
           highest = t.highest ∙ used_here;
         }
 
-        pub ran_all : {w' : List ℤ} {log' : Bytes} {fresh : List ℕ} {q : Code.Ran} →
+        pub ran_all : {w' : List ℤ} {log' : Bytes} {fresh : List ChoiceRecord} {q : Result Reached Refusal} →
             TookAll s.form s.step w log₁ p (stored (take n full)) h weights rows w' log' fresh q → RanAll s i work log₀ end rows w' log' fresh q
         ran_all t = record {
           high = λ k. t.high (omega (arith, used_here));

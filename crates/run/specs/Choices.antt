@@ -1,5 +1,5 @@
 -- The choices of a store: collected, arranged, and taken one after another.
-use Rattle.std.specs.Prelude.{◌≡◌, false, cond, List, [], map, ℕ, ◌+◌, ◌≤◌, ◌<◌, ◌^◌, ℤ, length, take, drop, replicate}
+use Rattle.std.specs.Prelude.{Result, Ok, Err, ◌≡◌, false, cond, List, [], map, ℕ, ◌+◌, ◌≤◌, ◌<◌, ◌^◌, ℤ, length, take, drop, replicate}
 use Rattle.std.proofs.lemmas.List.Edits.{sets}
 use Rattle.definition.specs.Literals.{Clause, Formula}
 use Rattle.definition.specs.Text.{Bytes}
@@ -18,12 +18,13 @@ use Rattle.tables.specs.Sizes.{input_reach, input_size}
 use Rattle.index.specs.Index.{Indexed, Roomy}
 use Rattle.pairs.specs.Pairs.{slots}
 use Rattle.theory_run.specs.Table.{taken_records}
+use Rattle.records.specs.declared.ChoiceRecord.{ChoiceRecord}
 use Rattle.records.specs.Rows.{rows_of}
 use Rattle.pass_number.specs.Numbering as Numbering
 use Rattle.pass_number.specs.Numbering.{weighed}
 use Rattle.run.specs.declared.Reached.{Reached}
-use Rattle.run.specs.declared.Ran as Code
-use Rattle.run.specs.declared.Ran.TheVariants as Ran
+use Rattle.refusals.specs.declared.Refusal.{Refusal}
+use Rattle.refusals.specs.declared.Refusal.TheVariants.{TooManyVariables}
 
 -- ---- chosen
 
@@ -114,14 +115,14 @@ pub record TakenAll (form : Form) (g : ℕ) (work : List ℤ) (log : Bytes) (p :
 
 -- ---- all choices numbered, then taken
 
-pub record TakeReady (form : Form) (g step : ℕ) (work : List ℤ) (p : Progress) (chosen : List ℤ) (n : ℕ) (w rows : List ℕ) : Type 0 where
+pub record TakeReady (form : Form) (g step : ℕ) (work : List ℤ) (p : Progress) (chosen : List ℤ) (n : ℕ) (w : List ℕ) (rows : List ChoiceRecord) : Type 0 where
   pub good : Good n (taken_events form g n (standing work p) (stored chosen)) work p
   pub few : length chosen < 2 ^ 31
   pub takeable : AllTakeable form g (length work) step n (standing work p) (stored chosen)
   pub number_ready : Numbering.AllReady g chosen w rows n
 
 -- 16 where H would pass 70,000; else they are taken; and their rows are written
-pub record TookAll (form : Form) (g : ℕ) (work : List ℤ) (log : Bytes) (p : Progress) (ls : List Clause) (n : ℕ) (w rows : List ℕ) (new_work : List ℤ) (new_log : Bytes) (new_rows : List ℕ) (r : Code.Ran) : Type 0 where
-  pub high : 70_000 < used_after g (λ l. l) n ls → r ≡ Ran.Refused 16
-  pub taken : used_after g (λ l. l) n ls ≤ 70_000 → (q : Reached) × (r ≡ Ran.Done q) × TakenAll form g work log p ls n new_work new_log q
+pub record TookAll (form : Form) (g : ℕ) (work : List ℤ) (log : Bytes) (p : Progress) (ls : List Clause) (n : ℕ) (w : List ℕ) (rows : List ChoiceRecord) (new_work : List ℤ) (new_log : Bytes) (new_rows : List ChoiceRecord) (r : Result Reached Refusal) : Type 0 where
+  pub high : 70_000 < used_after g (λ l. l) n ls → r ≡ Err TooManyVariables
+  pub taken : used_after g (λ l. l) n ls ≤ 70_000 → (q : Reached) × (r ≡ Ok q) × TakenAll form g work log p ls n new_work new_log q
   pub written : new_rows ≡ sets rows 0 (rows_of (taken_records g (λ l. l) (weighed w) n ls))

@@ -1,5 +1,5 @@
 -- A run over the store: clashes, pure literals, choices.
-use Rattle.std.specs.Prelude.{◌≡◌, List, [], ◌∷◌, ◌++◌, ℕ, ◌+◌, ◌*◌, ◌≤◌, ◌<◌, ◌^◌, ℤ, length, take}
+use Rattle.std.specs.Prelude.{Result, Ok, Err, ◌≡◌, List, [], ◌∷◌, ◌++◌, ℕ, ◌+◌, ◌*◌, ◌≤◌, ◌<◌, ◌^◌, ℤ, length, take}
 use Rattle.std.proofs.lemmas.List.Edits.{sets}
 use Rattle.definition.specs.Text.{Bytes}
 use Rattle.definition.specs.Reading.{Input, as_read, input_limits}
@@ -15,10 +15,11 @@ use Rattle.tables.specs.Sizes.{input_reach}
 use Rattle.store.specs.Store.{Formed, stored}
 use Rattle.progress.specs.declared.Progress.{Progress}
 use Rattle.progress.specs.Progress.{standing, Good, Runs}
+use Rattle.records.specs.declared.ChoiceRecord.{ChoiceRecord}
 use Rattle.records.specs.Rows.{rows_of}
 use Rattle.run.specs.declared.Reached.{Reached}
-use Rattle.run.specs.declared.Ran as Code
-use Rattle.run.specs.declared.Ran.TheVariants as Ran
+use Rattle.refusals.specs.declared.Refusal.{Refusal}
+use Rattle.refusals.specs.declared.Refusal.TheVariants.{TooManyVariables}
 
 -- what clearing needs: a good workspace, and room for a step, into which each resolvent fits, beside what stands
 pub record ClearReady (step : ℕ) (work : List ℤ) (p : Progress) : Type 0 where
@@ -34,12 +35,12 @@ input_in work end highest = as_read highest (length (stored (take end work))) (s
 abbrev pub start_at : ℕ → Progress
 start_at end = record { end = end; at = 0; lines = 0 }
 
--- the rows of as many choices as an input can have
-abbrev pub row_numbers : ℕ
-row_numbers = 4800
+-- as many choices as an input can have
+abbrev pub most_choices : ℕ
+most_choices = 1600
 
 -- what a run asks for, with the step g
-pub record RunReady (work : List ℤ) (end highest g : ℕ) (rows : List ℕ) : Type 0 where
+pub record RunReady (work : List ℤ) (end highest g : ℕ) (rows : List ChoiceRecord) : Type 0 where
   pub small : length work < 2 ^ 31
   pub inside : end ≤ length work
   pub formed : Formed (take end work)
@@ -49,7 +50,7 @@ pub record RunReady (work : List ℤ) (end highest g : ℕ) (rows : List ℕ) : 
   pub whole : end ≡ numbers_of (stored (take end work))
   pub step_least : 1 ≤ g
   pub step_most : g ≤ 100
-  pub row_room : length rows ≡ row_numbers
+  pub row_room : length rows ≡ most_choices
 
 -- the events of the input, its choices counted, and its highest variable
 pub record Reaches (s : Settings) (i : Input) (work : List ℤ) (log : Bytes) (end : ℕ) (new_work : List ℤ) (new_log : Bytes) (r : Reached) : Type 0 where
@@ -58,8 +59,8 @@ pub record Reaches (s : Settings) (i : Input) (work : List ℤ) (log : Bytes) (e
   pub highest : r.highest ≡ highest_used s i
 
 -- 16 where H would pass 70,000; else the whole run; and the rows of its table
-pub record RanAll (s : Settings) (i : Input) (work : List ℤ) (log : Bytes) (end : ℕ) (rows : List ℕ) (new_work : List ℤ) (new_log : Bytes) (new_rows : List ℕ) (r : Code.Ran) : Type 0 where
-  pub high : 70_000 < highest_used s i → r ≡ Ran.Refused 16
-  pub done : highest_used s i ≤ 70_000 → (q : Reached) × (r ≡ Ran.Done q) × Reaches s i work log end new_work new_log q
+pub record RanAll (s : Settings) (i : Input) (work : List ℤ) (log : Bytes) (end : ℕ) (rows : List ChoiceRecord) (new_work : List ℤ) (new_log : Bytes) (new_rows : List ChoiceRecord) (r : Result Reached Refusal) : Type 0 where
+  pub high : 70_000 < highest_used s i → r ≡ Err TooManyVariables
+  pub done : highest_used s i ≤ 70_000 → (q : Reached) × (r ≡ Ok q) × Reaches s i work log end new_work new_log q
   pub written : new_rows ≡ sets rows 0 (rows_of (table s i))
-  pub row_room : 3 * length (chosen s i) ≤ length rows
+  pub row_room : length (chosen s i) ≤ length rows

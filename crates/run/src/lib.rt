@@ -20,6 +20,8 @@ ghost use Rattle.run.specs.Choices.{Choosable, Chosen, list_size, Lent, OneReady
 ghost use Rattle.run.specs.Run.{ClearReady, input_in, RunReady, RanAll};
 
 use progress::Progress;
+use records::ChoiceRecord;
+use refusals::Refusal;
 
 // The form that the caller names.
 #[derive(Clone, Copy)]
@@ -46,8 +48,8 @@ pub struct Settings {
 // The most clauses that a choice replaces in order form: those of an input.
 const LIST: usize = 20000;
 
-// The rows of the most choices that an input can have, 1,600.
-pub const ROW_NUMBERS: usize = 4800;
+// The most choices that an input can have: each has five literals at least, and no variable stands in two.
+pub const MOST_CHOICES: usize = 1600;
 
 // How far a run has come, how many choices it took, and the highest variable used.
 #[derive(Clone, Copy)]
@@ -55,13 +57,6 @@ pub struct Reached {
     pub progress: Progress,
     pub choices: usize,
     pub highest: u32,
-}
-
-// The outcome of a run: how far it came, or the number of the refusal.
-#[derive(Clone, Copy)]
-pub enum Ran {
-    Done(Reached),
-    Refused(u8),
 }
 
 // ---- clearing
@@ -274,22 +269,22 @@ fn take_all(
     places: &mut [u32],
     weights: &[u32],
     log: &mut [u8],
-    rows: &mut [u32],
+    rows: &mut [ChoiceRecord],
     p: Progress,
     form: Form,
     g: u32,
     chosen: &[i32],
     highest: u32,
     step: usize,
-) -> Ran
+) -> Result<Reached, Refusal>
     requires { TakeReady (named_form form) g step work.old p chosen.now highest weights.now rows.old × Indexed work.old p.end newest.old × (places.old ≡ replicate input_size 0) }
     ensures { TookAll (named_form form) g work.old log.old p (stored chosen.now) highest weights.now rows.old work.new log.new rows.new result }
 {
     let m = pass_number::number(chosen, weights, rows, highest, g);
-    if 70000 < m.highest {
-        return Ran::Refused(16);
+    if tables::LOG_REACH < m.highest {
+        return Err(Refusal::TooManyVariables);
     }
-    Ran::Done(take(work, newest, places, log, p, form, g, chosen, highest, step))
+    Ok(take(work, newest, places, log, p, form, g, chosen, highest, step))
 }
 
 // Clears an indexed store, then chooses and takes its choices.
@@ -297,11 +292,11 @@ fn run_indexed(
     work: &mut [i32],
     newest: &mut [u32],
     log: &mut [u8],
-    rows: &mut [u32],
+    rows: &mut [ChoiceRecord],
     end: usize,
     highest: u32,
     settings: Settings,
-) -> Ran
+) -> Result<Reached, Refusal>
     requires { RunReady work.old end highest settings.step rows.old × Indexed work.old end newest.old }
     ensures { RanAll (settings_of settings) (input_in work.old end highest) work.old log.old end rows.old work.new log.new rows.new result }
 {
@@ -339,11 +334,11 @@ fn run_indexed(
 pub fn run(
     work: &mut [i32],
     log: &mut [u8],
-    rows: &mut [u32],
+    rows: &mut [ChoiceRecord],
     end: usize,
     highest: u32,
     settings: Settings,
-) -> Ran
+) -> Result<Reached, Refusal>
     requires { RunReady work.old end highest settings.step rows.old }
     ensures { RanAll (settings_of settings) (input_in work.old end highest) work.old log.old end rows.old work.new log.new rows.new result }
 {

@@ -4,6 +4,7 @@ use mathlib.Core.Bool.{Bool, true, false, cond, and_comm}
 use mathlib.Core.List.{List, [], ◌∷◌, ◌++◌}
 use Prim.Native.Nat.{ℕ, zero, suc, ◌+◌, ◌≤◌, ◌<◌}
 use native.Mathlib.Omega.{arith}
+use Rattle.std.specs.Prelude.{Some, None}
 use lib.IntN.{ℤ, pos, negsuc}
 use lib.ListN.{length, take, drop}
 use lib.Seq.{take-take}
@@ -13,8 +14,6 @@ use Rattle.definition.specs.Standing.{stands, take_out}
 use Rattle.theory_base.proofs.Tests.{differ}
 use Rattle.literals.specs.Literal.{header_literals}
 use Rattle.store.specs.Store.{FormedFrom, Formed, stored_from, stored, size_at, deleted_at, clause_at, past, marked, Place, begins_with, place_from, place_of, Deleted}
-use Rattle.store.specs.declared.Found.{Found}
-use Rattle.store.specs.declared.Found.TheVariants.{At, Nothing}
 use Rattle.theory_base.proofs.Slices.{drop_step, drop_end}
 use Rattle.theory_base.proofs.Removal.{stands_past, take_out_past, take_out_none, stands_head, take_out_head}
 use Rattle.store.proofs.Laws.{by_entries, place_end, drop_past, past_is, place_within, place_formed, stored_around, marked_place, marked_stored}
@@ -25,21 +24,27 @@ place_skip c zero at s = ap (λ (n : ℕ). place_from c 0 n s) (omega arith)
 place_skip c (suc k) at [] = refl
 place_skip c (suc k) at (x ∷ s) = place_skip c k (at + 1) s ∙ ap (λ (n : ℕ). place_from c 0 n (drop k s)) (omega arith)
 
-pub same_set_swap : (c d : Clause) → same_set c d ≡ same_set d c
+same_set_swap : (c d : Clause) → same_set c d ≡ same_set d c
 unfolding same_set
 same_set_swap c d = and_comm (all (λ (l : ℤ). holds l d) c) (all (λ (l : ℤ). holds l c) d)
+
+-- what the entry at a place says
+pub begins_at : (c : Clause) (s : List ℤ) (at : ℕ) → at < length s → begins_with c (drop at s) ≡ cond (deleted_at s at) false (same_set c (clause_at s at))
+unfolding begins_with
+begins_at c s at h = rw (drop_step s at (pos 0) h) refl
+
+pub entry_begins : (c : Clause) (s : List ℤ) (at : ℕ) → at < length s → begins_with c (drop at s) ≡ cond (deleted_at s at) false (same_set (clause_at s at) c)
+entry_begins c s at h = begins_at c s at h ∙ ap (cond (deleted_at s at) false) (same_set_swap c (clause_at s at))
 
 -- ---- the loop
 module _ (s : List ℤ) (at : ℕ) (h : at < length s) (c : Clause) where
   pub matches_deleted : deleted_at s at ≡ true → false ≡ begins_with c (drop at s)
-  unfolding begins_with
-  matches_deleted e = rw (drop_step s at (pos 0) h, e) refl
+  matches_deleted e = rw (begins_at c s at h, e) refl
 
   pub matches_stands : deleted_at s at ≡ false → same_set c (clause_at s at) ≡ begins_with c (drop at s)
-  unfolding begins_with
-  matches_stands e = rw (drop_step s at (pos 0) h, e) refl
+  matches_stands e = rw (begins_at c s at h, e) refl
 
-  pub place_hit : begins_with c (drop at s) ≡ true → At at ≡ place_from c 0 at (drop at s)
+  pub place_hit : begins_with c (drop at s) ≡ true → Some at ≡ place_from c 0 at (drop at s)
   unfolding place_from
   place_hit e = rw (drop_step s at (pos 0) h) (rw (rw (drop_step s at (pos 0) h) at e) refl)
 
@@ -52,7 +57,7 @@ module _ (s : List ℤ) (at : ℕ) (h : at < length s) (c : Clause) where
       ∙ ap (λ (r : List ℤ). place_from c 0 (at + 1 + size_at s at) r) (drop_past s at h)
       ∙ ap (λ (n : ℕ). place_from c 0 n (drop (past s at) s)) (past_is s at h))))
 
-pub place_nowhere : (c : Clause) (s : List ℤ) (at : ℕ) → length s ≤ at → Nothing ≡ place_from c 0 at (drop at s)
+pub place_nowhere : (c : Clause) (s : List ℤ) (at : ℕ) → length s ≤ at → None ≡ place_from c 0 at (drop at s)
 unfolding place_from
 place_nowhere c s at h = rw (drop_end s at h) refl
 
@@ -67,7 +72,7 @@ record HitFrom (c : Clause) (k at p : ℕ) (s : List ℤ) : Type 0 where
   pub same : same_set c (clause_at s q) ≡ true
   pub none : stands c (stored_from k (take q s)) ≡ false
 
-hit_here : (c : Clause) (at p : ℕ) (h : ℤ) (s : List ℤ) → begins_with c (h ∷ s) ≡ true → At at ≡ At p → HitFrom c 0 at p (h ∷ s)
+hit_here : (c : Clause) (at p : ℕ) (h : ℤ) (s : List ℤ) → begins_with c (h ∷ s) ≡ true → Some at ≡ Some p → HitFrom c 0 at p (h ∷ s)
 unfolding stored_from stands any begins_with
 hit_here c at p (negsuc n) s m e = differ {b = true} tt (sym m)
 hit_here c at p (pos n) s m e =
@@ -97,14 +102,14 @@ unfolding stored_from
 hit_deeper c k at p x s r =
     record { q = suc r.q; place = omega (arith, r.place); far = omega (arith, r.far); inside = omega (arith, r.inside); before = r.before; stays = r.stays; same = ap (same_set c) (deeper x s r.q) ∙ r.same; none = r.none }
 
-hit_from : (c : Clause) (k at p : ℕ) (s : List ℤ) → place_from c k at s ≡ At p → HitFrom c k at p s
+hit_from : (c : Clause) (k at p : ℕ) (s : List ℤ) → place_from c k at s ≡ Some p → HitFrom c k at p s
 unfolding place_from
 hit_from c zero at p [] e = absurd (let z : ◌≡◌ {A = ℕ} 0 1 = cc in omega arith)
 hit_from c (suc k) at p [] e = absurd (let z : ◌≡◌ {A = ℕ} 0 1 = cc in omega arith)
 hit_from c zero at p (h ∷ s) e = go (begins_with c (h ∷ s)) refl e (λ x. hit_from c (header_literals h) (at + 1) p s x)
   where
-    go : (t : Bool) → begins_with c (h ∷ s) ≡ t → cond t (At at) (place_from c (header_literals h) (at + 1) s) ≡ At p →
-        (place_from c (header_literals h) (at + 1) s ≡ At p → HitFrom c (header_literals h) (at + 1) p s) → HitFrom c 0 at p (h ∷ s)
+    go : (t : Bool) → begins_with c (h ∷ s) ≡ t → cond t (Some at) (place_from c (header_literals h) (at + 1) s) ≡ Some p →
+        (place_from c (header_literals h) (at + 1) s ≡ Some p → HitFrom c (header_literals h) (at + 1) p s) → HitFrom c 0 at p (h ∷ s)
     go true m x r = hit_here c at p h s m x
     go false m x r = hit_later c at p h s m (r x)
 hit_from c (suc k) at p (x ∷ s) e = hit_deeper c k at p x s (hit_from c k (at + 1) p s e)
@@ -118,39 +123,39 @@ pub record Hit (c : Clause) (p : ℕ) (s : List ℤ) : Type 0 where
   -- none before it has the same set
   pub none : stands c (stored (take p s)) ≡ false
 
-pub hit : (c : Clause) (s : List ℤ) (p : ℕ) → place_of c s ≡ At p → Hit c p s
+pub hit : (c : Clause) (s : List ℤ) (p : ℕ) → place_of c s ≡ Some p → Hit c p s
 hit c s p e =
     let r = hit_from c 0 0 p s e in
     let i : p ≡ r.q = omega (arith, r.place) in
     subst (λ (k : ℕ). Hit c k s) (sym i)
     (record { inside = r.inside; place = λ f. place_within f (omega (arith, r.inside)) r.before; stays = r.stays; same = r.same; none = r.none })
 
-miss_from : (c : Clause) (k at : ℕ) (s : List ℤ) → place_from c k at s ≡ Nothing → stands c (stored_from k s) ≡ false
+miss_from : (c : Clause) (k at : ℕ) (s : List ℤ) → place_from c k at s ≡ None → stands c (stored_from k s) ≡ false
 unfolding place_from stored_from stands any begins_with
 miss_from c zero at [] e = refl
 miss_from c (suc k) at [] e = refl
 miss_from c zero at (h ∷ s) e = go h (begins_with c (h ∷ s)) refl e (λ x. miss_from c (header_literals h) (at + 1) s x)
   where
-    go : (h : ℤ) (t : Bool) → begins_with c (h ∷ s) ≡ t → cond t (At at) (place_from c (header_literals h) (at + 1) s) ≡ Nothing →
-        (place_from c (header_literals h) (at + 1) s ≡ Nothing → stands c (stored_from (header_literals h) s) ≡ false) →
+    go : (h : ℤ) (t : Bool) → begins_with c (h ∷ s) ≡ t → cond t (Some at) (place_from c (header_literals h) (at + 1) s) ≡ None →
+        (place_from c (header_literals h) (at + 1) s ≡ None → stands c (stored_from (header_literals h) s) ≡ false) →
         stands c (stored_from 0 (h ∷ s)) ≡ false
     go h true m x r = absurd (let z : ◌≡◌ {A = ℕ} 0 1 = cc in omega arith)
     go (negsuc n) false m x r = r x
     go (pos n) false m x r = rw m (r x)
 miss_from c (suc k) at (x ∷ s) e = miss_from c k (at + 1) s e
 
-miss : (c : Clause) (s : List ℤ) → place_of c s ≡ Nothing → stands c (stored s) ≡ false
+miss : (c : Clause) (s : List ℤ) → place_of c s ≡ None → stands c (stored s) ≡ false
 miss c s e = miss_from c 0 0 s e
 
 -- whether one was found is whether one stands
-hit_stands : (c : Clause) (s : List ℤ) (p : ℕ) → Formed s → place_of c s ≡ At p → stands c (stored s) ≡ true
+hit_stands : (c : Clause) (s : List ℤ) (p : ℕ) → Formed s → place_of c s ≡ Some p → stands c (stored s) ≡ true
 hit_stands c s p f e =
     let r = hit c s p e in
     ap (stands c) (stored_around s p r.inside (r.place f) r.stays)
     ∙ stands_past c (stored (take p s)) (clause_at s p ∷ stored (drop (past s p) s)) r.none
     ∙ stands_head c (clause_at s p) (stored (drop (past s p) s)) r.same
 
-pub deleted_hit : (c s t : List ℤ) (p : ℕ) → Formed s → place_of c s ≡ At p → t ≡ marked s p → Deleted c s true t
+pub deleted_hit : (c s t : List ℤ) (p : ℕ) → Formed s → place_of c s ≡ Some p → t ≡ marked s p → Deleted c s true t
 deleted_hit c s t p f e d =
     let r = hit c s p e in
     let l = r.place f in
@@ -164,22 +169,8 @@ deleted_hit c s t p f e d =
           ∙ ap (λ (a : Formula). stored (take p s) ++ a) (take_out_head c (clause_at s p) (stored (drop (past s p) s)) r.same));
     })
 
-pub deleted_miss : (c s : List ℤ) → Formed s → place_of c s ≡ Nothing → Deleted c s false s
+pub deleted_miss : (c s : List ℤ) → Formed s → place_of c s ≡ None → Deleted c s false s
 deleted_miss c s f e = let r = miss c s e in record { found = sym r; formed = f; left = sym (take_out_none c (stored s) r) }
-
--- the best match with this entry
-module _ (c : Clause) (s : List ℤ) (at : ℕ) (h : at < length s) (best : Found) where
-  better_by : (b : Bool) → b ≡ begins_with c (drop at s) → cond b (At at) best ≡ cond (begins_with c (drop at s)) (At at) best
-  better_by b e = ap (λ (t : Bool). cond t (At at) best) e
-
-  pub better_deleted : deleted_at s at ≡ true → best ≡ cond (begins_with c (drop at s)) (At at) best
-  better_deleted d = better_by false (matches_deleted s at h c d)
-
-  pub better_here : deleted_at s at ≡ false → (r : Bool) → r ≡ same_set c (clause_at s at) → r ≡ true → At at ≡ cond (begins_with c (drop at s)) (At at) best
-  better_here d r e t = better_by true (sym t ∙ e ∙ matches_stands s at h c d)
-
-  pub better_not : deleted_at s at ≡ false → (r : Bool) → r ≡ same_set c (clause_at s at) → r ≡ false → best ≡ cond (begins_with c (drop at s)) (At at) best
-  better_not d r e t = better_by false (sym t ∙ e ∙ matches_stands s at h c d)
 
 -- ---- a match that no other comes before is found
 
@@ -190,8 +181,8 @@ module _ (c : Clause) (s : List ℤ) (f : Formed s) where
       step : (at : ℕ) → at < length s → Place s at → (at ≤ p → place_from c 0 at (drop at s) ≡ place_of c s) → past s at ≤ p → place_from c 0 (past s at) (drop (past s at) s) ≡ place_of c s
       step at h a r m = place_miss s at h c (g at (omega arith) a) ∙ r (omega arith)
 
-  pub first_match : (p : ℕ) → Place s p → p < length s → begins_with c (drop p s) ≡ true → ((q : ℕ) → q < p → Place s q → begins_with c (drop q s) ≡ false) → place_of c s ≡ At p
+  pub first_match : (p : ℕ) → Place s p → p < length s → begins_with c (drop p s) ≡ true → ((q : ℕ) → q < p → Place s q → begins_with c (drop q s) ≡ false) → place_of c s ≡ Some p
   first_match p e h b g = sym (unmatched_before p e g) ∙ sym (place_hit s p h c b)
 
-  pub no_match : ((q : ℕ) → q < length s → Place s q → begins_with c (drop q s) ≡ false) → place_of c s ≡ Nothing
+  pub no_match : ((q : ℕ) → q < length s → Place s q → begins_with c (drop q s) ≡ false) → place_of c s ≡ None
   no_match g = sym (unmatched_before (length s) (place_end f) g) ∙ sym (place_nowhere c s (length s) (omega arith))

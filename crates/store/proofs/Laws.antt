@@ -6,6 +6,7 @@ use Prim.Native.Nat.{ℕ, zero, suc, ◌+◌, ◌-◌, ◌≤◌, ◌<◌}
 use native.Mathlib.Omega.{arith}
 use native.Mathlib.Numerals.{one-add}
 use lib.Dec.{leb}
+use Rattle.std.specs.Prelude.{Some, None}
 use lib.IntN.{ℤ, pos}
 use lib.ListN.{length, take, drop, length-append, length-drop, length-set, take-append-drop}
 use lib.Seq.{drop-append-le, get_or-take, drop-drop, take-add, take_all, take-append-le, take-take, take-length, length-take-le, sets, length-sets, take-set-le, drop-set-lt, get_or-set_same, take_at}
@@ -16,7 +17,6 @@ use Rattle.theory_base.proofs.Loops.{by_order}
 use Rattle.literals.specs.Literal.{largest, negative, header_of, flip, header_literals}
 use Rattle.literals.proofs.Laws.{flip_negative, literals_flip, literals_header}
 use Rattle.store.specs.Store.{FormedFrom, Formed, stored_from, stored, entry, header_at, size_at, deleted_at, clause_at, past, marked, Place, fits_in, end_after, with_entry}
-use Rattle.store.specs.declared.Added.TheVariants.{To, Full}
 use Rattle.theory_base.proofs.Slices.{drop_step, drop_end, sets_before, sets_after, taken_sets}
 
 -- ---- what follows a clause's literals
@@ -131,6 +131,9 @@ module _ (s : List ℤ) (at : ℕ) (h : at < length s) where
   formed_next f =
       let m = formed_skip (size_at s at) (drop (at + 1) s) (rw here at f) in
       (omega (arith, m.0, length-drop (at + 1) s), rw drop_past at m.1)
+
+  pub next_formed : Formed (drop at s) → Formed (drop (past s at) s)
+  next_formed f = (formed_next f).1
 
   -- what stands from the place on, by the header
   rest_stored : stored (drop at s) ≡ cond (deleted_at s at) (stored (drop (past s at) s)) (clause_at s at ∷ stored (drop (past s at) s))
@@ -275,7 +278,7 @@ fits_both size end c e = go (leb (length c) largest) refl e
     go true m x = (leb-true (length c) largest m, leb-true (length c + 1) (size - end) x)
     go false m x = differ {b = true} tt (sym x)
 
-pub appended : (old new : List ℤ) (end r : ℕ) (c : Clause) → end ≤ length old → end_after (length old) end c ≡ To r → new ≡ with_entry old end c → Appended old end c r new
+pub appended : (old new : List ℤ) (end r : ℕ) (c : Clause) → end ≤ length old → end_after (length old) end c ≡ Some r → new ≡ with_entry old end c → Appended old end c r new
 appended old new end r c h e w = go (fits_in (length old) end c) refl e w
   where
     write : length c ≤ largest → length c + 1 ≤ length old - end → r ≡ end + length (entry c) → new ≡ sets old end (entry c) → Appended old end c r new
@@ -292,7 +295,7 @@ appended old new end r c h e w = go (fits_in (length old) end c) refl e w
           standing = λ g. ap stored f ∙ added_stored (take end old) c g a;
         }
 
-    go : (t : Bool) → fits_in (length old) end c ≡ t → cond t (To (end + (length c + 1))) Full ≡ To r → new ≡ cond t (sets old end (entry c)) old → Appended old end c r new
+    go : (t : Bool) → fits_in (length old) end c ≡ t → cond t (Some (end + (length c + 1))) None ≡ Some r → new ≡ cond t (sets old end (entry c)) old → Appended old end c r new
     go true m x n =
         let i : end + (length c + 1) ≡ r = cc in
         let k = fits_both (length old) end c m in

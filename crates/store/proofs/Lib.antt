@@ -1,5 +1,4 @@
--- Laws for callers: Laws (what stands, by places), Finding (Hit, miss, hit-stands). Marking, Counting and Sliding serve the loops of this crate.
+-- Laws for callers: Laws (what stands, by places), Finding (hit, deleted_hit, first_match). Sliding serves `compact`.
 pub mod Laws
 pub mod Finding
 pub mod Sliding
-pub mod Counting

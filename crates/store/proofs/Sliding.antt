@@ -2,11 +2,12 @@
 use mathlib.Core.Path.{◌≡◌, refl, sym, ap, ap₂, ◌∙◌}
 use mathlib.Core.Bool.{true, false}
 use mathlib.Core.List.{List, [], ◌∷◌, ◌++◌, append_assoc, append-nil}
-use Prim.Native.Nat.{ℕ, ◌+◌, ◌≤◌, ◌<◌}
+use Prim.Native.Nat.{ℕ, ◌+◌, ◌-◌, ◌≤◌, ◌<◌}
 use native.Mathlib.Omega.{arith}
 use lib.IntN.{ℤ}
 use lib.ListN.{length, take, drop, length-drop}
-use lib.Seq.{length-take-le, sets, length-sets}
+use lib.Seq.{length-take-le, sets, sets-eq, length-sets}
+use Rattle.std.specs.List.{copy_within}
 use Rattle.definition.specs.Literals.{Formula}
 use Rattle.definition.specs.Calls.{numbers_of}
 use Rattle.theory_base.proofs.Tests.{by_test}
@@ -15,7 +16,17 @@ use Rattle.theory_base.proofs.Slices.{sets_after, taken_sets}
 use Rattle.theory_base.proofs.Clauses.{numbers_none, numbers_first, numbers-++}
 use Rattle.store.proofs.Laws.{formed-++, stored-++, stored_end, formed_next, rest_deleted, rest_stands, piece, clause_length, formed_one_at, stored_one_at}
 
+-- what copying within a list stores
+moved_part : (s : List ℤ) (to from n : ℕ) → to ≤ from → from + n ≤ length s → copy_within s from (from + n) to ≡ sets s to (take n (drop from s))
+moved_part s to from n l h =
+    let e : from + n - from ≡ n = omega arith in
+    let m : length (take n (drop from s)) ≡ n = length-take-le n (drop from s) (omega (arith, length-drop from s)) in
+    rw (e, sets-eq (take n (drop from s)) s to (omega (arith, m)), m) refl
+
 -- ---- the entry at a place, moved down
+pub entry_moved : (s : List ℤ) (to from next : ℕ) → to ≤ from → from < length s → Formed (drop from s) → next ≡ past s from → deleted_at s from ≡ false → copy_within s from next to ≡ slid s to from
+entry_moved s to from next l h f n e = rw (n, e) (moved_part s to from (1 + size_at s from) l (formed_next s from h f).0)
+
 module _ (s : List ℤ) (to from : ℕ) (l : to ≤ from) (h : from < length s) (f : Formed (drop from s)) (g : Formed (take to s)) where
   abbrev moved : List ℤ
   moved = sets s to (take (1 + size_at s from) (drop from s))

@@ -1,17 +1,12 @@
 -- Clauses in a lent slice, the store: the entry of a clause is its header and its literals, and entries follow each other.
-use Rattle.std.specs.Prelude.{◌≡◌, refl, Bool, false, ◌&&◌, cond, List, [], ◌∷◌, ℕ, zero, suc, ◌+◌, ◌-◌, ◌≤◌, leb, ℤ, pos, negsuc, length, get_or, take, drop, set}
+use Rattle.std.specs.Prelude.{◌≡◌, refl, Bool, false, ◌&&◌, cond, List, [], ◌∷◌, ℕ, zero, suc, ◌+◌, ◌-◌, ◌≤◌, ◌<◌, leb, ℤ, pos, negsuc, length, get_or, take, drop, set, Option, Some, None}
 use Rattle.std.proofs.lemmas.List.Edits.{sets}
 use Rattle.definition.specs.Literals.{Clause, Formula, same_set}
 use Rattle.definition.specs.Standing.{stands, take_out}
 use Rattle.definition.specs.Calls.{numbers_of}
 use Rattle.theory_base.specs.Clauses.{Fits}
 use Rattle.literals.specs.Literal.{largest, negative, header_of, flip, header_literals}
-use Rattle.tables.specs.Entries.{tallied}
 use Rattle.tables.specs.Counts.{Counts}
-use Rattle.store.specs.declared.Found.{Found}
-use Rattle.store.specs.declared.Found.TheVariants.{At, Nothing}
-use Rattle.store.specs.declared.Added.{Added}
-use Rattle.store.specs.declared.Added.TheVariants.{To, Full}
 
 -- the entries fill the list, of which the first k elements belong to the clause before
 abbrev pub FormedFrom : ℕ → List ℤ → Type 0
@@ -58,13 +53,13 @@ clause_at s at = take (size_at s at) (drop (at + 1) s)
 abbrev pub past : List ℤ → ℕ → ℕ
 past s at = at + (1 + size_at s at)
 
+-- an entry begins at the place
+abbrev pub EntryAt : List ℤ → ℕ → Type 0
+EntryAt s at = (at < length s) × Formed (drop at s)
+
 -- the store with the clause at a place deleted, or standing again
 abbrev pub marked : List ℤ → ℕ → List ℤ
 marked s at = set s at (flip (header_at s at))
-
--- a table of counts with the clause at a place, if it stands
-abbrev pub tallied_at : List ℕ → List ℤ → ℕ → List ℕ
-tallied_at t s at = cond (deleted_at s at) t (tallied t (clause_at s at))
 
 -- an entry begins at the place, or the store ends there
 pub record Place (s : List ℤ) (at : ℕ) : Type 0 where
@@ -88,14 +83,14 @@ begins_with c (h ∷ s) =
     cond (negative h) false same
 
 -- its place, counted from at, where the first k elements belong to the clause before
-unfoldable pub place_from : Clause → ℕ → ℕ → List ℤ → Found
-place_from c k at [] = Nothing
+unfoldable pub place_from : Clause → ℕ → ℕ → List ℤ → Option ℕ
+place_from c k at [] = None
 place_from c zero at (h ∷ s) =
     let more = place_from c (header_literals h) (at + 1) s in
-    cond (begins_with c (h ∷ s)) (At at) more
+    cond (begins_with c (h ∷ s)) (Some at) more
 place_from c (suc k) at (x ∷ s) = place_from c k (at + 1) s
 
-abbrev pub place_of : Clause → List ℤ → Found
+abbrev pub place_of : Clause → List ℤ → Option ℕ
 place_of c s = place_from c 0 0 s
 
 -- the first standing clause with the literals of c is taken out; r says whether there was one
@@ -110,8 +105,8 @@ pub record Deleted (c : Clause) (old : List ℤ) (r : Bool) (new : List ℤ) : T
 abbrev pub fits_in : ℕ → ℕ → Clause → Bool
 fits_in size end c = leb (length c) largest && leb (length c + 1) (size - end)
 
-abbrev pub end_after : ℕ → ℕ → Clause → Added
-end_after size end c = cond (fits_in size end c) (To (end + (length c + 1))) Full
+abbrev pub end_after : ℕ → ℕ → Clause → Option ℕ
+end_after size end c = cond (fits_in size end c) (Some (end + (length c + 1))) None
 
 abbrev pub with_entry : List ℤ → ℕ → Clause → List ℤ
 with_entry s end c = cond (fits_in (length s) end c) (sets s end (entry c)) s
@@ -134,6 +129,6 @@ pub record Compacted (old : List ℤ) (r : ℕ) (new : List ℤ) : Type 0 where
 sample : List ℤ
 sample = pos 2 ∷ pos 1 ∷ negsuc 1 ∷ negsuc 1 ∷ negsuc 2 ∷ pos 1 ∷ pos 4 ∷ []
 
-examples : (stored sample ≡ (pos 1 ∷ negsuc 1 ∷ []) ∷ (pos 4 ∷ []) ∷ []) × (place_of (pos 4 ∷ []) sample ≡ At 5) × (place_of (negsuc 2 ∷ []) sample ≡ Nothing)
+examples : (stored sample ≡ (pos 1 ∷ negsuc 1 ∷ []) ∷ (pos 4 ∷ []) ∷ []) × (place_of (pos 4 ∷ []) sample ≡ Some 5) × (place_of (negsuc 2 ∷ []) sample ≡ None)
 unfolding sample stored_from place_from begins_with Rattle.definition.specs.Literals.computing Rattle.definition.specs.Lists.computing
 examples = (refl, refl, refl)

@@ -1,18 +1,17 @@
 -- A table counted from zeros: its entry at a literal is the number of clauses in which the literal stands, and the tests by it are the definition's. Assumes nothing.
 use mathlib.Core.Path.{◌≡◌, refl, sym, ap, ◌∙◌}
-use mathlib.Core.Bool.{Bool, true, false, not, cond, ◌&&◌, ◌||◌, and-true, and-false}
+use mathlib.Core.Bool.{Bool, true, false, not, cond, ◌&&◌, ◌||◌}
 use mathlib.Core.Logic.{◌≢◌}
 use mathlib.Core.List.Memᴰ.{head as here}
 use mathlib.Core.List.Memᴰ.{tail as there}
 use mathlib.Core.List.{List, [], ◌∷◌, Memᴰ}
 use Prim.Native.Nat.{ℕ, ◌+◌, ◌≤◌, ◌<◌, min}
 use native.Mathlib.Omega.{arith}
-use lib.Dec.{eqb, ltb, leb}
+use lib.Dec.{eqb, ltb}
 use lib.IntN.{ℤ, pos, neg_ℤ, nat_abs}
-use lib.ListN.{length, get_or, set, drop, length-set, replicate, length-replicate}
-use lib.Seq.{set-get_or, get_or-set_other}
-use borrow.Author.Tests.{lt-ltb, le-ltb, le-leb, lt-leb}
-use Rattle.definition.specs.Lists.{bit, any, all, count, sum_of}
+use lib.ListN.{length, get_or, drop, length-set, replicate, length-replicate}
+use lib.Seq.{get_or-set_other}
+use Rattle.definition.specs.Lists.{bit, any, count, sum_of}
 use Rattle.definition.specs.Literals.{Clause, Formula, same, holds, repeated}
 use Rattle.definition.specs.Clearing.{times, unique, pure, choice_size, deletable}
 use Rattle.theory_base.specs.Clauses.{ProperAll}
@@ -28,14 +27,6 @@ use Rattle.tables.proofs.Laws.{entry_zeros, entry_set, reset_zeros}
 
 -- ---- the code's ways
 
-pub count_full : (t : List ℕ) (i : ℕ) {x : ℕ} → x ≡ get_or t i 0 → x ≤ most → most ≤ x → t ≡ counted_at t i
-count_full t i e a b =
-    let m : get_or t i 0 ≡ min (get_or t i 0 + 1) most = omega arith in
-    sym (set-get_or t i 0) ∙ ap (set t i) m
-
-pub count_more : (t : List ℕ) (i : ℕ) {x : ℕ} → x ≡ get_or t i 0 → x < most → set t i (x + 1) ≡ counted_at t i
-count_more t i {x} e h = let m : x + 1 ≡ min (get_or t i 0 + 1) most = omega arith in ap (set t i) m
-
 pub tally_step : (t : List ℕ) (s : Clause) (i : ℕ) → i < length s → tallied (counted_at t (index_of (get_or s i (pos 0)))) (drop (i + 1) s) ≡ tallied t (drop i s)
 unfolding tallied
 tally_step t s i h = rw (drop_step s i (pos 0) h) refl
@@ -43,34 +34,6 @@ tally_step t s i h = rw (drop_step s i (pos 0) h) refl
 pub tally_end : (t : List ℕ) (s : Clause) (i : ℕ) → length s ≤ i → t ≡ tallied t (drop i s)
 unfolding tallied
 tally_end t s i h = rw (drop_end s i h) refl
-
-pub unique_some : {r : Bool} (t : List ℕ) (c : Clause) → 0 < length c → r ≡ all (once_in t) c → r ≡ unique_by t c
-unique_some t c h e = rw (lt-ltb 0 (length c) h) e
-
-pub unique_none : (t : List ℕ) (c : Clause) → length c ≤ 0 → false ≡ unique_by t c
-unique_none t c h = rw (le-ltb 0 (length c) h) refl
-
-pub size_short : (c : Clause) → length c < 5 → false ≡ choice_size c
-unfolding choice_size
-size_short c h = rw (lt-leb 5 (length c) h) refl
-
-pub size_else : (c : Clause) → 5 ≤ length c → leb (length c) 64 ≡ choice_size c
-unfolding choice_size
-size_else c h = rw (le-leb 5 (length c) h) refl
-
--- a choice or a clause to be deleted, by the size and by being unique
-module _ (t : List ℕ) (c : Clause) {s : Bool} (e : s ≡ choice_size c) where
-  pub choice_sized : {r : Bool} → s ≡ true → r ≡ unique_by t c → r ≡ choice_by t c
-  choice_sized k u = rw (sym e ∙ k) u
-
-  pub choice_unsized : s ≡ false → false ≡ choice_by t c
-  choice_unsized k = rw (sym e ∙ k) refl
-
-  pub deletable_sized : s ≡ true → false ≡ deletable_by t c
-  deletable_sized k = rw (sym e ∙ k) (sym (and-false (unique_by t c)))
-
-  pub deletable_unsized : {r : Bool} → s ≡ false → r ≡ unique_by t c → r ≡ deletable_by t c
-  deletable_unsized k u = rw (sym e ∙ k) (u ∙ sym (and-true (unique_by t c)))
 
 -- ---- lengths
 

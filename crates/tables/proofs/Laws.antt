@@ -12,7 +12,7 @@ use lib.IntN.{ℤ, pos, negsuc, neg_ℤ, nat_abs}
 use lib.ListN.{length, get_or, set, drop, length-set, replicate, get_or-eq_default}
 use lib.Seq.{get_or-set_same, get_or-set_other}
 use borrow.Author.Tests.{eqb-true, eqb-false, eq-eqb, ne_eqb, ltb-true, ltb-false}
-use Rattle.definition.specs.Lists.{any, sum_of}
+use Rattle.definition.specs.Lists.{any}
 use Rattle.definition.specs.Literals.{Clause, same, holds}
 use Rattle.theory_base.proofs.Tests.{by_test, of_true, to_true}
 use Rattle.theory_base.proofs.Members.{same_eq, same_refl, unlike, natAbs_neg, holds_snoc}
@@ -85,16 +85,6 @@ entry_set_all t (x ∷ c) v l h =
     go true false = refl
     go false b = refl
 
--- ---- the entries of a clause's literals, added up
-
-pub sum_step : (t : List ℕ) (s : Clause) (i : ℕ) → i < length s → sum_of (entry_of t) (drop i s) ≡ entry_of t (get_or s i (pos 0)) + sum_of (entry_of t) (drop (i + 1) s)
-unfolding sum_of
-sum_step t s i h = rw (drop_step s i (pos 0) h) refl
-
-pub sum_end : (t : List ℕ) (s : Clause) (i : ℕ) → length s ≤ i → sum_of (entry_of t) (drop i s) ≡ 0
-unfolding sum_of
-sum_end t s i h = rw (drop_end s i h) refl
-
 -- ---- back to zeros
 
 -- entry by entry
@@ -135,26 +125,6 @@ fresh_more table stamp b = record { below = λ i. more (get_or table i 0) (b i) 
   where
     more : (x : ℕ) → x ≤ stamp → x < stamp + 1
     more x h = omega arith
-
--- ---- the entries before a place are 0
-abbrev pub Cleared : List ℕ → ℕ → Type 0
-Cleared table i = (k : ℕ) → k < i → ◌≡◌ {A = ℕ} (get_or table k 0) 0
-
-pub cleared_step : (table : List ℕ) (i : ℕ) → i < length table → Cleared table i → Cleared (set table i 0) (i + 1)
-cleared_step table i h f k l = by_test (eqb k i)
-    (λ e. rw (eqb-true k i e) (get_or-set_same table i 0 0 h))
-    (λ e. get_or-set_other table i k 0 0 (eqb-false k i e) ∙ f k (less (eqb-false k i e)))
-  where
-    less : (k ≡ i → ⊥) → k < i
-    less n = omega (arith, n)
-
-pub cleared_end : (table : List ℕ) (i : ℕ) → length table ≤ i → Cleared table i → AtMost table 0
-cleared_end table i h f k = by_test (ltb k i)
-    (λ e. rw (f k (ltb-true k i e)) (omega arith))
-    (λ e. rw (get_or-eq_default table 0 (long (ltb-false k i e))) (omega arith))
-  where
-    long : i ≤ k → length table ≤ k
-    long l = omega arith
 
 -- ---- the marks
 
@@ -197,9 +167,6 @@ module _ (table : List ℕ) (stamp : ℕ) (here : Clause) (k : Marks table stamp
 module _ (l : ℤ) (h : nat_abs l ≤ log_reach) (table : List ℕ) (stamp : ℕ) {a : ℕ} (p : a ≡ entry_of table l) (here : Clause) (k : Marks table stamp here) where
   itself : eqb a stamp ≡ holds l here
   itself = rw p (k.told l h)
-
-  pub mark_repeated : a ≡ stamp → (holds l here ≡ true) × Marks table stamp here
-  mark_repeated e = (sym itself ∙ eq-eqb a stamp e, k)
 
   module _ (n : a ≡ stamp → ⊥) {b : ℕ} (q : b ≡ entry_of table (negation l)) where
     other : eqb b stamp ≡ holds (neg_ℤ l) here

@@ -2,7 +2,8 @@
 #![tactic(auto)]
 
 ghost use Rattle.std.specs.Prelude.{◌≡◌, ◌≤◌, ◌<◌, ◌^◌, nat_abs, length, get_or, set};
-ghost use Rattle.definition.specs.Lists.{all, sum_of};
+ghost use Rattle.std.specs.List.{list_all};
+ghost use Rattle.definition.specs.Lists.{sum_of};
 ghost use Rattle.definition.specs.Literals.{Clause};
 ghost use Rattle.definition.specs.Clearing.{choice_size};
 ghost use Rattle.literals.specs.Literal.{index_of};
@@ -22,25 +23,13 @@ pub const LOG_REACH: u32 = 70000;
 
 pub const LOG_SIZE: usize = 140002;
 
-// The largest u32.
-const LARGEST: u32 = 4294967295;
-
 // ---- entries
 
 // The entry at an index.
 pub fn entry_at(table: &[u32], i: usize) -> u32
     ensures { result ≡ get_or table.now i 0 }
 {
-    if i < table.len() { table[i] } else { 0 }
-}
-
-// Sets the entry at an index.
-pub fn set_at(table: &mut [u32], i: usize, value: u32)
-    ensures { table.new ≡ set table.old i value }
-{
-    if i < table.len() {
-        table[i] = value;
-    }
+    table.get(i).copied().unwrap_or(0)
 }
 
 // The entry of a literal.
@@ -54,17 +43,16 @@ pub fn entry_of(table: &[u32], l: i32) -> u32
 pub fn set_entry(table: &mut [u32], l: i32, value: u32)
     ensures { table.new ≡ set table.old (index_of l) value }
 {
-    set_at(table, literals::literal_index(l), value);
+    slices::put(table, literals::literal_index(l), value);
 }
 
 // Sets the entry of each literal of a clause.
+#[tactic(auto, using(crate::proofs::Laws::entries_end))]
 pub fn set_entries(table: &mut [u32], clause: &[i32], value: u32)
     ensures { table.new ≡ with_entries table.old clause.now value }
 {
-    let mut i = 0;
-    while i < clause.len() {
-        set_entry(table, clause[i], value);
-        i += 1;
+    for l in clause {
+        set_entry(table, *l, value);
     }
 }
 
@@ -73,24 +61,17 @@ pub fn sum_entries(table: &[u32], clause: &[i32]) -> u32
     requires { sum_of (entry_at_literal table.now) clause.now < 2 ^ 32 }
     ensures { result ≡ sum_of (entry_at_literal table.now) clause.now }
 {
-    let mut sum = 0;
-    let mut i = 0;
-    while i < clause.len() {
-        sum += entry_of(table, clause[i]);
-        i += 1;
-    }
-    sum
+    clause.iter().map(|l| entry_of(table, *l)).sum()
 }
 
 // Sets the entry of each literal of a clause to its place there, from 1 on.
+#[tactic(auto, using(crate::proofs::Places::numbers_end))]
 pub fn set_places(table: &mut [u32], clause: &[i32])
     requires { length clause.now < 2 ^ 32 }
     ensures { table.new ≡ with_numbers table.old 1 clause.now }
 {
-    let mut i = 0;
-    while i < clause.len() {
-        set_entry(table, clause[i], (i + 1) as u32);
-        i += 1;
+    for (i, l) in clause.iter().enumerate() {
+        set_entry(table, *l, (i + 1) as u32);
     }
 }
 
@@ -107,28 +88,19 @@ pub fn place_of(table: &[u32], l: i32) -> u32
 pub fn count_at(table: &mut [u32], i: usize)
     ensures { table.new ≡ counted_at table.old i }
 {
-    let n = entry_at(table, i);
-    if n < LARGEST {
-        set_at(table, i, n + 1);
+    if i < table.len() {
+        table[i] = table[i].saturating_add(1);
     }
 }
 
 // One more for each literal of a clause.
+#[tactic(auto, using(crate::proofs::Counting::tally_end))]
 pub fn count_clause(table: &mut [u32], clause: &[i32])
     ensures { table.new ≡ tallied table.old clause.now }
 {
-    let mut i = 0;
-    while i < clause.len() {
-        count_at(table, literals::literal_index(clause[i]));
-        i += 1;
+    for l in clause {
+        count_at(table, literals::literal_index(*l));
     }
-}
-
-// Whether a literal stands in one clause.
-fn is_once(counts: &[u32], l: i32) -> bool
-    ensures { result ≡ once_in counts.now l }
-{
-    entry_of(counts, l) == 1
 }
 
 // Whether a literal's negation stands nowhere.
@@ -140,61 +112,39 @@ pub fn is_pure(counts: &[u32], l: i32) -> bool
 
 // Whether each literal of a clause stands in one clause.
 fn all_once(counts: &[u32], clause: &[i32]) -> bool
-    ensures { result ≡ all (once_in counts.now) clause.now }
+    ensures { result ≡ list_all (once_in counts.now) clause.now }
 {
-    let mut i = 0;
-    while i < clause.len() {
-        if is_once(counts, clause[i]) {
-            i += 1;
-        } else {
-            return false;
-        }
-    }
-    true
+    clause.iter().all(|l| entry_of(counts, *l) == 1)
 }
 
 // Whether a clause is a unique literal clause.
+#[tactic(auto, using(theory_base::proofs::Chains::all_is))]
 pub fn is_unique(counts: &[u32], clause: &[i32]) -> bool
     ensures { result ≡ unique_by counts.now clause.now }
 {
-    if 0 < clause.len() {
-        all_once(counts, clause)
-    } else {
-        false
-    }
+    !clause.is_empty() && all_once(counts, clause)
 }
 
 // Whether a clause has as many literals as a choice.
-#[tactic(auto, using(crate::proofs::Counting::size_short))]
+#[tactic(auto, unfolding(definition::specs::Clearing::choice_size))]
 fn is_choice_size(clause: &[i32]) -> bool
     ensures { result ≡ choice_size clause.now }
 {
-    if clause.len() < 5 {
-        return false;
-    }
-    clause.len() <= 64
+    (5..=64).contains(&clause.len())
 }
 
 // Whether a clause is a choice.
 pub fn is_choice(counts: &[u32], clause: &[i32]) -> bool
     ensures { result ≡ choice_by counts.now clause.now }
 {
-    if is_choice_size(clause) {
-        is_unique(counts, clause)
-    } else {
-        false
-    }
+    is_choice_size(clause) && is_unique(counts, clause)
 }
 
 // Whether a clause is deleted if it has a pure literal: a unique literal clause that is no choice.
 pub fn is_deletable(counts: &[u32], clause: &[i32]) -> bool
     ensures { result ≡ deletable_by counts.now clause.now }
 {
-    if is_choice_size(clause) {
-        false
-    } else {
-        is_unique(counts, clause)
-    }
+    !is_choice_size(clause) && is_unique(counts, clause)
 }
 
 // ---- stamps: which literals of a clause or line are read
@@ -228,11 +178,7 @@ pub fn mark(seen: &mut [u32], stamp: u32, l: i32) -> Marked
 pub fn clear(seen: &mut [u32])
     ensures { AtMost seen.new 0 }
 {
-    let mut i = 0;
-    while i < seen.len() {
-        seen[i] = 0;
-        i += 1;
-    }
+    seen.fill(0);
 }
 
 // The stamp for the next clause or line: one more, or 1 in a table made zero after the largest.
@@ -240,7 +186,7 @@ pub fn next_stamp(seen: &mut [u32], stamp: u32) -> u32
     requires { AtMost seen.old stamp }
     ensures { Fresh seen.new result }
 {
-    if stamp < LARGEST {
+    if stamp < u32::MAX {
         return stamp + 1;
     }
     clear(seen);

@@ -8,17 +8,18 @@ use native.Mathlib.Omega.{arith}
 use native.Mathlib.Numerals.{add-one}
 use lib.Dec.{leb}
 use lib.IntN.{ℤ, nat_abs}
-use lib.ListN.{length, get_or, drop, drop_of_length-le}
+use lib.ListN.{length, get_or, take, drop, drop_of_length-le}
 use lib.Seq.{drop-cons}
 use borrow.Author.Tests.{leb-true, leb-false, le-leb, lt-leb, ne_eqb}
 use Rattle.definition.specs.Lists.{all}
 use Rattle.definition.specs.Text.{Bytes, is, digit, digit_value, value_from, natural, negated, not_negated, number}
+use Rattle.theory_base.proofs.Slices.{rest_is}
 use Rattle.theory_base.proofs.Tests.{by_test, and_l, to_true, of_true}
 use Rattle.literals.proofs.Laws.{signed_small}
-use Rattle.text.specs.declared.Natural.{Natural}
-use Rattle.text.specs.declared.Number.{Number}
-use Rattle.text.specs.Numbers.{all_digits, natural_class, number_class, sign_value, with_sign}
-use Rattle.literals.specs.Literal.{signed_of}
+use Rattle.std.proofs.Common.{Result, Ok, Err}
+use Rattle.text.specs.declared.NumberError.{NumberError}
+use Rattle.text.specs.declared.NumberError.TheVariants.{TooLarge, NotANumber}
+use Rattle.text.specs.Numbers.{all_digits, natural_class, number_class, with_sign}
 use Rattle.tables.specs.Sizes.{log_reach}
 
 -- ---- digits only
@@ -55,13 +56,13 @@ module _ (most : ℕ) (m : most ≤ 1_000_000) where
     pub digits_step : i < length s → digit (get_or s i 0) ≡ true → natural_class most (all_digits (min (v * 10 + (get_or s i 0 - 48)) 1_000_001) (drop (i + 1) s)) ≡ natural_class most (all_digits v (drop i s))
     digits_step h e = rw (drop-cons s i 0 h, all_digits_cons v (get_or s i 0) (drop (suc i) s), e, add-one i) (cut (drop (suc i) s) _ _ (omega arith))
 
-    pub digits_stop : i < length s → digit (get_or s i 0) ≡ false → Natural.NotANumber ≡ natural_class most (all_digits v (drop i s))
+    pub digits_stop : i < length s → digit (get_or s i 0) ≡ false → Err NotANumber ≡ natural_class most (all_digits v (drop i s))
     digits_stop h e = rw (drop-cons s i 0 h, all_digits_cons v (get_or s i 0) (drop (suc i) s), e) refl
 
-    pub digits_end : length s ≤ i → v ≤ most → Natural.Value v ≡ natural_class most (all_digits v (drop i s))
+    pub digits_end : length s ≤ i → v ≤ most → Ok v ≡ natural_class most (all_digits v (drop i s))
     digits_end h l = rw (drop_of_length-le s h, all_digits_none v, le-leb v most l) refl
 
-    pub digits_large : length s ≤ i → most < v → Natural.Large ≡ natural_class most (all_digits v (drop i s))
+    pub digits_large : length s ≤ i → most < v → Err TooLarge ≡ natural_class most (all_digits v (drop i s))
     digits_large h l = rw (drop_of_length-le s h, all_digits_none v, lt-leb v most l) refl
 
 pub digit_least : (b : ℕ) → digit b ≡ true → 48 ≤ b
@@ -71,30 +72,24 @@ digit_least b e = leb-true 48 b (to_true (and_l (leb 48 b) (leb b 57) (of_true e
 -- ---- 0, or digits that begin with 1 to 9
 
 module _ (most : ℕ) where
-  pub natural_none : (s : Bytes) → length s ≡ 0 → Natural.NotANumber ≡ natural_class most (natural s)
+  pub natural_none : (s : Bytes) → length s ≡ 0 → Err NotANumber ≡ natural_class most (natural s)
   unfolding natural
   natural_none [] h = refl
   natural_none (b ∷ s) h = absurd (omega arith)
 
-  pub natural_zero : (s : Bytes) → length s ≡ 1 → get_or s 0 0 ≡ 48 → Natural.Value 0 ≡ natural_class most (natural s)
-  unfolding natural digit digit_value
-  natural_zero [] h e = absurd (omega arith)
-  natural_zero (b ∷ []) h e = rw (e, le-leb 0 most (omega arith)) refl
-  natural_zero (b ∷ c ∷ s) h e = absurd (omega arith)
-
-  pub natural_zeros : (s : Bytes) → (length s ≡ 1 → ⊥) → get_or s 0 0 ≡ 48 → Natural.NotANumber ≡ natural_class most (natural s)
+  pub natural_zeros : (s : Bytes) → 2 ≤ length s → get_or s 0 0 ≡ 48 → Err NotANumber ≡ natural_class most (natural s)
   unfolding natural digit digit_value is
-  natural_zeros [] h e = refl
-  natural_zeros (b ∷ []) h e = absurd (h refl)
+  natural_zeros [] h e = absurd (omega arith)
+  natural_zeros (b ∷ []) h e = absurd (omega arith)
   natural_zeros (b ∷ c ∷ s) h e = rw e refl
 
-pub natural_digits : (s : Bytes) → (length s ≡ 0 → ⊥) → (get_or s 0 0 ≡ 48 → ⊥) → all_digits 0 s ≡ natural s
+pub natural_digits : (s : Bytes) → 1 ≤ length s → (2 ≤ length s → get_or s 0 0 ≡ 48 → ⊥) → all_digits 0 s ≡ natural s
 unfolding natural is digit_value all_digits all value_from
-natural_digits [] h e = absurd (h refl)
-natural_digits (b ∷ []) h e =
+natural_digits [] h n = absurd (omega arith)
+natural_digits (b ∷ []) h n =
     let k : 0 * 10 + (b - 48) ≡ b - 48 = omega arith in
     all_digits_cons 0 b [] ∙ ap (λ (n : ℕ). cond (digit b) (some n) none) k
-natural_digits (b ∷ c ∷ s) h e = rw (ne_eqb b 48 e) (go (digit b) (all digit (c ∷ s)) (some (value_from 0 (b ∷ c ∷ s))))
+natural_digits (b ∷ c ∷ s) h n = rw (ne_eqb b 48 (n (omega arith))) (go (digit b) (all digit (c ∷ s)) (some (value_from 0 (b ∷ c ∷ s))))
   where
     go : (d x : Bool) (o : Option ℕ) → cond (d && x) o none ≡ cond (d && not false && x) o none
     go true x o = refl
@@ -102,46 +97,45 @@ natural_digits (b ∷ c ∷ s) h e = rw (ne_eqb b 48 e) (go (digit b) (all digit
 
 -- ---- a sign
 
-pub sign_some : (n : ℕ) → (n ≡ 0 → ⊥) → Number.Value (signed_of true n) ≡ sign_value true n
-sign_some zero h = absurd (h refl)
-sign_some (suc n) h = refl
-
-pub sign_plain : (o : Option ℕ) → with_sign false (natural_class log_reach o) ≡ number_class (not_negated o)
+sign_plain : (o : Option ℕ) → with_sign false (natural_class log_reach o) ≡ number_class (not_negated o)
 unfolding not_negated
 sign_plain none = refl
 sign_plain (some n) = by_test (leb n log_reach)
-    (λ e. rw e (ap Number.Value (signed_small false n (omega (arith, leb-true n log_reach e)))))
+    (λ e. rw e (ap Ok (signed_small false n (omega (arith, leb-true n log_reach e)))))
     (λ e. rw e refl)
 
-pub sign_minus : (o : Option ℕ) → with_sign true (natural_class log_reach o) ≡ number_class (negated o)
+sign_minus : (o : Option ℕ) → with_sign true (natural_class log_reach o) ≡ number_class (negated o)
 unfolding negated
 sign_minus none = refl
 sign_minus (some zero) = refl
 sign_minus (some (suc n)) = by_test (leb (suc n) log_reach)
-    (λ e. rw e (ap Number.Value (signed_small true (suc n) (omega (arith, leb-true (suc n) log_reach e)))))
+    (λ e. rw e (ap Ok (signed_small true (suc n) (omega (arith, leb-true (suc n) log_reach e)))))
     (λ e. rw e refl)
 
-pub number_none : (s : Bytes) → length s ≡ 0 → Number.NotANumber ≡ number_class (number s)
-unfolding number
-number_none [] h = refl
-number_none (b ∷ s) h = absurd (omega arith)
-
-pub number_minus : (s : Bytes) → (length s ≡ 0 → ⊥) → get_or s 0 0 ≡ 45 → negated (natural (drop 1 s)) ≡ number s
+number_minus : (s : Bytes) → 1 ≤ length s → get_or s 0 0 ≡ 45 → negated (natural (drop 1 s)) ≡ number s
 unfolding number is
-number_minus [] h e = absurd (h refl)
+number_minus [] h e = absurd (omega arith)
 number_minus (b ∷ s) h e = rw e refl
 
-pub number_plain : (s : Bytes) → (length s ≡ 0 → ⊥) → (get_or s 0 0 ≡ 45 → ⊥) → not_negated (natural s) ≡ number s
-unfolding number is
-number_plain [] h e = absurd (h refl)
-number_plain (b ∷ s) h e = rw (ne_eqb b 45 e) refl
+number_plain : (s : Bytes) → (1 ≤ length s → get_or s 0 0 ≡ 45 → ⊥) → not_negated (natural s) ≡ number s
+unfolding number natural not_negated is
+number_plain [] n = refl
+number_plain (b ∷ s) n = rw (ne_eqb b 45 (n (omega arith))) refl
+
+module _ (s : Bytes) where
+  pub minus_read : 1 ≤ length s → get_or s 0 0 ≡ 45 → with_sign true (natural_class log_reach (natural (take (length s - 1) (drop 1 s)))) ≡ number_class (number s)
+  minus_read h e =
+      ap (λ (t : Bytes). with_sign true (natural_class log_reach (natural t))) (rest_is s 1) ∙ sign_minus (natural (drop 1 s)) ∙ ap number_class (number_minus s h e)
+
+  pub plain_read : (1 ≤ length s → get_or s 0 0 ≡ 45 → ⊥) → with_sign false (natural_class log_reach (natural s)) ≡ number_class (number s)
+  plain_read n = sign_plain (natural s) ∙ ap number_class (number_plain s n)
 
 -- ---- what the answers say of the definition's number
 
-abbrev pub NumberSays : Option ℤ → Number → Type 0
-NumberSays o (Number.Value z) = (o ≡ some z) × (nat_abs z ≤ log_reach)
-NumberSays o Number.Large = (z : ℤ) × (o ≡ some z) × (log_reach < nat_abs z)
-NumberSays o Number.NotANumber = o ≡ none
+abbrev pub NumberSays : Option ℤ → Result ℤ NumberError → Type 0
+NumberSays o (Ok z) = (o ≡ some z) × (nat_abs z ≤ log_reach)
+NumberSays o (Err TooLarge) = (z : ℤ) × (o ≡ some z) × (log_reach < nat_abs z)
+NumberSays o (Err NotANumber) = o ≡ none
 
 number_says : (o : Option ℤ) → NumberSays o (number_class o)
 number_says none = refl
@@ -149,5 +143,5 @@ number_says (some z) = by_test (leb (nat_abs z) log_reach)
     (λ e. rw e (refl, leb-true (nat_abs z) log_reach e))
     (λ e. rw e (z, refl, leb-false (nat_abs z) log_reach e))
 
-pub number_answer : (o : Option ℤ) {r : Number} → r ≡ number_class o → NumberSays o r
+pub number_answer : (o : Option ℤ) {r : Result ℤ NumberError} → r ≡ number_class o → NumberSays o r
 number_answer o e = rw e (number_says o)

@@ -5,11 +5,13 @@ use Prim.Native.Nat.{ℕ, suc, ◌+◌, ◌-◌, ◌/◌, ◌%◌, ◌^◌, ◌�
 use native.Mathlib.Omega.{arith}
 use lib.IntN.{ℤ, pos, negsuc, nat_abs}
 use lib.ListN.{length, set, take, drop, length-append}
-use lib.Seq.{sets, sets-eq, length-sets, take_at, length-take-le}
+use lib.Seq.{sets, sets-eq, length-sets}
 use mir.Syntax.{w32}
 use mir.Val.{SFits}
 use Rattle.definition.specs.Text.{Bytes, digits, literal_text}
-use Rattle.theory_base.proofs.Tests.{differ}
+use Rattle.theory_base.proofs.Tests.{differ, by_test}
+use borrow.Author.Tests.{ltb-true, ltb-false}
+use lib.Dec.{ltb}
 use Rattle.literals.specs.Literal.{negative}
 use mathlib.Core.Bool.{true, false}
 use Rattle.text.specs.Output.{Put}
@@ -46,16 +48,10 @@ module _ {l n xs : Bytes} {at r : ℕ} (p : Put l at xs r n) where
   put_fits h =
       p.kept ∙ sets-eq xs l at (omega (arith, p.next)) ∙ ap (λ (k : ℕ). take at l ++ xs ++ drop k l) (sym p.next)
 
-  pub put_read : r ≤ length l → take r n ≡ take at l ++ xs
-  put_read h =
-      ap (take r) (put_fits h)
-      ∙ take_at (take at l ++ xs) (drop r l) r (omega (arith, p.next, length-append (take at l) xs, length-take-le at l (omega (arith, p.next))))
-
--- a text in `&mut l[a..]` is one in l
-pub put_part : {l n xs : Bytes} {at r : ℕ} (a : ℕ) → Put (take (length l - a) (drop a l)) at xs r n → Put l (a + at) xs (a + r) (take a l ++ (n ++ drop (length l - a) (drop a l)))
-put_part {l} {n} {xs} {at} a p = record { next = omega (arith, p.next); kept = sets_rest xs l n a at p.kept }
-
 -- ---- a number, its last digit first
+
+digits_some : (n : ℕ) → 1 ≤ length (digits n)
+digits_some n = by_test (ltb n 10) (λ e. omega (arith, count_one n (ltb-true n 10 e))) (λ e. omega (arith, count_more n (ltb-false n 10 e)))
 
 -- the digits of m are still to be written, before the place k
 pub record Writing (old : Bytes) (at n k m : ℕ) (new : Bytes) : Type 0 where
@@ -67,11 +63,19 @@ pub record Writing (old : Bytes) (at n k m : ℕ) (new : Bytes) : Type 0 where
 pub writing_start : (l : Bytes) (at n : ℕ) → Writing l at n (at + length (digits n)) n l
 writing_start l at n = record { tail = []; split = sym (append-nil (digits n)); place = refl; stored = refl }
 
-pub writing_room : {l x : Bytes} {at n k m : ℕ} → Writing l at n k m x → 10 ≤ m → 1 ≤ k
-writing_room {m = m} w h = omega (arith, w.place, count_more m h)
+-- while k is past the place after at, m has more than one digit
+writing_more : {l x : Bytes} {at n k m : ℕ} → Writing l at n k m x → at + 1 < k → 10 ≤ m
+writing_more {m = m} w h = by_test (ltb m 10)
+    (λ e. absurd (omega (arith, w.place, count_one m (ltb-true m 10 e))))
+    (λ e. ltb-false m 10 e)
 
-pub writing_step : {l x : Bytes} {at n k m : ℕ} → Writing l at n k m x → 10 ≤ m → Writing l at n (k - 1) (m / 10) (set x (k - 1) (48 + m % 10))
-writing_step {l} {x} {at} {n} {k} {m} w h = record {
+pub writing_last : {l x : Bytes} {at n k m : ℕ} → Writing l at n k m x → k ≤ at + 1 → m < 10
+writing_last {m = m} w h = by_test (ltb m 10)
+    (λ e. ltb-true m 10 e)
+    (λ e. absurd (omega (arith, w.place, count_more m (ltb-false m 10 e), digits_some (m / 10))))
+
+pub writing_step : {l x : Bytes} {at n k m : ℕ} → Writing l at n k m x → at + 1 < k → Writing l at n (k - 1) (m / 10) (set x (k - 1) (48 + m % 10))
+writing_step {l} {x} {at} {n} {k} {m} w g = let h = writing_more w g in record {
   tail = (48 + m % 10) ∷ w.tail;
   split = w.split ∙ ap (λ (d : Bytes). d ++ w.tail) (digits_more m h) ∙ append_assoc (digits (m / 10)) _ w.tail;
   place = omega (arith, w.place, count_more m h);
@@ -81,8 +85,8 @@ writing_step {l} {x} {at} {n} {k} {m} w h = record {
     later : k ≡ at + length (digits m) → length (digits m) ≡ length (digits (m / 10)) + 1 → k ≡ suc (k - 1)
     later p q = omega arith
 
-pub writing_end : {l x : Bytes} {at n k m : ℕ} → Writing l at n k m x → m < 10 → Put l at (digits n) (at + length (digits n)) (set x at (48 + m))
-writing_end {l} {x} {at} {n} {k} {m} w h = record {
+pub writing_end : {l x : Bytes} {at n k m : ℕ} → Writing l at n k m x → k ≤ at + 1 → Put l at (digits n) (at + length (digits n)) (set x at (48 + m))
+writing_end {l} {x} {at} {n} {k} {m} w g = let h = writing_last w g in record {
   next = refl;
   kept = ap (λ (d : Bytes). set d at (48 + m)) (w.stored ∙ ap (λ (j : ℕ). sets l j w.tail) (first w.place (count_one m h))) ∙ sets_first w.tail l at (48 + m) ∙ ap (sets l at) (sym (w.split ∙ ap (λ (d : Bytes). d ++ w.tail) (digits_one m h)));
 }

@@ -1,12 +1,12 @@
 -- Laws of the writers of bytes, literals and clauses. Assumes nothing.
-use mathlib.Core.Path.{◌≡◌, refl, ap, ◌∙◌}
+use mathlib.Core.Path.{◌≡◌, ap, ◌∙◌}
 use mathlib.Core.List.{[], ◌∷◌, ◌++◌, append-nil, append_assoc}
-use Prim.Native.Nat.{ℕ, ◌+◌, ◌*◌, ◌≤◌, ◌<◌}
+use Prim.Native.Nat.{ℕ, ◌+◌, ◌≤◌, ◌<◌}
 use native.Mathlib.Omega.{arith}
 use native.Mathlib.Numerals.{add-one}
 use lib.IntN.{ℤ, pos, nat_abs}
 use lib.ListN.{length, get_or, take, length-append}
-use lib.Seq.{take-suc, take_all}
+use lib.Seq.{take-suc}
 use mir.Syntax.{w32}
 use mir.Val.{SFits, of_z, to_z}
 use Rattle.definition.specs.Lists.{for_each}
@@ -19,34 +19,18 @@ use Rattle.literals.specs.Literal.{negative}
 use Rattle.literals.proofs.Laws.{at_arg}
 use Rattle.theory_text.specs.ClauseText.{literals_text}
 use Rattle.text.specs.Output.{Put}
-use Rattle.text.proofs.Output.{put_none, put_then, put_past, put_same, put_length, negative_text, positive_text, literal_length}
+use Rattle.text.proofs.Output.{put_then, put_past, put_same, negative_text, positive_text, literal_length}
 
 -- ---- bytes
 
--- the first i bytes of a text are written
-pub record Copied (old : Bytes) (at : ℕ) (t : Bytes) (i : ℕ) (buf : Bytes) : Type 0 where
-  pub inside : i ≤ length t
-  pub size : length buf ≡ length old
-  pub put : Put old at (take i t) (at + i) buf
-
-pub copied_start : (old : Bytes) (at : ℕ) (t : Bytes) → Copied old at t 0 old
-copied_start old at t = let e : at + 0 ≡ at = omega arith in record { inside = omega arith; size = refl; put = rw e (put_none old at) }
-
-pub copied_step : {old buf new : Bytes} {at i r : ℕ} {t : Bytes} → Copied old at t i buf → i < length t → Put buf (at + i) (get_or t i 0 ∷ []) r new → Copied old at t (i + 1) new
-copied_step {at = at} {i} {r} {t} s h p =
-    let e : r ≡ at + (i + 1) = omega (arith, p.next) in record {
-      inside = omega arith;
-      size = put_length p ∙ s.size;
-      put = rw (add-one i, take-suc t i 0 h, ← add-one i, ← e) (put_then s.put p);
-    }
-
-pub copied_end : {old buf : Bytes} {at i : ℕ} {t : Bytes} → Copied old at t i buf → length t ≤ i → Put old at t (at + i) buf
-copied_end {i = i} {t} s h = put_same s.put (take_all i t h)
+-- the first bytes of a text are written, and one more
+pub text_step : {old buf new : Bytes} {at end r : ℕ} (t : Bytes) (i : ℕ) → i < length t → Put old at (take i t) end buf → Put buf end (get_or t i 0 ∷ []) r new → Put old at (take (i + 1) t) r new
+text_step t i h p q = rw (add-one i, take-suc t i 0 h) (put_then p q)
 
 -- ---- a literal and its blank
 
 -- as a signed argument of a call
-item_argument : (l : ℤ) → SFits w32 l → literal_text (to_z w32 (of_z w32 l)) ++ bytes " " ≡ literal_text l ++ bytes " "
+pub item_argument : (l : ℤ) → SFits w32 l → literal_text (to_z w32 (of_z w32 l)) ++ bytes " " ≡ literal_text l ++ bytes " "
 item_argument l f = at_arg (λ (z : ℤ). literal_text z ++ bytes " ") l f
 
 pub item_put : {x y z : Bytes} {at a r : ℕ} (l : ℤ) → SFits w32 l → Put x at (literal_text (to_z w32 (of_z w32 l))) a y → Put y a (32 ∷ []) r z → Put x at (literal_text l ++ bytes " ") r z
@@ -78,29 +62,10 @@ unfolding literals_text for_each
 one_more c i h =
     rw (add-one i, take-suc c i (pos 0) h, for_each-++ (take i c) (get_or c i (pos 0) ∷ []) (λ l. literal_text l ++ bytes " "), append-nil (literal_text (get_or c i (pos 0)) ++ bytes " "))
 
--- the first i literals are written
-pub record Items (old : Bytes) (at : ℕ) (c : Clause) (i end : ℕ) (buf : Bytes) : Type 0 where
-  pub inside : i ≤ length c
-  pub size : length buf ≡ length old
-  pub within : end ≤ at + 12 * i
-  pub put : Put old at (literals_text (take i c)) end buf
-
-pub items_start : (old : Bytes) (at : ℕ) (c : Clause) → Items old at c 0 at old
-unfolding literals_text for_each
-items_start old at c = record { inside = omega arith; size = refl; within = omega arith; put = put_none old at }
-
-pub items_step : {old buf new : Bytes} {at i end r : ℕ} {c : Clause} → Items old at c i end buf → i < length c → SFits w32 (get_or c i (pos 0)) →
-    Put buf end (literal_text (to_z w32 (of_z w32 (get_or c i (pos 0)))) ++ bytes " ") r new → r ≤ end + 12 → Items old at c (i + 1) r new
-items_step {i = i} {c = c} s h f p w =
-    let q = put_same p (item_argument (get_or c i (pos 0)) f) in record {
-      inside = omega arith;
-      size = put_length p ∙ s.size;
-      within = omega (arith, s.within);
-      put = put_same (put_then s.put q) (one_more c i h);
-    }
-
-pub items_end : {old buf : Bytes} {at i end : ℕ} {c : Clause} → Items old at c i end buf → length c ≤ i → Put old at (literals_text c) end buf × (end ≤ at + 12 * length c)
-items_end {i = i} {c = c} s h = (put_same s.put (ap literals_text (take_all i c h)), omega (arith, s.inside, s.within))
+-- the first literals are written, and one more
+pub items_step : {old buf new : Bytes} {at end r : ℕ} (c : Clause) (i : ℕ) → i < length c → Put old at (literals_text (take i c)) end buf →
+    Put buf end (literal_text (get_or c i (pos 0)) ++ bytes " ") r new → Put old at (literals_text (take (i + 1) c)) r new
+items_step c i h p q = put_same (put_then p q) (one_more c i h)
 
 -- ---- a clause
 

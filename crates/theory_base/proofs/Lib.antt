@@ -13,3 +13,4 @@ pub mod Slices
 pub mod Digits
 pub mod Parts
 pub mod Lines
+pub mod Chains

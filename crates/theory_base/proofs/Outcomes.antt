@@ -50,8 +50,3 @@ pub refuse_bind : {A B : Type 0} (b : Bool) (n : ℕ) (x : Checked A) (f : A →
 unfolding ◌>>=◌ refuse_if
 refuse_bind true n x f = refl
 refuse_bind false n x f = refl
-
-pub bind_end : {A : Type 0} (a : Checked A) → (a >>= value) ≡ a
-unfolding ◌>>=◌
-bind_end (fault n) = refl
-bind_end (value s) = refl

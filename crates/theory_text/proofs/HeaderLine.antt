@@ -27,21 +27,9 @@ use Rattle.theory_text.proofs.Runs.{letters_free, letters_stop}
 -- ---- comments
 
 module _ (t : Bytes) (i : ℕ) (h : i < length t) where
-  pub comment_goes_on : past_comments (not (eqb (get_or t i 0) 10)) (drop (i + 1) t) ≡ past_comments true (drop i t)
-  unfolding past_comments is
-  comment_goes_on = rw (drop-cons t i 0 h, add-one i) refl
-
-  pub comment_begins : get_or t i 0 ≡ 99 → past_comments true (drop (i + 1) t) ≡ past_comments false (drop i t)
-  unfolding past_comments is
-  comment_begins e = rw (drop-cons t i 0 h, add-one i, e) refl
-
   pub comments_end : (get_or t i 0 ≡ 99 → ⊥) → drop i t ≡ past_comments false (drop i t)
   unfolding past_comments is
   comments_end n = rw (drop-cons t i 0 h, ne_eqb (get_or t i 0) 99 n) refl
-
-pub comments_all : (t : Bytes) (c : Bool) (i : ℕ) → length t ≤ i → drop i t ≡ past_comments c (drop i t)
-unfolding past_comments
-comments_all t c i h = rw (drop_of_length-le t h) refl
 
 -- ---- the line after the comments
 
@@ -55,13 +43,6 @@ module _ (most : Limits) (t : Bytes) (at : ℕ) (p : drop at t ≡ past_comments
   header_first f = rw (← p, f.lines, f.text, f.rest) refl
 
 -- ---- `p cnf `
-
-begins_marker : (t : Bytes) → begins_with marker t ≡ true → t ≡ marker ++ drop 6 t
-unfolding begins_with
-begins_marker t e = sym (take-append-drop 6 t) ∙ ap (λ (u : Bytes). u ++ drop 6 t) (sym (same_eq marker (take 6 t) e))
-
-pub begins_long : (t : Bytes) → begins_with marker t ≡ true → 6 ≤ length t
-begins_long t e = omega (arith, ap length (begins_marker t e), length-append marker (drop 6 t))
 
 -- ---- the fields of a line: what stands before the first blank, and the fields after it
 
@@ -101,9 +82,6 @@ fields_begin w (x ∷ y ∷ ws) e =
     rw (same_eq w (bytes "p") (to_true (and_r few (same_bytes w (bytes "p")) f)), same_eq x (bytes "cnf") (to_true (and_r (few && same_bytes w (bytes "p")) (same_bytes x (bytes "cnf")) e))) refl
 
 module _ (most : Limits) (line after : Bytes) where
-  pub header_marked : begins_with marker line ≡ true → read_header_fields most (fields (marker ++ drop 6 line)) after ≡ read_header_fields most (fields line) after
-  header_marked e = ap (λ (u : Bytes). read_header_fields most (fields u) after) (sym (begins_marker line e))
-
   pub header_unmarked : begins_with marker line ≡ false → read_header_fields most (fields line) after ≡ fault 1
   unfolding read_header_fields fields refuse_if
   header_unmarked e = rw (to_false {b = header_fields (fields line)} (λ y. differ (of_true (ap (begins_with marker) (sym (fields_joined line)) ∙ fields_begin (fields_from line).0 (fields_from line).1 y)) e)) refl

@@ -32,24 +32,6 @@ use Rattle.theory_text.proofs.LineWords.{before, ended_free, ended_cons}
 
 -- ---- a text begins with `d` and a blank
 
-pub deletion_short : (t : Bytes) → length t < 2 → false ≡ begins_deletion t
-unfolding begins_deletion
-deletion_short [] h = refl
-deletion_short (b ∷ []) h = refl
-deletion_short (b ∷ c ∷ t) h = absurd (omega arith)
-
-pub deletion_by_blank : (t : Bytes) → 2 ≤ length t → get_or t 0 0 ≡ 100 → eqb (get_or t 1 0) 32 ≡ begins_deletion t
-unfolding begins_deletion is
-deletion_by_blank [] h e = absurd (omega arith)
-deletion_by_blank (b ∷ []) h e = absurd (omega arith)
-deletion_by_blank (b ∷ c ∷ t) h e = rw (eq-eqb b 100 e)
-
-pub deletion_not_d : (t : Bytes) → (get_or t 0 0 ≡ 100 → ⊥) → false ≡ begins_deletion t
-unfolding begins_deletion is
-deletion_not_d [] e = refl
-deletion_not_d (b ∷ []) e = refl
-deletion_not_d (b ∷ c ∷ t) e = rw (ne_eqb b 100 e)
-
 deletion_text : (t : Bytes) → begins_deletion t ≡ true → t ≡ 100 ∷ 32 ∷ drop 2 t
 unfolding begins_deletion is
 deletion_text [] e = differ {b = true} tt (sym e)

@@ -19,16 +19,6 @@ use Rattle.theory_text.proofs.Words.{free-++, first_line, past_line, last_cr, la
 use Rattle.theory_text.specs.Words.{Free}
 use Rattle.theory_text.specs.TextLines.{LineEnd, Trimmed, FirstLine}
 
--- ---- the end of a line
-
-module _ (t : Bytes) (at : ℕ) where
-  pub line_end_start : Free (is "\n") (between at at t)
-  line_end_start = rw (between_none at t) tt
-
-  pub line_end_step : (i : ℕ) → at ≤ i → i < length t → (get_or t i 0 ≡ 10 → ⊥) → Free (is "\n") (between at i t) → Free (is "\n") (between at (i + 1) t)
-  unfolding is
-  line_end_step i h k n f = rw (between_snoc at i t 0 h k) (free-++ (is "\n") (between at i t) (get_or t i 0 ∷ []) f (ne_eqb (get_or t i 0) 10 n, tt))
-
 -- ---- a CR at the end
 
 module _ (t : Bytes) (start end : ℕ) where
@@ -101,46 +91,3 @@ module _ (t : Bytes) (at end : ℕ) (h : at < length t) (e : LineEnd t at end) w
 pub lines_none : (t : Bytes) (at : ℕ) → length t ≤ at → text_lines (drop at t) ≡ []
 unfolding text_lines
 lines_none t at h = rw (drop_of_length-le t {i = at} h) refl
-
--- ---- what a line begins with, and whether it is a certain one
-
--- bytes that are the same up to a place, and go on the same
-module _ (p t : Bytes) where
-  same_step : (i : ℕ) → i < length p → i < length t → same_bytes (drop i p) (take (length p - i) (drop i t)) ≡ (eqb (get_or p i 0) (get_or t i 0) && same_bytes (drop (i + 1) p) (take (length p - (i + 1)) (drop (i + 1) t)))
-  unfolding same_bytes
-  same_step i h k =
-      let e : length p - i ≡ suc (length p - (i + 1)) = omega arith in
-      rw (drop-cons p i 0 h, drop-cons t i 0 k, e, add-one i) refl
-
-  pub begins_start : begins_with p t ≡ same_bytes (drop 0 p) (take (length p - 0) (drop 0 t))
-  unfolding begins_with
-  begins_start = let e : length p - 0 ≡ length p = omega arith in rw e refl
-
-  pub begins_step : (i : ℕ) → i < length p → i < length t → get_or t i 0 ≡ get_or p i 0 →
-      begins_with p t ≡ same_bytes (drop i p) (take (length p - i) (drop i t)) →
-      begins_with p t ≡ same_bytes (drop (i + 1) p) (take (length p - (i + 1)) (drop (i + 1) t))
-  begins_step i h k e b = b ∙ same_step i h k ∙ (rw (eq-eqb (get_or p i 0) (get_or t i 0) (sym e)) refl)
-
-  pub begins_differ : (i : ℕ) → i < length p → i < length t → (get_or t i 0 ≡ get_or p i 0 → ⊥) → begins_with p t ≡ same_bytes (drop i p) (take (length p - i) (drop i t)) → false ≡ begins_with p t
-  begins_differ i h k n b = sym (b ∙ same_step i h k ∙ (rw (ne_eqb (get_or p i 0) (get_or t i 0) (λ e. n (sym e))) refl))
-
-  pub begins_end : (i : ℕ) → length p ≤ i → begins_with p t ≡ same_bytes (drop i p) (take (length p - i) (drop i t)) → true ≡ begins_with p t
-  unfolding same_bytes
-  begins_end i h b = let e : length p - i ≡ 0 = omega arith in sym (b ∙ (rw (drop_of_length-le p {i = i} h, e) refl))
-
-pub begins_short : (p t : Bytes) → length t < length p → false ≡ begins_with p t
-unfolding begins_with
-begins_short p t h = sym (to_false (λ x. omega (arith, same_length p (take (length p) t) (to_true x), length-take (length p) t)))
-
-pub same_begins : (p t : Bytes) → length t ≡ length p → begins_with p t ≡ same_bytes t p
-unfolding begins_with
-same_begins p t e = ap (λ (n : ℕ). same_bytes p (take n t)) (sym e) ∙ ap (same_bytes p) (take-length t) ∙ same_turned p t
-
-pub same_other : (p t : Bytes) → (length t ≡ length p → ⊥) → false ≡ same_bytes t p
-same_other p t n = sym (to_false (λ x. n (same_length t p (to_true x))))
-
-pub same_one : (b : ℕ) (t : Bytes) → length t ≡ 1 → eqb (get_or t 0 0) b ≡ same_bytes t (b ∷ [])
-unfolding same_bytes
-same_one b [] h = absurd (omega arith)
-same_one b (c ∷ []) h = second_holds (eqb c b) true refl
-same_one b (c ∷ d ∷ t) h = absurd (omega arith)

@@ -1,5 +1,4 @@
-use Rattle.answer.specs.Reading.{closing}
-use Rattle.answer.proofs.Reading.{ends_waiting, ends_open, ends_closed, fault_stays}
+use Rattle.answer.proofs.Reading.{ends_waiting, ends_open, ends_closed}
 use Rattle.answer.proofs.outcome.Goals as goal
 
 pub returns-in-Waiting : goal.returns-in-Waiting
@@ -10,6 +9,3 @@ returns-in-Open c = rw c.in-Open.is ends_open
 
 pub returns-in-Closed : goal.returns-in-Closed
 returns-in-Closed c = rw c.in-Closed.is ends_closed
-
-pub returns-in-Fault : goal.returns-in-Fault
-returns-in-Fault c = rw c.in-Fault.is (λ m. fault_stays closing _)

@@ -1,15 +1,20 @@
+use Rattle.std.proofs.Common.{rules, sym, ◌∙◌}
 use Rattle.call_read_back.specs.Outcome.{outcome}
-use Rattle.call_read_back.proofs.Outcome.{zero_after, filled_after}
+use Rattle.call_read_back.proofs.Outcome.{says, zero_after, filled_after}
 use Rattle.call_read_back.proofs.read_back.Goals as goal
 
-pub returns-in-Read : goal.returns-in-Read
-returns-in-Read c =
-    let done = filled_after (outcome c.args.store.now c.args.text.now) c.args.store.now c.read_into.new.store c.read_into.result
-    c.read_into.ensures c.in-Read.is in
-    record { outcome = done.0; buffer = done.1 }
+pub returns-then-is_err : goal.returns-then-is_err
+returns-then-is_err c =
+    let o = outcome c.args.store.now c.args.text.now in
+    record {
+      outcome = says o c.args.store.now c.read_into-r.new.store c.read_into-r.result c.read_into-r.ensures;
+      buffer = zero_after o c.args.store.now c.read_into-r.new.store c.read_into-r.result c.read_into-r.ensures (sym c.is_err.ensures.value ∙ c.if-is_err.true) c.read_into-r.auto.store (c.fill.ensures.after (search rules));
+    }
 
-pub returns-in-Refused : goal.returns-in-Refused
-returns-in-Refused c =
-    let done = zero_after (outcome c.args.store.now c.args.text.now) c.args.store.now c.read_into.new.store c.read_into.result
-    c.read_into.ensures c.in-Refused.is c.read_into.auto.store c.zero_elements.ensures in
-    record { outcome = done.0; buffer = done.1 }
+pub returns-else-is_err : goal.returns-else-is_err
+returns-else-is_err c =
+    let o = outcome c.args.store.now c.args.text.now in
+    record {
+      outcome = says o c.args.store.now c.read_into-r.new.store c.read_into-r.result c.read_into-r.ensures;
+      buffer = filled_after o c.args.store.now c.read_into-r.new.store c.read_into-r.result c.read_into-r.ensures (sym c.is_err.ensures.value ∙ c.if-is_err.false);
+    }

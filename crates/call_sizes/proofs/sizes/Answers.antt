@@ -3,4 +3,4 @@ use Rattle.call_sizes.proofs.sizes.Goals as goal
 
 pub returns : goal.returns
 returns c =
-    record { outcome = sizes_told c.args.settings c.args.text.now c.args.work.now c.run_formula.ensures.answer }
+    record { outcome = sizes_told c.args.settings c.args.text.now c.args.work.now c.run_formula.result c.run_formula.ensures.answer }

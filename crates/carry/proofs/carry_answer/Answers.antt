@@ -1,20 +1,27 @@
-use mathlib.Core.Path.{sym, ◌∙◌}
 use lib.ListN.{length}
 use Rattle.store.specs.Store.{stored}
 use Rattle.answer.specs.Table.{marked}
 use Rattle.drat.specs.Loaded.{lines_in}
-use Rattle.carry.proofs.Writing.{answer_fails, answer_carried}
+use Rattle.carry.proofs.Writing.{answer_fails, back_fails, answer_carried}
 use Rattle.carry.proofs.carry_answer.Goals as goal
 
-pub returns-then-satisfied : goal.returns-then-satisfied
-returns-then-satisfied c =
-    answer_carried (length c.args.out.now) c.args.v (stored c.args.formula.now)
-    (lines_in c.args.lines.now) (stored c.args.standing.now) (marked c.args.marks.now) _
-    c.args.out.now _ c.write_tested.result (sym c.satisfied.ensures ∙ c.if-satisfied.true)
-    (c.carry_back.ensures c.requires.4) c.write_tested.ensures
+pub returns-then-not-satisfied : goal.returns-then-not-satisfied
+returns-then-not-satisfied c =
+    answer_fails (length c.args.out.now) c.args.v (stored c.args.formula.now)
+    (lines_in c.args.lines.now) (stored c.args.standing.now) (marked c.args.marks.now)
+    c.if-not-satisfied.ensures
+
+pub returns-then-not-satisfied-2 : goal.returns-then-not-satisfied-2
+returns-then-not-satisfied-2 c =
+    back_fails (length c.args.out.now) c.args.v (stored c.args.formula.now)
+    (lines_in c.args.lines.now) (stored c.args.standing.now) (marked c.args.marks.now)
+    c.if-not-satisfied.ensures (marked c.carry_back.new.marks) (c.carry_back.ensures c.requires.4)
+    c.if-not-satisfied-2.ensures
 
 pub returns : goal.returns
 returns c =
-    answer_fails (length c.args.out.now) c.args.v (stored c.args.formula.now)
+    rw (answer_carried (length c.args.out.now) c.args.v (stored c.args.formula.now)
     (lines_in c.args.lines.now) (stored c.args.standing.now) (marked c.args.marks.now)
-    (sym c.satisfied.ensures ∙ c.if-satisfied.false)
+    c.if-not-satisfied.ensures (marked c.carry_back.new.marks) (c.carry_back.ensures c.requires.4)
+    c.if-not-satisfied-2.ensures)
+    c.write_fitting.ensures

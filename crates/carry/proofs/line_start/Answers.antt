@@ -3,19 +3,10 @@ use Prim.Native.Nat.{◌-◌}
 use native.Mathlib.Omega.{arith}
 use borrow.Author.Rules.{sfits_of}
 use Rattle.literals.specs.Literal.{header_literals}
-use Rattle.literals.proofs.Laws.{answer, literals_within}
+use Rattle.literals.proofs.Laws.{answer}
 use Rattle.store.specs.Store.{header_at, size_at}
 use Rattle.carry.proofs.LastLine.{last_fits, last_line}
 use Rattle.carry.proofs.line_start.Goals as goal
-
-pub overflow_add-result : goal.overflow_add-result
-overflow_add-result c =
-    let h = header_at c.args.lines.now (c.args.end - 1) in
-    omega (
-      arith,
-      answer header_literals h (sfits_of c.header_length-arg-1.given) c.header_length.ensures,
-      literals_within h (sfits_of c.header_length-arg-1.given),
-    )
 
 pub overflow_sub-result : goal.overflow_sub-result
 overflow_sub-result c =

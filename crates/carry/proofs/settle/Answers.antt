@@ -1,10 +1,14 @@
-use Rattle.carry.proofs.Writing.{line_settled, refused_settled}
+use mathlib.Core.Path.{◌≡◌, sym, ◌∙◌}
+use borrow.Author.Rules.{rules}
+use lib.ListN.{length, replicate}
+use Rattle.carry.proofs.Writing.{ok_settled, err_settled}
 use Rattle.carry.proofs.settle.Goals as goal
 
-pub returns-in-Line : goal.returns-in-Line
-returns-in-Line c = λ o old s l. line_settled c.args.r o old c.args.out.now s _ c.in-Line.is
+pub returns-then-is_err : goal.returns-then-is_err
+returns-then-is_err c =
+    let z : c.fill.new.self ≡ replicate (length c.args.out.now) 0 = search rules in
+    λ o old s l. err_settled c.args.r o old c.args.out.now _ (sym c.is_err.ensures.value ∙ c.if-is_err.true) s l z
 
-pub returns-in-Refused : goal.returns-in-Refused
-returns-in-Refused c =
-    λ o old s l. refused_settled c.args.r o old c.args.out.now s _ _ c.in-Refused.is l
-    c.zero_all.ensures
+pub returns-else-is_err : goal.returns-else-is_err
+returns-else-is_err c =
+    λ o old s l. ok_settled c.args.r o old c.args.out.now (sym c.is_err.ensures.value ∙ c.if-is_err.false) s

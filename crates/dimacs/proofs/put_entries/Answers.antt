@@ -1,21 +1,18 @@
+use mathlib.Core.Path.{◌∙◌}
 use native.Mathlib.Omega.{arith}
-use Rattle.dimacs.proofs.FormulaText.{entries_start, entries_step, entries_end}
+use Rattle.dimacs.proofs.FormulaText.{written_start, written_room, written_more, written_all}
 use Rattle.dimacs.proofs.put_entries.Goals as goal
 
-pub loop-at-init : goal.loop-at-init
-loop-at-init c = entries_start c.args.buf.now c.args.from c.args.store.now c.requires.formed
+pub loop-clause-init : goal.loop-clause-init
+loop-clause-init c =
+    rw (c.into_iter-clause-iterator.ensures.into_iter_gives ∙ c.standing-clause-items.ensures)
+    (written_start c.args.buf.now c.args.from c.args.store.now c.requires.formed)
 
-pub put_entry-end-requires : goal.put_entry-end-requires
-put_entry-end-requires c = record { at_in_bounds = (c.loop-at-test.true, c.loop-at.invariant.rest); at_bound = omega (arith, c.loop-at.invariant.within, c.requires.store_bound) }
+pub put_clause-end-requires : goal.put_clause-end-requires
+put_clause-end-requires c = omega (arith, written_room c.loop-clause.invariant c.in-Some.ensures.steps, c.requires.store_bound)
 
-pub loop-at-smaller : goal.loop-at-smaller
-loop-at-smaller c = omega (arith, c.next_at-at.ensures)
-
-pub loop-at-preserved : goal.loop-at-preserved
-loop-at-preserved c = entries_step c.loop-at.invariant c.loop-at-test.true c.put_entry-end.ensures.written c.put_entry-end.ensures.within c.next_at-at.ensures
-
-pub shape_of-buf : goal.shape_of-buf
-shape_of-buf c = c.loop-at.invariant.size
+pub loop-clause-preserved : goal.loop-clause-preserved
+loop-clause-preserved c = written_more c.loop-clause.invariant c.in-Some.ensures.steps c.put_clause-end.ensures.written c.put_clause-end.ensures.within
 
 pub returns : goal.returns
-returns c = entries_end c.loop-at.invariant c.loop-at-test.false
+returns c = written_all c.loop-clause.invariant c.in-None.ensures.steps.0

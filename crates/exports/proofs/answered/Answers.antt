@@ -1,9 +1,20 @@
-use Rattle.std.proofs.Common.{sym, ◌∙◌}
-use Rattle.exports.proofs.Laws.{reencoding_counted, reencoding_refused}
+use Rattle.std.proofs.Common.{rules}
+use Rattle.exports.specs.Numbers.{number_of}
+use Rattle.exports.specs.Counts.{tally_after}
 use Rattle.exports.proofs.answered.Goals as goal
 
-pub returns-in-Done : goal.returns-in-Done
-returns-in-Done c = λ o e. reencoding_counted o _ _ _ (sym e ∙ c.in-Done.is) c.put_done.ensures
+pub returns-in-Ok-clause-number : goal.returns-in-Ok-clause-number
+unfolding number_of
+returns-in-Ok-clause-number g c = rw c.in-Ok.is (search rules)
 
-pub returns-in-Refused : goal.returns-in-Refused
-returns-in-Refused c = λ o e. reencoding_refused o _ _ _ (sym e ∙ c.in-Refused.is) c.zero_counts.ensures
+pub returns-in-Ok-clause-counts : goal.returns-in-Ok-clause-counts
+unfolding tally_after
+returns-in-Ok-clause-counts g c = rw c.in-Ok.is c.put_counts.ensures
+
+pub returns-in-Err-clause-number : goal.returns-in-Err-clause-number
+unfolding number_of
+returns-in-Err-clause-number g c = rw c.in-Err.is c.from.ensures
+
+pub returns-in-Err-clause-counts : goal.returns-in-Err-clause-counts
+unfolding tally_after
+returns-in-Err-clause-counts g c = rw c.in-Err.is (search rules)

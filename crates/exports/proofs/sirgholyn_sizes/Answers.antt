@@ -1,9 +1,11 @@
-use Rattle.exports.proofs.Laws.{sizes_answered}
+use Rattle.formula_run.specs.Outcome.{tally_of}
+use Rattle.exports.specs.Counts.{done_counts}
+use Rattle.std.proofs.Common.{◌∙◌}
+use Rattle.exports.proofs.Laws.{number_shown, tally_shown}
 use Rattle.exports.proofs.sirgholyn_sizes.Goals as goal
 
-pub returns : goal.returns
-returns c =
-    let k = sizes_answered c.settings_named-settings.result c.args.form c.args.arrangement c.args.step c.args.text.now c.args.work.now
-    c.args.tally.now c.settings_named-settings.ensures c.sizes-r.ensures.outcome c.answered.ensures
-    in
-    record { number = k.0; counts = k.1 }
+pub returns-clause-number : goal.returns-clause-number
+returns-clause-number c = rw (← c.settings_named-settings.ensures) (c.answered.ensures.number ∙ number_shown tally_of done_counts _ c.done_counts.ensures c.sizes-r.ensures.outcome)
+
+pub returns-clause-counts : goal.returns-clause-counts
+returns-clause-counts c = rw (← c.settings_named-settings.ensures) (c.answered.ensures.counts ∙ tally_shown tally_of done_counts _ c.done_counts.ensures c.sizes-r.ensures.outcome c.args.tally.now)

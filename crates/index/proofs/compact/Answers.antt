@@ -1,10 +1,7 @@
-use mathlib.Core.Path.{◌∙◌, sym}
-use Rattle.index.proofs.Laws.{indexed_inside, indexed_length}
+use mathlib.Core.Path.{◌∙◌}
+use Rattle.index.proofs.Laws.{indexed_inside}
 use Rattle.index.proofs.Filling.{compacted_formed, compacted_room, compacted_small, made_room}
 use Rattle.index.proofs.compact.Goals as goal
-
-pub slice_bounds-compact-end-2 : goal.slice_bounds-compact-end-2
-slice_bounds-compact-end-2 c = sym (indexed_length c.requires.0)
 
 pub enter_all-requires : goal.enter_all-requires
 enter_all-requires c =

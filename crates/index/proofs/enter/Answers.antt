@@ -2,39 +2,22 @@ use borrow.Author.Rules.{sfits_of}
 use mathlib.Core.Path.{refl}
 use lib.IntN.{ℤ, pos}
 use lib.ListN.{get_or}
-use native.Mathlib.Omega.{arith}
 use Rattle.literals.proofs.Laws.{answer}
 use Rattle.tables.specs.Entries.{entry_of}
-use Rattle.index.specs.Index.{nodes}
-use Rattle.index.proofs.Chains.{with_node}
-use Rattle.index.proofs.Entering.{with_last, entering_start, entering_room, entering_step, entering_end}
+use Rattle.index.specs.Index.{nodes, with_node, with_last}
+use Rattle.index.proofs.Entering.{entering_start, entering_room, entering_step, entering_end}
 use Rattle.index.proofs.enter.Goals as goal
-
-pub overflow_add-i : goal.overflow_add-i
-overflow_add-i c = omega (arith, c.requires.indexed_2.1, c.requires.at_in_bounds, c.requires.indexed_2.0.small)
 
 pub loop-i-init : goal.loop-i-init
 loop-i-init c =
     entering_start c.args.work.now c.args.newest.now c.args.at c.args.next
     c.requires.indexed_2.0 c.requires.indexed_2.1 c.requires.at_in_bounds
 
-pub offset_bounds-work-i : goal.offset_bounds-work-i
-offset_bounds-work-i c = omega (arith, c.loop-i-test.true, c.loop-i.invariant.size, c.requires.at_in_bounds, c.requires.indexed_2.0.small)
-
-pub slice_copy_out-l : goal.slice_copy_out-l
-slice_copy_out-l c = omega (arith, c.loop-i-test.true, c.loop-i.invariant.size, c.requires.at_in_bounds)
-
 pub enter_literal-requires : goal.enter_literal-requires
 enter_literal-requires c =
     entering_room c.args.work.now c.args.newest.now c.args.at c.args.next
     c.requires.indexed_2.0 c.requires.indexed_2.1 c.requires.at_in_bounds c.loop-i.work c.loop-i.newest c.loop-i.i c.loop-i.invariant
     c.loop-i-test.true
-
-pub overflow_add-i-in-loop-i : goal.overflow_add-i-in-loop-i
-overflow_add-i-in-loop-i c = omega (arith, c.loop-i-test.true, c.requires.at_in_bounds, c.requires.indexed_2.0.small)
-
-pub loop-i-smaller : goal.loop-i-smaller
-loop-i-smaller c = omega (arith, c.loop-i-test.true)
 
 pub loop-i-preserved : goal.loop-i-preserved
 loop-i-preserved c =
@@ -45,12 +28,6 @@ loop-i-preserved c =
     (answer (λ (z : ℤ). with_node c.loop-i.work (nodes c.loop-i.newest) c.args.at (entry_of c.loop-i.newest z)) l
     (sfits_of c.l-1.given) c.enter_literal.ensures.node)
     (answer (λ (z : ℤ). with_last c.loop-i.newest z) l (sfits_of c.l-1.given) c.enter_literal.ensures.table)
-
-pub shape_of-work : goal.shape_of-work
-shape_of-work c = c.loop-i.invariant.size
-
-pub shape_of-newest : goal.shape_of-newest
-shape_of-newest c = c.loop-i.invariant.reach
 
 pub returns : goal.returns
 returns c =

@@ -1,5 +1,3 @@
-use mathlib.Core.Path.{◌∙◌, sym}
-use native.Mathlib.Omega.{arith}
 use Rattle.index.proofs.Filling.{filling_start, filling_inside, filling_room, filling_step, filling_end}
 use Rattle.index.proofs.enter_all.Goals as goal
 
@@ -21,20 +19,11 @@ enter-requires c =
           c.loop-at.newest c.loop-at.at c.loop-at.invariant c.loop-at-test.true c.next_at-next.result c.next_at-next.ensures;
     }
 
-pub loop-at-smaller : goal.loop-at-smaller
-loop-at-smaller c = omega (arith, c.next_at-next.ensures, c.loop-at-test.true)
-
 pub loop-at-preserved : goal.loop-at-preserved
 loop-at-preserved c =
     filling_step c.args.work.now c.args.end c.requires.formed.0 c.requires.formed.1 c.loop-at.work
     c.loop-at.newest c.loop-at.at c.loop-at.invariant c.loop-at-test.true c.next_at-next.result c.next_at-next.ensures _ _ c.enter.auto.work
     c.enter.ensures.indexed c.enter.ensures.nodes c.enter.ensures.below
-
-pub shape_of-work : goal.shape_of-work
-shape_of-work c = c.loop-at.invariant.size
-
-pub shape_of-newest : goal.shape_of-newest
-shape_of-newest c = c.loop-at.invariant.indexed.size ∙ sym c.requires.at_most.1
 
 pub returns : goal.returns
 returns c =

@@ -1,41 +1,37 @@
-use native.Mathlib.Omega.{arith}
+use Rattle.std.proofs.Common.{arith}
+use Rattle.std.proofs.lemmas.Result.{err_from_is_err_and}
 use Rattle.log_texts.proofs.TextsRead.{says_formula, says_log, y_small, says_answer, says_read}
 use Rattle.log_texts.proofs.read_words.Goals as goal
 
+pub returns-in_err-read : goal.returns-in_err-read
+returns-in_err-read c =
+    let p = err_from_is_err_and c.from_residual.result c.from_residual.ensures.1 in
+    rw (p.1, p.2) (says_formula _ _ _ _ _ c.args.work.now _ c.input_limits.ensures.0 _ c.in_err-read.ensures.outcome)
+
+pub returns-in_err-lines : goal.returns-in_err-lines
+returns-in_err-lines c =
+    let p = err_from_is_err_and c.from_residual-in_err-lines.result c.from_residual-in_err-lines.ensures.1 in
+    let read = c.in_ok-read.ensures in
+    rw (p.1, p.2) (says_log _ _ _ _ _ c.args.work.now _ c.input_limits.ensures.0 read.outcome read.stored c.in_err-lines.ensures)
+
 pub read_answer-requires : goal.read_answer-requires
 read_answer-requires c =
-    let y = y_small c.args.forward c.args.kept c.args.formula.now c.args.log.now
-    c.args.answer.now c.args.work.now c.input_limits.result c.input_limits.ensures.0
-    c.read.result c.read.ensures.outcome _ c.read.ensures.stored _ _ _ _ c.in-Formula.is c.read_log_behind.result _
-    c.read_log_behind.ensures _ _ _ c.in-Kept.is _ c.higher_variable-x.ensures _
-    c.by_way.ensures in
+    let read = c.in_ok-read.ensures in
+    let y = y_small _ _ _ _ c.args.answer.now c.args.work.now _ c.input_limits.ensures.0 read.outcome read.stored c.in_ok-lines.ensures
+    c.max-highest.ensures c.by_way-most.ensures in
     (y, omega (arith, y, c.requires))
 
-pub returns-in-Fault : goal.returns-in-Fault
-returns-in-Fault c =
-    says_formula c.args.forward c.args.kept c.args.formula.now c.args.log.now
-    c.args.answer.now c.args.work.now c.input_limits.result c.input_limits.ensures.0
-    c.read.result c.read.ensures.outcome _ c.in-Fault.is
+pub returns-in_err-read_answer : goal.returns-in_err-read_answer
+returns-in_err-read_answer c =
+    let p = err_from_is_err_and c.from_residual-in_err-read_answer.result c.from_residual-in_err-read_answer.ensures.1 in
+    let read = c.in_ok-read.ensures in
+    rw (p.1, p.2)
+    (says_answer _ _ _ _ _ c.args.work.now _ c.input_limits.ensures.0 read.outcome read.stored c.in_ok-lines.ensures c.max-highest.ensures
+    c.by_way-most.ensures c.in_err-read_answer.ensures)
 
-pub returns-in-Fault-read_log_behind : goal.returns-in-Fault-read_log_behind
-returns-in-Fault-read_log_behind c =
-    says_log c.args.forward c.args.kept c.args.formula.now c.args.log.now
-    c.args.answer.now c.args.work.now c.input_limits.result c.input_limits.ensures.0
-    c.read.result c.read.ensures.outcome _ c.read.ensures.stored _ _ _ _ c.in-Formula.is c.read_log_behind.result _
-    c.read_log_behind.ensures _ c.in-Fault-read_log_behind.is
-
-pub returns-in-Fault-read_answer : goal.returns-in-Fault-read_answer
-returns-in-Fault-read_answer c =
-    says_answer c.args.forward c.args.kept c.args.formula.now c.args.log.now
-    c.args.answer.now c.args.work.now c.input_limits.result c.input_limits.ensures.0
-    c.read.result c.read.ensures.outcome _ c.read.ensures.stored _ _ _ _ c.in-Formula.is c.read_log_behind.result _
-    c.read_log_behind.ensures _ _ _ c.in-Kept.is _ c.higher_variable-x.ensures _ c.by_way.ensures _
-    c.read_answer.result c.read_answer.ensures _ c.in-Fault-read_answer.is
-
-pub returns-in-Answer : goal.returns-in-Answer
-returns-in-Answer c =
-    says_read c.args.forward c.args.kept c.args.formula.now c.args.log.now
-    c.args.answer.now c.args.work.now c.input_limits.result c.input_limits.ensures.0
-    c.read.result c.read.ensures.outcome _ c.read.ensures.stored _ _ _ _ c.in-Formula.is c.read_log_behind.result _
-    c.read_log_behind.ensures _ _ _ c.in-Kept.is _ c.higher_variable-x.ensures _ c.by_way.ensures _
-    c.read_answer.result c.read_answer.ensures c.in-Answer.is
+pub returns : goal.returns
+returns c =
+    let read = c.in_ok-read.ensures in
+    let named = c.in_ok-read_answer.ensures in
+    says_read _ _ _ _ _ c.args.work.now _ c.input_limits.ensures.0 read.outcome read.stored c.in_ok-lines.ensures c.max-highest.ensures
+    c.by_way-most.ensures named.1 named.2

@@ -1,10 +1,8 @@
-use mathlib.Core.Path.{◌≡◌}
-use lib.ListN.{length}
 use Rattle.lookup.proofs.Gathering.{Gathered}
 use Rattle.lookup.proofs.gather_by.Given as goal
 
 abbrev pub invariant-loop-next : goal.invariant-loop-next
-invariant-loop-next l = (length l.list ≡ length l.initial.list) × (length l.cursors ≡ length l.initial.cursors) × (length l.places ≡ length l.initial.places) × Gathered l.work l.end l.start l.choice l.list l.cursors l.places l.to l.next
+invariant-loop-next l = Gathered l.work l.end l.start l.choice l.list l.cursors l.to l.next
 
 abbrev pub decreases-loop-next : goal.decreases-loop-next
 decreases-loop-next l = l.next

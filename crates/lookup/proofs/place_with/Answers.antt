@@ -11,15 +11,8 @@ use Rattle.tables.specs.Sizes.{log_reach}
 use Rattle.store.specs.Store.{stored}
 use Rattle.index.specs.Reading.{FoundWith}
 use Rattle.index.proofs.Laws.{index_reached}
-use Rattle.lookup.proofs.Finding.{last_readable, last_found, last_inside, none_stands}
+use Rattle.lookup.proofs.Finding.{last_found, none_stands}
 use Rattle.lookup.proofs.place_with.Goals as goal
-
-pub standing_before-node-requires : goal.standing_before-node-requires
-standing_before-node-requires c =
-    last_readable c.requires.0 (to_z w32 (of_z w32 c.args.l))
-    (index_reached (to_z w32 (of_z w32 c.args.l))
-    (subst (λ (z : ℤ). nat_abs z ≤ log_reach) (sym (to_z-of_z w32 c.args.l c.ranges.l)) c.requires.1))
-    c.last_node.ensures
 
 pub returns-then-node-eq0 : goal.returns-then-node-eq0
 returns-then-node-eq0 c =
@@ -31,13 +24,6 @@ returns-then-node-eq0 c =
     (index_reached (to_z w32 (of_z w32 c.args.l))
     (subst (λ (z : ℤ). nat_abs z ≤ log_reach) (sym (to_z-of_z w32 c.args.l c.ranges.l)) c.requires.1))
     c.last_node.ensures c.standing_before-node.ensures c.if-node-eq0.true)
-
-pub place_at-requires : goal.place_at-requires
-place_at-requires c =
-    last_inside c.requires.0 (to_z w32 (of_z w32 c.args.l))
-    (index_reached (to_z w32 (of_z w32 c.args.l))
-    (subst (λ (z : ℤ). nat_abs z ≤ log_reach) (sym (to_z-of_z w32 c.args.l c.ranges.l)) c.requires.1))
-    c.last_node.ensures c.standing_before-node.ensures (omega (arith, c.if-node-eq0.false))
 
 pub returns : goal.returns
 returns c =

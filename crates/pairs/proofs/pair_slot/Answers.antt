@@ -1,29 +1,24 @@
-use mathlib.Core.Path.{sym}
+use native.Mathlib.Omega.{arith}
+use mathlib.Core.Path.{ap, ap₂, sym, ◌∙◌}
+use Prim.Native.Nat.{ℕ}
+use mir.Syntax.{w32}
+use mir.Val.{SFits}
+use borrow.Author.Rules.{rules}
 use lib.IntN.{pos}
 use lib.ListN.{get_or}
 use Rattle.literals.proofs.Laws.{answer}
 use Rattle.tables.specs.Places.{place_in}
-use Rattle.pairs.proofs.Slots.{slot_first, slot_second, slot_long}
-use borrow.Author.Rules.{sfits_of}
+use Rattle.pairs.specs.Pairs.{ordered_slot, as_slot}
+use Rattle.pairs.proofs.Slots.{slot_sorted}
 use Rattle.pairs.proofs.pair_slot.Goals as goal
 
-pub returns-then-a-b : goal.returns-then-a-b
-returns-then-a-b c =
-    slot_first c.args.places.now c.args.clause.now c.if-clause-eq2.true
-    (answer (place_in c.args.places.now) (get_or c.args.clause.now 0 (pos 0))
-    (sfits_of c.place_of-arg-1.given) c.place_of-a.ensures)
-    (answer (place_in c.args.places.now) (get_or c.args.clause.now 1 (pos 0))
-    (sfits_of c.place_of-arg-then-clause-eq2-1.given) c.place_of-b.ensures) c.if-a-b.true
+pub returns-in-len2 : goal.returns-in-len2
+returns-in-len2 c =
+    let t = c.args.places.now in
+    let d = c.args.clause.now in
+    let x : SFits w32 (get_or d 0 (pos 0)) = search rules in
+    let y : SFits w32 (get_or d 1 (pos 0)) = search rules in
     c.ordered_slot.ensures
-
-pub returns-then-clause-eq2 : goal.returns-then-clause-eq2
-returns-then-clause-eq2 c =
-    slot_second c.args.places.now c.args.clause.now c.if-clause-eq2.true
-    (answer (place_in c.args.places.now) (get_or c.args.clause.now 0 (pos 0))
-    (sfits_of c.place_of-arg-1.given) c.place_of-a.ensures)
-    (answer (place_in c.args.places.now) (get_or c.args.clause.now 1 (pos 0))
-    (sfits_of c.place_of-arg-then-clause-eq2-1.given) c.place_of-b.ensures) c.if-a-b.false
-    c.ordered_slot-then-clause-eq2.ensures
-
-pub returns : goal.returns
-returns c = sym (slot_long c.args.places.now c.args.clause.now c.if-clause-eq2.false)
+    ∙ ap as_slot
+    (ap₂ (λ (a b : ℕ). ordered_slot a b) c.min.ensures c.max.ensures
+    ∙ sym (slot_sorted t d (omega arith) (answer (place_in t) (get_or d 0 (pos 0)) x c.place_of-a.ensures) (answer (place_in t) (get_or d 1 (pos 0)) y c.place_of-b.ensures)))

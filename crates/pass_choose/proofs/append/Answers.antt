@@ -1,13 +1,7 @@
-use mathlib.Core.Path.{sym, ◌∙◌}
-use Rattle.pass_choose.proofs.Laws.{joined_one, never_full}
+use Rattle.std.proofs.Common.{length}
+use Rattle.pass_choose.proofs.Laws.{joined_one, room_for}
 use Rattle.pass_choose.proofs.append.Goals as goal
 
-pub returns-in-To : goal.returns-in-To
-returns-in-To c =
-    joined_one c.args.chosen.now _ c.args.end _ c.args.clause.now c.requires.0
-    c.requires.1 (sym c.append_clause.ensures.end ∙ c.in-To.is) c.append_clause.ensures.written
-
-pub returns-in-Full : goal.returns-in-Full
-returns-in-Full c =
-    never_full c.args.chosen.now c.args.end c.args.clause.now c.requires.0
-    c.requires.1 (sym c.append_clause.ensures.end ∙ c.in-Full.is)
+pub returns : goal.returns
+returns c = rw (c.unwrap_or.ensures, c.append_clause.ensures.end, room_for (length c.args.chosen.now) c.args.end c.args.clause.now c.requires.0 c.requires.1)
+    (joined_one c.args.chosen.now _ c.args.end c.args.clause.now c.requires.0 c.requires.1 c.append_clause.ensures.written)

@@ -1,11 +1,8 @@
--- Invariant: the choices before `at` are in the list (Laws, Collecting).
-use Rattle.pass_choose.proofs.Laws.{Collecting}
-use Prim.Native.Nat.{◌-◌}
+-- Invariant: the choices among the clauses gone through are in the list (Laws, Collecting).
 use lib.ListN.{length}
+use Rattle.store.specs.Store.{stored}
+use Rattle.pass_choose.proofs.Laws.{Collecting}
 use Rattle.pass_choose.proofs.collect_all.Given as goal
 
-abbrev pub invariant-loop-at : goal.invariant-loop-at
-invariant-loop-at l = Collecting l.store (length l.initial.chosen) l.at l.end l.chosen
-
-abbrev pub decreases-loop-at : goal.decreases-loop-at
-decreases-loop-at l = length l.store - l.at
+abbrev pub invariant-loop-clause : goal.invariant-loop-clause
+invariant-loop-clause l = Collecting (stored l.store) l.clause-iterator (length l.initial.chosen) l.end l.chosen

@@ -1,28 +1,16 @@
 -- The parts between the places past the headers and those past the entries are the two clauses (Adding).
 use native.Mathlib.Omega.{arith}
-use Rattle.pass_clashes.proofs.Adding.{one_within, other_within, parts_joinable, still_indexed, entry_there, nodes_room, resolvent_grown}
+use Rattle.pass_clashes.proofs.Adding.{parts_joinable, still_indexed, entry_there, nodes_room, resolvent_grown}
 use Rattle.pass_clashes.proofs.add_resolvent.Goals as goal
 
-pub overflow_add-a : goal.overflow_add-a
-overflow_add-a c = record { fits = omega (arith, one_within c.requires.resolvable, c.requires.resolvable.good.small) }
-
-pub overflow_add-b : goal.overflow_add-b
-overflow_add-b c = record { fits = omega (arith, other_within c.requires.resolvable, c.requires.resolvable.good.small) }
-
-pub next_at-past_a-requires : goal.next_at-past_a-requires
-next_at-past_a-requires c = one_within c.requires.resolvable
-
-pub next_at-past_b-requires : goal.next_at-past_b-requires
-next_at-past_b-requires c = other_within c.requires.resolvable
-
 pub append_resolvent-next-requires : goal.append_resolvent-next-requires
-append_resolvent-next-requires c = parts_joinable c.requires.resolvable c.next_at-past_a.ensures c.next_at-past_b.ensures c.requires.y_value
+append_resolvent-next-requires c = parts_joinable c.requires.resolvable c.next_at.ensures c.next_at-2.ensures c.requires.y_value
 
 pub record_added-requires : goal.record_added-requires
 record_added-requires c =
     let r = c.requires.resolvable in
-    let i = c.next_at-past_a.ensures in
-    let j = c.next_at-past_b.ensures in
+    let i = c.next_at.ensures in
+    let j = c.next_at-2.ensures in
     let o = c.requires.y_value in
     let d = c.append_resolvent-next.ensures.next in
     let w = c.append_resolvent-next.ensures.written in record {
@@ -33,5 +21,5 @@ record_added-requires c =
 
 pub returns : goal.returns
 returns c =
-    resolvent_grown c.requires.resolvable c.next_at-past_a.ensures c.next_at-past_b.ensures c.requires.y_value
+    resolvent_grown c.requires.resolvable c.next_at.ensures c.next_at-2.ensures c.requires.y_value
     c.append_resolvent-next.ensures.next c.append_resolvent-next.ensures.written c.record_added.ensures

@@ -12,7 +12,7 @@ use Rattle.pass_clashes.proofs.delete_parents.Goals as goal
 pub delete_first-requires : goal.delete_first-requires
 delete_first-requires c =
     let p = c.requires.parents in
-    let v = c.args.v in
+    let v = c.args.clash.v in
     let e = to_z-of_z w32 c.signed.result (sfits_of c.signed.type_inv)
     ∙ c.signed.ensures
     ∙ signed_small false v (omega (arith, p.small)) in
@@ -24,7 +24,7 @@ delete_first-requires c =
 pub returns : goal.returns
 returns c =
     let p = c.requires.parents in
-    let v = c.args.v in
+    let v = c.args.clash.v in
     let e = to_z-of_z w32 c.signed.result (sfits_of c.signed.type_inv)
     ∙ c.signed.ensures
     ∙ signed_small false v (omega (arith, p.small)) in

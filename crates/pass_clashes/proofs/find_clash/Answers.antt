@@ -1,39 +1,22 @@
 -- The literals of a clash stand in one clause each (Finding).
 use native.Mathlib.Omega.{arith}
-use mathlib.Core.Path.{ap, subst, ◌∙◌}
+use mathlib.Core.Path.{subst, ◌∙◌}
 use mathlib.Core.Bool.{true, false}
-use lib.IntN.{ℤ, pos, nat_abs}
+use lib.IntN.{ℤ}
 use lib.ListN.{take}
 use Prim.Native.Nat.{◌≤◌}
 use mir.Syntax.{w32}
 use mir.ValLaws.{to_z-of_z}
 use borrow.Author.Rules.{sfits_of}
 use Rattle.definition.specs.Clearing.{times}
-use Rattle.theory_base.proofs.Members.{natAbs_neg}
 use Rattle.literals.proofs.Laws.{signed_small}
 use Rattle.store.specs.Store.{stored}
 use Rattle.index.specs.Reading.{FoundWith}
 use Rattle.pass_clashes.proofs.Finding.{found_clashing}
 use Rattle.pass_clashes.proofs.find_clash.Goals as goal
 
-pub place_with-requires : goal.place_with-requires
-place_with-requires c =
-    let v = c.args.v in
-    let e = to_z-of_z w32 c.signed.result (sfits_of c.signed.type_inv)
-    ∙ c.signed.ensures
-    ∙ signed_small false v (omega (arith, c.requires.1)) in
-    (c.requires.0, omega (arith, c.requires.1, ap nat_abs e))
-
-pub place_with-requires-2 : goal.place_with-requires-2
-place_with-requires-2 c =
-    let v = c.args.v in
-    let e = to_z-of_z w32 c.signed-2.result (sfits_of c.signed-2.type_inv)
-    ∙ c.signed-2.ensures
-    ∙ signed_small true v (omega (arith, c.requires.1)) in
-    (c.requires.0, omega (arith, c.requires.1, ap nat_abs e ∙ natAbs_neg (pos v)))
-
-pub returns : goal.returns
-returns c =
+pub returns-clause-places : goal.returns-clause-places
+returns-clause-places c =
     let s = take c.args.end c.args.work.now in
     let v = c.args.v in
     let e = to_z-of_z w32 c.signed.result (sfits_of c.signed.type_inv)

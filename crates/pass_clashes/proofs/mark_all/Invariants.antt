@@ -1,12 +1,7 @@
--- Invariant: the clauses before `at` are taken in (Marking).
-use mathlib.Core.Path.{◌≡◌}
-use Prim.Native.Nat.{◌-◌}
-use lib.ListN.{length}
+-- Invariant: the clauses gone through are taken in (Marking).
+use Rattle.store.specs.Store.{stored}
 use Rattle.pass_clashes.proofs.Marking.{Marking}
 use Rattle.pass_clashes.proofs.mark_all.Given as goal
 
-abbrev pub invariant-loop-at : goal.invariant-loop-at
-invariant-loop-at l = (length l.marks ≡ length l.initial.marks) × (length l.table ≡ length l.initial.table) × Marking l.store l.at l.table l.marks
-
-abbrev pub decreases-loop-at : goal.decreases-loop-at
-decreases-loop-at l = length l.store - l.at
+abbrev pub invariant-loop-clause : goal.invariant-loop-clause
+invariant-loop-clause l = Marking (stored l.store) l.clause-iterator l.table l.marks

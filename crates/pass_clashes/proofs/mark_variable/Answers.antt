@@ -1,11 +1,7 @@
-use native.Mathlib.Omega.{arith}
 use lib.IntN.{nat_abs}
 use Rattle.literals.proofs.Laws.{answer}
 use Rattle.pass_clashes.proofs.Marking.{set_both, not_both}
 use Rattle.pass_clashes.proofs.mark_variable.Goals as goal
-
-pub set-requires : goal.set-requires
-set-requires c = omega (arith, c.requires, answer nat_abs c.args.l c.ranges.l c.variable-v.ensures)
 
 pub returns-then-is_both : goal.returns-then-is_both
 returns-then-is_both c =

@@ -1,16 +1,13 @@
 -- The resolvent moves neither clause, a tautology adds nothing, and deletions keep the index (Resolved); the resolvent is weighed where it was added (Weighing).
 use native.Mathlib.Omega.{arith}
-use mathlib.Core.Path.{refl, sym}
+use mathlib.Core.Path.{refl}
 use lib.ListN.{take}
 use lib.Seq.{length-take-le}
 use Rattle.pass_clashes.specs.Clashes.{clash_there}
 use Rattle.pass_clashes.proofs.Adding.{parents, opposed_as, none_grown}
-use Rattle.pass_clashes.proofs.Resolved.{end_inside, resolvent_inside, resolvent_there, parents_kept, room_kept, resolved, resolved_indexed, reweighs_dropped, reweighs_added, ended_dropped, ended_added}
+use Rattle.pass_clashes.proofs.Resolved.{resolvent_inside, resolvent_there, parents_kept, room_kept, resolved, resolved_indexed, reweighs_dropped, reweighs_added, ended_dropped, ended_added}
 use borrow.Author.Rules.{rules}
 use Rattle.pass_clashes.proofs.resolve.Goals as goal
-
-pub slice_bounds-is_tautology-end-2 : goal.slice_bounds-is_tautology-end-2
-slice_bounds-is_tautology-end-2 c = sym (length-take-le _ _ c.requires.0.good.inside)
 
 pub is_tautology-requires : goal.is_tautology-requires
 is_tautology-requires c = (
@@ -23,15 +20,6 @@ is_tautology-requires c = (
   c.requires.1,
 )
 
-pub slice_bounds-unmark_entry-end-then-is_tautology : goal.slice_bounds-unmark_entry-end-then-is_tautology
-slice_bounds-unmark_entry-end-then-is_tautology c = sym (length-take-le _ _ c.requires.0.good.inside)
-
-pub slice_bounds-unmark_entry-end-then-is_tautology-3 : goal.slice_bounds-unmark_entry-end-then-is_tautology-3
-slice_bounds-unmark_entry-end-then-is_tautology-3 c = sym (length-take-le _ _ c.requires.0.good.inside)
-
-pub slice_bounds-delete_parents-end-then-is_tautology : goal.slice_bounds-delete_parents-end-then-is_tautology
-slice_bounds-delete_parents-end-then-is_tautology c = sym (length-take-le _ _ c.requires.0.good.inside)
-
 pub delete_parents-requires : goal.delete_parents-requires
 delete_parents-requires c =
     let d = none_grown c.requires.0 c.args.log.now
@@ -40,8 +28,8 @@ delete_parents-requires c =
 
 pub returns-then-is_tautology : goal.returns-then-is_tautology
 returns-then-is_tautology c =
-    let k = clash_there (take c.args.p.end c.args.work.now) c.args.v c.args.x
-    c.args.y in
+    let k = clash_there (take c.args.p.end c.args.work.now) c.args.clash.v c.args.clash.one
+    c.args.clash.other in
     let o = opposed_as c.requires.0 c.is_tautology.ensures.answer c.if-is_tautology.true in
     let d = none_grown c.requires.0 c.args.log.now o in
     let g = resolved c.requires.0 d c.delete_parents.auto.store refl c.delete_parents.ensures in record {
@@ -52,16 +40,6 @@ returns-then-is_tautology c =
       table = c.is_tautology.ensures.table;
       weights = reweighs_dropped c.requires.0 g c.args.weights.now o;
     }
-
-pub add_resolvent-q-requires : goal.add_resolvent-q-requires
-add_resolvent-q-requires c =
-    record {
-      resolvable = c.requires.0;
-      y_value = opposed_as c.requires.0 c.is_tautology.ensures.answer c.if-is_tautology.false;
-    }
-
-pub overflow_add-first : goal.overflow_add-first
-overflow_add-first c = record { fits = omega (arith, c.requires.0.good.inside, c.requires.0.good.small) }
 
 pub slice_bounds-weigh-count : goal.slice_bounds-weigh-count
 slice_bounds-weigh-count c =
@@ -75,18 +53,6 @@ slice_bounds-weigh-start c =
     (opposed_as c.requires.0 c.is_tautology.ensures.answer c.if-is_tautology.false) in
     search (rules, i)
 
-pub slice_bounds-weigh-end : goal.slice_bounds-weigh-end
-slice_bounds-weigh-end c =
-    let i = resolvent_inside c.requires.0 c.add_resolvent-q.ensures
-    (opposed_as c.requires.0 c.is_tautology.ensures.answer c.if-is_tautology.false) in
-    search (rules, i)
-
-pub weigh-requires : goal.weigh-requires
-weigh-requires c = omega (arith, c.requires.2.small)
-
-pub slice_bounds-delete_parents-end-3 : goal.slice_bounds-delete_parents-end-3
-slice_bounds-delete_parents-end-3 c = sym (length-take-le _ _ (end_inside c.requires.0 c.add_resolvent-q.ensures))
-
 pub delete_parents-requires-2 : goal.delete_parents-requires-2
 delete_parents-requires-2 c =
     record {
@@ -94,13 +60,10 @@ delete_parents-requires-2 c =
       log_room = room_kept c.requires.0 c.add_resolvent-q.ensures;
     }
 
-pub shape_of-table : goal.shape_of-table
-shape_of-table c = c.is_tautology.auto.table
-
 pub returns : goal.returns
 returns c =
-    let k = clash_there (take c.args.p.end c.args.work.now) c.args.v c.args.x
-    c.args.y in
+    let k = clash_there (take c.args.p.end c.args.work.now) c.args.clash.v c.args.clash.one
+    c.args.clash.other in
     let o = opposed_as c.requires.0 c.is_tautology.ensures.answer c.if-is_tautology.false in
     let d = c.add_resolvent-q.ensures in
     let g = resolved c.requires.0 d c.delete_parents-2.auto.store c.add_resolvent-q.auto.work c.delete_parents-2.ensures in record {

@@ -1,18 +1,10 @@
 use mathlib.Core.Path.{ap, ◌∙◌}
 use Prim.Native.Nat.{ℕ}
-use native.Mathlib.Omega.{arith}
 use lib.ListN.{length, length-replicate}
 use Rattle.pairs.specs.Pairs.{slots}
 use Rattle.pairs.proofs.Clearing.{pair_counts}
 use Rattle.pass_counter.proofs.Taking.{counter_room, line_room, last_room, choice_taken}
 use Rattle.pass_counter.proofs.take_choice.Goals as goal
-
-pub clear_store-requires : goal.clear_store-requires
-clear_store-requires c =
-    record {
-      indexed_2 = (c.requires.0.indexed, c.requires.1, c.requires.2);
-      fit_all = (c.requires.0.small.old, omega (arith, c.requires.0.ready.long), c.requires.0.small.few);
-    }
 
 pub put_counter-a-requires : goal.put_counter-a-requires
 put_counter-a-requires c =
@@ -42,12 +34,6 @@ clear_counts-requires c = (
       (c.clear_store.auto.counts ∙ ap length c.requires.2 ∙ length-replicate {A = ℕ} slots 0),
   c.requires.0.small.few,
 )
-
-pub shape_of-work : goal.shape_of-work
-shape_of-work c = c.put_counter-a.auto.work ∙ c.clear_store.auto.work
-
-pub shape_of-counts : goal.shape_of-counts
-shape_of-counts c = c.clear_counts.auto.counts ∙ c.clear_store.auto.counts
 
 pub returns : goal.returns
 returns c =

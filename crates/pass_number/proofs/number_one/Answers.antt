@@ -16,8 +16,8 @@ sum_entries-clauses-requires c = omega (arith, one_weighs c.requires)
 pub overflow_add-clauses : goal.overflow_add-clauses
 overflow_add-clauses c = omega (arith, c.sum_entries-clauses.ensures, one_weighs c.requires)
 
-pub overflow_add-below : goal.overflow_add-below
-overflow_add-below c = omega (arith, c.next_below-below.ensures, one_low c.requires)
+pub overflow_add-record : goal.overflow_add-record
+overflow_add-record c = omega (arith, c.next_below-below.ensures, one_low c.requires)
 
 pub overflow_sub-result : goal.overflow_sub-result
 overflow_sub-result c = one_least c.requires
@@ -28,4 +28,4 @@ overflow_add-result-2 c = omega (arith, c.next_below-below.ensures, one_low c.re
 pub returns : goal.returns
 returns c =
     one_numbered c.next_below-below.result _ _ c.next_below-below.ensures refl (ap (λ (k : ℕ). k + 1) c.sum_entries-clauses.ensures)
-    c.put_row.ensures
+    c.put_record.ensures

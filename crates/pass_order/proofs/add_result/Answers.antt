@@ -11,7 +11,7 @@ returns-then-is_opposed c =
 pub append_replaced-next-requires : goal.append_replaced-next-requires
 append_replaced-next-requires c =
     record {
-      n_bound = (c.requires.tabled.1, c.requires.tabled.0.places, c.requires.tabled.0.small);
+      n_bound = (c.requires.tabled.1, (c.requires.tabled.0.places, c.requires.tabled.0.small));
       work_in_bounds = entry_room c.requires.tabled.0 c.args.work.now c.args.from c.args.n c.requires.tabled.2
           c.requires.replaceable
           (opposed_there c.requires.tabled.0 c.args.work.now c.args.from c.args.n

@@ -1,7 +1,6 @@
 use native.Mathlib.Omega.{arith}
 use lib.Seq.{take_all}
 use Rattle.index.proofs.Walk.{same_refl, same_trans}
-use Rattle.progress.proofs.Laws.{written_length}
 use Rattle.pass_pure.proofs.Pass.{passing_start, passing_step, step_same, passing_end, passing_room, standing_all}
 use Rattle.pass_pure.proofs.delete_all.Goals as goal
 
@@ -14,19 +13,10 @@ loop-at-init c = (
       c.requires.free,
 )
 
-pub next_at-next-requires : goal.next_at-next-requires
-next_at-next-requires c = c.loop-at-test.true
-
-pub delete_at-q-requires : goal.delete_at-q-requires
-delete_at-q-requires c =
+pub delete_at-q-requires-clause-at_bound : goal.delete_at-q-requires-clause-at_bound
+delete_at-q-requires-clause-at_bound c =
     let r = passing_room c.requires.good.room c.loop-at.invariant.1 in
-    record {
-      at_in_bounds = (c.loop-at-test.true, c.loop-at.invariant.1.place.rest);
-      at_bound = (omega (arith, r.0), omega (arith, r.1));
-    }
-
-pub loop-at-smaller : goal.loop-at-smaller
-loop-at-smaller c = omega (arith, c.next_at-next.ensures, c.delete_at-q.auto.work, c.loop-at-test.true)
+    (omega (arith, r.0), omega (arith, r.1))
 
 pub loop-at-preserved : goal.loop-at-preserved
 loop-at-preserved c =
@@ -36,16 +26,5 @@ loop-at-preserved c =
           _ _ _ c.delete_at-q.ensures,
     )
 
-pub shape_of-work : goal.shape_of-work
-shape_of-work c = c.loop-at.invariant.0.size
-
-pub shape_of-log : goal.shape_of-log
-shape_of-log c = written_length c.loop-at.invariant.1.written
-
-pub returns : goal.returns
-returns c =
-    record {
-      runs = passing_end c.args.work.now c.loop-at.invariant.1 c.requires.whole c.loop-at.invariant.0.size c.loop-at-test.false;
-      same = c.loop-at.invariant.0;
-      kept = c.loop-at.invariant.1.kept;
-    }
+pub returns-clause-runs : goal.returns-clause-runs
+returns-clause-runs c = passing_end c.args.work.now c.loop-at.invariant.1 c.requires.whole c.loop-at.invariant.0.size c.loop-at-test.false

@@ -5,15 +5,15 @@ use Rattle.progress.proofs.add_clause.Goals as goal
 
 pub record_added-requires : goal.record_added-requires
 record_added-requires c =
-    let t = put_there _ c.requires.0 c.requires.1 (sym c.append_clause.ensures.end ∙ c.in-To.is)
+    let t = put_there _ c.requires.0 c.requires.1 (sym c.append_clause.ensures.end ∙ c.in-Some.is)
     c.append_clause.ensures.written in
     record { indexed = (t.indexed, t.there); end_in_bounds = t.space; at_bound = search (rules) }
 
-pub returns-in-To : goal.returns-in-To
-returns-in-To c =
+pub returns-in-Some : goal.returns-in-Some
+returns-in-Some c =
     grown_put
-    (put_there _ c.requires.0 c.requires.1 (sym c.append_clause.ensures.end ∙ c.in-To.is)
+    (put_there _ c.requires.0 c.requires.1 (sym c.append_clause.ensures.end ∙ c.in-Some.is)
     c.append_clause.ensures.written) c.record_added.ensures
 
-pub returns-in-Full : goal.returns-in-Full
-returns-in-Full c = never_full _ c.requires.0 c.requires.1 (sym c.append_clause.ensures.end ∙ c.in-Full.is)
+pub returns-in-None : goal.returns-in-None
+returns-in-None c = never_full _ c.requires.0 c.requires.1 (sym c.append_clause.ensures.end ∙ c.in-None.is)

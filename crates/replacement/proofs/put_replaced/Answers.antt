@@ -2,8 +2,10 @@ use Prim.Native.Nat.{◌+◌}
 use native.Mathlib.Omega.{arith}
 use lib.IntN.{pos}
 use lib.ListN.{get_or, take, drop}
-use borrow.Author.Rules.{sfits_of}
-use Rattle.definition.specs.Events.{choice_of}
+use borrow.Author.Rules.{rules}
+use mir.Syntax.{w32}
+use mir.Val.{SFits}
+use Rattle.replacement.specs.Replaced.{choice_in}
 use Rattle.literals.proofs.Laws.{answer}
 use Rattle.tables.specs.Places.{place_in}
 use Rattle.tables.proofs.Places.{place_within}
@@ -13,22 +15,23 @@ use Rattle.replacement.proofs.put_replaced.Goals as goal
 
 pub loop-i-init : goal.loop-i-init
 loop-i-init c =
-    writing_start (instead (choice_of c.args.choice.now c.args.below)) c.args.work.now
+    writing_start (instead (choice_in c.args.choice.now)) c.args.work.now
     c.args.to c.args.from c.args.n
 
 pub put_instead-end-requires : goal.put_instead-end-requires
 put_instead-end-requires c =
-    let k = choice_of c.args.choice.now c.args.below in
+    let k = choice_in c.args.choice.now in
     let x = get_or c.loop-i.work (c.args.from + c.loop-i.i) (pos 0) in
-    let e = instead_arg k c.requires.n_bound.1 x c.place_of.result (sfits_of c.l-1.given) c.place_of.ensures in record {
+    let f : SFits w32 x = search rules in
+    let e = instead_arg k c.requires.n_bound.1.0 x c.place_of-place.result f c.place_of-place.ensures in record {
       place_bound = (
         omega (
           arith,
-          answer (place_in c.args.places.now) x (sfits_of c.l-1.given) c.place_of.ensures,
-          place_within c.requires.n_bound.1 x,
-          c.requires.n_bound.2.few,
+          answer (place_in c.args.choice.now.places.now) x f c.place_of-place.ensures,
+          place_within c.requires.n_bound.1.0 x,
+          c.requires.n_bound.1.1.few,
         ),
-        omega (arith, c.requires.n_bound.2.new),
+        omega (arith, c.requires.n_bound.1.1.new),
       );
       place_in_bounds = writing_room c.loop-i.invariant c.loop-i-test.true c.requires.n_bound.0 (omega (arith, c.requires.work_in_bounds)) e
           (rw (replaced_each k (take c.args.n (drop c.args.from c.args.work.now)))
@@ -37,18 +40,16 @@ put_instead-end-requires c =
 
 pub loop-i-preserved : goal.loop-i-preserved
 loop-i-preserved c =
-    let k = choice_of c.args.choice.now c.args.below in
+    let k = choice_in c.args.choice.now in
     let x = get_or c.loop-i.work (c.args.from + c.loop-i.i) (pos 0) in
-    let e = instead_arg k c.requires.n_bound.1 x c.place_of.result (sfits_of c.l-1.given) c.place_of.ensures in
+    let f : SFits w32 x = search rules in
+    let e = instead_arg k c.requires.n_bound.1.0 x c.place_of-place.result f c.place_of-place.ensures in
     writing_step c.loop-i.invariant c.loop-i-test.true c.requires.n_bound.0 (omega (arith, c.requires.work_in_bounds)) e
     c.put_instead-end.ensures.next c.put_instead-end.ensures.written
-
-pub shape_of-work : goal.shape_of-work
-shape_of-work c = c.loop-i.invariant.size
 
 pub returns : goal.returns
 returns c =
     let done = rw
-    (replaced_each (choice_of c.args.choice.now c.args.below)
+    (replaced_each (choice_in c.args.choice.now)
     (take c.args.n (drop c.args.from c.args.work.now))) at
     (writing_end c.loop-i.invariant c.loop-i-test.false) in record { next = done.0; written = done.1 }

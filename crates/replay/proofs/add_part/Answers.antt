@@ -13,16 +13,15 @@ index_entry-requires c =
     let d = take c.args.n (drop c.args.first w) in
     let m : length d ≡ c.args.n = length-take-le c.args.n (drop c.args.first w)
     (omega (arith, c.requires.0, l.order, l.within, l.room, length-drop c.args.first w)) in
-    let x : c.append_part-next.result ≡ c.args.end + (length d + 1) = omega (arith, c.append_part-next.ensures.next, m) in (
+    let x : c.append_part-end.result ≡ c.args.layout.end + (length d + 1) = omega (arith, c.append_part-end.ensures.next, m) in (
       omega (arith, x, l.order),
       omega (arith, x, m, c.requires.1),
-      part_link w c.append_part-next.new.work w c.args.heads.now c.args.heads.now c.args.store
-          c.args.end c.args.links c.append_part-next.result d l (omega (arith, m, c.requires.2)) x
-          (omega (arith, x, m, c.requires.1)) c.append_part-next.ensures.written,
+      part_link w c.append_part-end.new.work w c.args.heads.now c.args.heads.now c.args.layout c.append_part-end.result d l (omega (arith, m, c.requires.2)) x
+          (omega (arith, x, m, c.requires.1)) c.append_part-end.ensures.written,
       l.table,
-      part_rest w c.append_part-next.new.work w c.args.heads.now c.args.heads.now
-          c.args.store c.args.end c.args.links c.append_part-next.result d l
-          (omega (arith, m, c.requires.2)) x (omega (arith, x, m, c.requires.1)) c.append_part-next.ensures.written,
+      part_rest w c.append_part-end.new.work w c.args.heads.now c.args.heads.now
+          c.args.layout c.append_part-end.result d l
+          (omega (arith, m, c.requires.2)) x (omega (arith, x, m, c.requires.1)) c.append_part-end.ensures.written,
     )
 
 pub returns : goal.returns
@@ -32,13 +31,11 @@ returns c =
     let d = take c.args.n (drop c.args.first w) in
     let m : length d ≡ c.args.n = length-take-le c.args.n (drop c.args.first w)
     (omega (arith, c.requires.0, l.order, l.within, l.room, length-drop c.args.first w)) in
-    let x : c.append_part-next.result ≡ c.args.end + (length d + 1) = omega (arith, c.append_part-next.ensures.next, m) in record {
-      added = clause_added w c.append_part-next.new.work _ c.args.heads.now _ c.args.store c.args.end
-          c.args.links c.append_part-next.result d l (omega (arith, m, c.requires.2)) x
-          (omega (arith, x, m, c.requires.1)) c.append_part-next.ensures.written c.index_entry.ensures.linked
+    let x : c.append_part-end.result ≡ c.args.layout.end + (length d + 1) = omega (arith, c.append_part-end.ensures.next, m) in record {
+      added = clause_added w c.append_part-end.new.work _ c.args.heads.now _ c.args.layout c.append_part-end.result d l (omega (arith, m, c.requires.2)) x
+          (omega (arith, x, m, c.requires.1)) c.append_part-end.ensures.written c.index_entry.ensures.linked
           c.index_entry.ensures.newest;
-      linked = linked_added w c.append_part-next.new.work _ c.args.heads.now _ c.args.store c.args.end
-          c.args.links c.append_part-next.result d l (omega (arith, m, c.requires.2)) x
-          (omega (arith, x, m, c.requires.1)) c.append_part-next.ensures.written c.index_entry.ensures.linked
+      linked = linked_added w c.append_part-end.new.work _ c.args.heads.now _ c.args.layout c.append_part-end.result d l (omega (arith, m, c.requires.2)) x
+          (omega (arith, x, m, c.requires.1)) c.append_part-end.ensures.written c.index_entry.ensures.linked
           c.index_entry.ensures.newest;
     }

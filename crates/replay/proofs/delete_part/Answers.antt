@@ -1,56 +1,67 @@
-use mathlib.Core.Path.{refl, ap, ◌∙◌}
+use mathlib.Core.Path.{◌≡◌, refl, ap, ◌∙◌}
+use mathlib.Core.List.{List}
+use Prim.Native.Nat.{ℕ, ◌+◌, ◌-◌}
 use native.Mathlib.Omega.{arith}
+use lib.IntN.{ℤ}
 use lib.ListN.{take, drop}
 use lib.Seq.{take-set-le}
+use Rattle.std.specs.Prelude.{Option}
+use Rattle.theory_base.proofs.Slices.{part_is}
+use Rattle.store.specs.Store.{place_of}
+use Rattle.replay.specs.Index.{store_in}
 use Rattle.replay.proofs.Indexing.{linked_deleted}
 use Rattle.replay.proofs.Replaying.{found_inside, deletion_found, deletion_missing}
 use Rattle.replay.proofs.delete_part.Goals as goal
 
-pub overflow_add-store : goal.overflow_add-store
-overflow_add-store c =
+-- the place of the n literals from first on
+looked_up : (w s : List ℤ) (first n : ℕ) (f : Option ℕ) → f ≡ place_of (take (first + n - first) (drop first w)) s → f ≡ place_of (take n (drop first w)) s
+looked_up w s first n f e = e ∙ ap (λ (d : List ℤ). place_of d s) (part_is w first n)
+
+pub overflow_add-layout : goal.overflow_add-layout
+overflow_add-layout c =
     let w = c.args.work.now in
     let l = c.requires.1 in
+    let z = looked_up w (store_in c.args.layout w) c.args.first c.args.n _ c.in_ok-at.ensures in
     omega (
       arith,
       l.room,
       l.within,
-      found_inside w c.args.store c.args.end (take c.args.n (drop c.args.first w))
-          l.order (omega (arith, l.room, l.within)) l.formed c.find_clause.result
-          c.find_clause.ensures _ c.in-At.is,
+      found_inside w c.args.layout (take c.args.n (drop c.args.first w)) l.order
+          (omega (arith, l.room, l.within)) l.formed _ z,
     )
 
 pub mark_deleted-requires : goal.mark_deleted-requires
 mark_deleted-requires c =
     let w = c.args.work.now in
     let l = c.requires.1 in
+    let z = looked_up w (store_in c.args.layout w) c.args.first c.args.n _ c.in_ok-at.ensures in
     omega (
       arith,
       l.room,
       l.within,
-      found_inside w c.args.store c.args.end (take c.args.n (drop c.args.first w))
-          l.order (omega (arith, l.room, l.within)) l.formed c.find_clause.result
-          c.find_clause.ensures _ c.in-At.is,
+      found_inside w c.args.layout (take c.args.n (drop c.args.first w)) l.order
+          (omega (arith, l.room, l.within)) l.formed _ z,
     )
 
-pub returns-in-At : goal.returns-in-At
-returns-in-At c =
+pub returns : goal.returns
+returns c =
     let w = c.args.work.now in
     let l = c.requires.1 in
-    let d = take c.args.n (drop c.args.first w) in record {
-      result = deletion_found w c.args.store c.args.end d l.order (omega (arith, l.room, l.within))
-          l.formed c.find_clause.result c.find_clause.ensures _ _ c.in-At.is c.mark_deleted.ensures;
-      kept = ap (take c.args.store) c.mark_deleted.ensures ∙ take-set-le c.args.store w _ _ (omega arith);
-      linked = linked_deleted w _ c.args.heads.now c.args.store c.args.end c.args.links d l
-          c.find_clause.result c.find_clause.ensures _ c.in-At.is c.mark_deleted.ensures;
+    let d = take c.args.n (drop c.args.first w) in
+    let z = looked_up w (store_in c.args.layout w) c.args.first c.args.n _ c.in_ok-at.ensures in record {
+      result = deletion_found w c.args.layout d l.order (omega (arith, l.room, l.within)) l.formed _ _ z c.mark_deleted.ensures;
+      kept = ap (take c.args.layout.store) c.mark_deleted.ensures ∙ take-set-le c.args.layout.store w _ _ (omega arith);
+      linked = linked_deleted w _ c.args.heads.now c.args.layout d l _ z c.mark_deleted.ensures;
     }
 
-pub returns-in-Nothing : goal.returns-in-Nothing
-returns-in-Nothing c =
+pub returns-in_err-at : goal.returns-in_err-at
+returns-in_err-at c =
     let w = c.args.work.now in
     let l = c.requires.1 in
-    record {
-      result = deletion_missing w c.args.store c.args.end (take c.args.n (drop c.args.first w))
-          l.order (omega (arith, l.room, l.within)) l.formed c.find_clause.result c.find_clause.ensures c.in-Nothing.is;
+    let z = looked_up w (store_in c.args.layout w) c.args.first c.args.n _ c.in_err-at.ensures in
+    rw c.from_residual.ensures (record {
+      result = deletion_missing w c.args.layout (take c.args.n (drop c.args.first w)) l.order
+          (omega (arith, l.room, l.within)) l.formed z;
       kept = refl;
       linked = tt;
-    }
+    })

@@ -6,20 +6,14 @@ use lib.ListN.{get_or}
 use Rattle.literals.specs.Literal.{header_literals}
 use Rattle.literals.proofs.Laws.{answer}
 use Rattle.store.specs.Store.{header_at}
-use Rattle.replay.proofs.Index.{key_within, walking_start, led_inside, led_place, led_back, walking_step, walking_end}
+use Rattle.replay.proofs.Index.{walking_start, led_inside, led_place, led_back, walking_step, walking_end}
 use Rattle.replay.proofs.find_linked.Goals as goal
-
-pub offset_bounds-heads-key_of : goal.offset_bounds-heads-key_of
-offset_bounds-heads-key_of c = omega (arith, c.key_of.ensures, key_within c.args.clause.now)
-
-pub bounds-heads-key_of : goal.bounds-heads-key_of
-bounds-heads-key_of c = omega (arith, c.key_of.ensures, key_within c.args.clause.now, c.requires.2)
 
 pub loop-p-init : goal.loop-p-init
 loop-p-init c =
     walking_start c.args.clause.now c.args.store.now c.args.links.now
     c.args.heads.now _ c.requires.0 c.requires.3
-    (ap (λ (k : ℕ). get_or c.args.heads.now k 0) c.key_of.ensures)
+    (ap (λ (k : ℕ). get_or c.args.heads.now k 0) c.key_of.ensures.key)
 
 pub better-best-requires : goal.better-best-requires
 better-best-requires c =

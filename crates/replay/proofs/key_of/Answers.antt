@@ -15,7 +15,7 @@ overflow_add-result c =
       greatest_most c.args.clause.now,
     )
 
-pub returns : goal.returns
-returns c =
+pub returns-clause-key : goal.returns-clause-key
+returns-clause-key c =
     key_is c.args.clause.now c.lowest-low.result c.greatest-top.result c.lowest-low.ensures
     c.greatest-top.ensures

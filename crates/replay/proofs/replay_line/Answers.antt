@@ -1,4 +1,4 @@
-use Rattle.replay.specs.declared.Replayed.TheVariants as Replayed
+use Rattle.std.specs.Prelude.{Some}
 use mathlib.Core.Path.{◌≡◌}
 use Prim.Native.Nat.{◌+◌}
 use native.Mathlib.Omega.{arith}
@@ -13,19 +13,12 @@ use Rattle.replay.specs.Replayed.{ClauseAdded}
 use Rattle.replay.proofs.Replaying.{addition_replays, replays_addition, replays_deletion}
 use Rattle.replay.proofs.replay_line.Goals as goal
 
-pub delete_part-requires : goal.delete_part-requires
-delete_part-requires c =
-    let w = c.args.work.now in
-    let n : c.header_length-n.result ≡ size_at w c.args.at = answer header_literals (header_at w c.args.at)
-    (sfits_of c.header_length-arg-1.given) c.header_length-n.ensures in
-    (omega (arith, n, c.requires.0), c.requires.2)
-
 pub returns-then-is_negative : goal.returns-then-is_negative
 returns-then-is_negative c =
     let w = c.args.work.now in
     let at = c.args.at in
-    let store = c.args.store in
-    let end = c.args.end in
+    let store = c.args.layout.store in
+    let end = c.args.layout.end in
     let n : c.header_length-n.result ≡ size_at w at = answer header_literals (header_at w at)
     (sfits_of c.header_length-arg-1.given) c.header_length-n.ensures in record {
       result = replays_deletion (stored (between store end w)) w at store end _ c.delete_part.result _ (omega arith)
@@ -35,34 +28,23 @@ returns-then-is_negative c =
       linked = c.delete_part.ensures.linked;
     }
 
-pub add_part-requires : goal.add_part-requires
-add_part-requires c =
-    let w = c.args.work.now in
-    let n : c.header_length-n.result ≡ size_at w c.args.at = answer header_literals (header_at w c.args.at)
-    (sfits_of c.header_length-arg-1.given) c.header_length-n.ensures in (
-      omega (arith, n, c.requires.0),
-      omega (arith, n, c.requires.1),
-      omega (arith, n, literals_within (header_at w c.args.at) (sfits_of c.header_length-arg-1.given)),
-      c.requires.2,
-    )
-
 pub returns : goal.returns
 returns c =
     let w = c.args.work.now in
     let at = c.args.at in
-    let store = c.args.store in
-    let end = c.args.end in
+    let store = c.args.layout.store in
+    let end = c.args.layout.end in
     let l = c.requires.2 in
     let n : c.header_length-n.result ≡ size_at w at = answer header_literals (header_at w at)
     (sfits_of c.header_length-arg-1.given) c.header_length-n.ensures in
     let k : length (clause_at w at) ≡ size_at w at = length-take-le (size_at w at) (drop (at + 1) w)
     (omega (arith, c.requires.0, l.order, l.within, l.room, length-drop (at + 1) w)) in
-    let a : ClauseAdded w store end (clause_at w at) c.add_part.result c.add_part.new.work = rw n at
+    let a : ClauseAdded w c.args.layout (clause_at w at) c.add_part.result c.add_part.new.work = rw n at
     c.add_part.ensures.added in record {
       result = replays_addition (stored (between store end w)) w at store (end + (length (clause_at w at) + 1))
-          (end + (size_at w at + 1)) (Replayed.Standing c.add_part.result) c.add_part.new.work (omega arith)
+          (end + (size_at w at + 1)) (Some c.add_part.result) c.add_part.new.work (omega arith)
           (answered negative (header_at w at) (sfits_of c.is_negative-arg-1.given) c.is_negative.ensures c.if-is_negative.false)
-          (addition_replays w c.add_part.new.work store end c.add_part.result (clause_at w at) l.order
+          (addition_replays w c.add_part.new.work c.args.layout c.add_part.result (clause_at w at) l.order
           (omega (arith, k, literals_within (header_at w at) (sfits_of c.header_length-arg-1.given))) l.formed a);
       kept = a.kept;
       linked = c.add_part.ensures.linked;

@@ -1,18 +1,8 @@
-use native.Mathlib.Omega.{arith}
 use Rattle.store.proofs.Sliding.{sliding_start, sliding_turn, sliding_end}
 use Rattle.store.proofs.compact.Goals as goal
 
 pub loop-from-init : goal.loop-from-init
 loop-from-init c = sliding_start _ c.requires
-
-pub next_at-next-requires : goal.next_at-next-requires
-next_at-next-requires c = c.loop-from-test.true
-
-pub slide-to-requires : goal.slide-to-requires
-slide-to-requires c = (c.loop-from.invariant.order, c.loop-from-test.true, c.loop-from.invariant.rest)
-
-pub loop-from-smaller : goal.loop-from-smaller
-loop-from-smaller c = omega (arith, c.next_at-next.ensures, c.loop-from.invariant.inside, c.loop-from.invariant.len)
 
 pub loop-from-preserved : goal.loop-from-preserved
 loop-from-preserved c = sliding_turn _ _ _ _ c.loop-from.invariant c.loop-from-test.true _ _ _ c.slide-to.ensures.moved c.slide-to.ensures.next c.next_at-next.ensures

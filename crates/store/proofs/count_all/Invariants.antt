@@ -1,12 +1,7 @@
 use mathlib.Core.Path.{◌≡◌}
-use Prim.Native.Nat.{◌-◌, ◌≤◌}
-use lib.ListN.{length, drop}
-use Rattle.store.specs.Store.{Formed, stored}
+use Rattle.store.specs.Store.{stored}
 use Rattle.tables.specs.Entries.{tallied_all}
 use Rattle.store.proofs.count_all.Given as goal
 
-abbrev pub invariant-loop-at : goal.invariant-loop-at
-invariant-loop-at l = (l.at ≤ length l.store) × (length l.table ≡ length l.initial.table) × Formed (drop l.at l.store) × (tallied_all l.table (stored (drop l.at l.store)) ≡ tallied_all l.initial.table (stored l.store))
-
-abbrev pub decreases-loop-at : goal.decreases-loop-at
-decreases-loop-at l = length l.store - l.at
+abbrev pub invariant-loop-clause : goal.invariant-loop-clause
+invariant-loop-clause l = tallied_all l.table l.clause-iterator ≡ tallied_all l.initial.table (stored l.store)

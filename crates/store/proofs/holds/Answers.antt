@@ -1,39 +1,33 @@
-use borrow.Author.Rules.{rules, sfits_of}
-use mathlib.Core.Path.{refl, ◌∙◌}
+use borrow.Author.Rules.{rules}
+use borrow.Author.Tests.{eq-eqb, ne_eqb}
+use mathlib.Core.Path.{◌≡◌, sym, ◌∙◌}
+use mathlib.Core.Bool.{true, false}
 use lib.ListN.{get_or}
-use lib.IntN.{ℤ, pos}
+use lib.IntN.{pos}
 use Rattle.definition.specs.Literals.{same, holds}
-use Rattle.literals.proofs.Laws.{at_arg, answered}
+use Rattle.literals.proofs.Bits.{same_bits}
 use Rattle.theory_base.proofs.Slices.{any_hit, any_miss, any_end}
-use mir.Syntax.{w32}
-use mir.Val.{to_z, of_z}
 use Rattle.store.proofs.holds.Goals as goal
+use Rattle.store.proofs.holds.Goals.{Then-m-l, Else-m-l}
 
-pub loop-i-init : goal.loop-i-init
-loop-i-init c = (search rules, refl)
-
-pub returns-then-same : goal.returns-then-same
+pub returns-then-m-l : goal.returns-then-m-l
 unfolding holds
-returns-then-same c = let a = c.args in
-    let l = to_z w32 (of_z w32 a.l) in
-    let i = c.loop-i.i in
-    let e = answered (same l) (get_or a.clause.now i (pos 0)) (sfits_of c.same-arg-1.given)
-    c.same.ensures c.if-same.true in
-    any_hit (same l) a.clause.now i (pos 0) (search rules) e
-    ∙ c.loop-i.invariant.1
-    ∙ at_arg (λ (z : ℤ). holds z a.clause.now) a.l c.ranges.l
+returns-then-m-l c =
+    let a = c.args in
+    let i = c.loop-m.m-index in
+    let x = get_or a.clause.now i (pos 0) in
+    let e : same a.l.now x ≡ true = sym (same_bits a.l.now x (search rules) (search rules)) ∙ eq-eqb _ _ (sym c.if-m-l.true) in
+    any_hit (same a.l.now) a.clause.now i (pos 0) c.loop-m-test.true e ∙ c.loop-m.invariant
 
-pub loop-i-preserved : goal.loop-i-preserved
+pub loop-m-preserved : goal.loop-m-preserved
 unfolding holds
-loop-i-preserved c = let a = c.args in
-    let l = to_z w32 (of_z w32 a.l) in
-    let i = c.loop-i.i in
-    let e = answered (same l) (get_or a.clause.now i (pos 0)) (sfits_of c.same-arg-1.given)
-    c.same.ensures c.if-same.false in
-    (search rules, any_miss (same l) a.clause.now i (pos 0) (search rules) e ∙ c.loop-i.invariant.1)
+loop-m-preserved c =
+    let a = c.args in
+    let i = c.loop-m.m-index in
+    let x = get_or a.clause.now i (pos 0) in
+    let e : same a.l.now x ≡ false = sym (same_bits a.l.now x (search rules) (search rules)) ∙ ne_eqb _ _ (λ h. c.if-m-l.false (sym h)) in
+    any_miss (same a.l.now) a.clause.now i (pos 0) c.loop-m-test.true e ∙ c.loop-m.invariant
 
 pub returns : goal.returns
 unfolding holds
-returns c = any_end (same (to_z w32 (of_z w32 c.args.l))) c.args.clause.now c.loop-i.i (search rules)
-    ∙ c.loop-i.invariant.1
-    ∙ at_arg (λ (z : ℤ). holds z c.args.clause.now) c.args.l c.ranges.l
+returns c = any_end (same c.args.l.now) c.args.clause.now c.loop-m.m-index c.loop-m-test.false ∙ c.loop-m.invariant

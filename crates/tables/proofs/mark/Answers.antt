@@ -1,17 +1,12 @@
--- By the entries of the literal and of its negation (Laws, mark-repeated and its neighbours).
+-- By the entries of the literal and of its negation.
 use lib.IntN.{ℤ}
 use lib.ListN.{set}
 use borrow.Author.Rules.{rules, sfits_of}
 use Rattle.literals.specs.Literal.{index_of}
 use Rattle.literals.proofs.Laws.{answer, answer_negated}
 use Rattle.tables.specs.Entries.{entry_of}
-use Rattle.tables.proofs.Laws.{mark_repeated, mark_new}
+use Rattle.tables.proofs.Laws.{mark_new}
 use Rattle.tables.proofs.mark.Goals as goal
-
-pub returns-then-entry_of-stamp : goal.returns-then-entry_of-stamp
-returns-then-entry_of-stamp c = let t = c.args.seen.now in
-    let a = answer (entry_of t) c.args.l c.ranges.l c.entry_of.ensures in
-    λ here k. mark_repeated c.args.l c.requires.l_bound t c.args.stamp a here k c.if-entry_of-stamp.true
 
 pub returns : goal.returns
 returns c = let t = c.args.seen.now in

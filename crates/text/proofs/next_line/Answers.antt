@@ -1,15 +1,14 @@
+use Rattle.std.proofs.Common.{rules, refl}
 use Rattle.theory_text.proofs.TextLines.{line_last, line_ended, lines_none}
-use native.Mathlib.Omega.{arith}
-use borrow.Author.Rules.{rules}
+use Rattle.text.proofs.Lines.{lf_found, lf_none}
 use Rattle.text.proofs.next_line.Goals as goal
 
 pub returns-then-text-at : goal.returns-then-text-at
 returns-then-text-at c = lines_none c.args.text.now c.args.at (search rules)
 
-pub returns-then-end-text : goal.returns-then-end-text
-returns-then-end-text c = line_last c.args.text.now c.args.at c.line_end-end.result (search rules) c.line_end-end.ensures
-    c.if-end-text.true
+pub returns-in-Some : goal.returns-in-Some
+returns-in-Some c = let l = lf_found c.args.text.now c.args.at (search rules) c.in-Some.is c.newline.ensures in
+    line_ended c.args.text.now c.args.at _ (search rules) l.0 c.without_cr-end.result l.1 c.without_cr-end.ensures
 
-pub returns : goal.returns
-returns c = line_ended c.args.text.now c.args.at c.line_end-end.result (search rules) c.line_end-end.ensures
-    c.without_cr-trimmed.result (omega (arith, c.line_end-end.ensures.within)) c.without_cr-trimmed.ensures
+pub returns-in-None : goal.returns-in-None
+returns-in-None c = line_last c.args.text.now c.args.at _ (search rules) (lf_none c.args.text.now c.args.at (search rules) c.in-None.is c.newline.ensures) refl

@@ -1,10 +1,7 @@
-use Prim.Native.Nat.{◌-◌}
-use lib.ListN.{length}
-use Rattle.text.proofs.Writing.{Items}
+use Rattle.std.proofs.Common.{◌+◌, ◌*◌, ◌≤◌, take}
+use Rattle.theory_text.specs.ClauseText.{literals_text}
+use Rattle.text.specs.Output.{Put}
 use Rattle.text.proofs.put_items.Given as goal
 
-abbrev pub invariant-loop-i : goal.invariant-loop-i
-invariant-loop-i l = Items l.initial.buf l.at l.clause l.i l.end l.buf
-
-abbrev pub decreases-loop-i : goal.decreases-loop-i
-decreases-loop-i l = length l.clause - l.i
+abbrev pub invariant-loop-l : goal.invariant-loop-l
+invariant-loop-l l = record { written : Put l.initial.buf l.at (literals_text (take l.l-index l.clause)) l.end l.buf; within : l.end ≤ l.at + 12 * l.l-index }

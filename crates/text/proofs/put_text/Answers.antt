@@ -1,15 +1,6 @@
-use borrow.Author.Rules.{rules}
-use Rattle.text.proofs.Writing.{copied_start, copied_step, copied_end}
+use Rattle.std.proofs.Common.{rules}
+use Rattle.text.proofs.Writing.{text_step}
 use Rattle.text.proofs.put_text.Goals as goal
 
-pub loop-i-init : goal.loop-i-init
-loop-i-init c = copied_start c.args.buf.now c.args.at c.args.text.now
-
-pub loop-i-preserved : goal.loop-i-preserved
-loop-i-preserved c = copied_step c.loop-i.invariant (search rules) c.put_byte.ensures
-
-pub shape_of-buf : goal.shape_of-buf
-shape_of-buf c = c.loop-i.invariant.size
-
-pub returns : goal.returns
-returns c = copied_end c.loop-i.invariant c.loop-i-test.false
+pub loop-b-preserved : goal.loop-b-preserved
+loop-b-preserved c = text_step c.args.text.now c.loop-b.b-index (search rules) c.loop-b.invariant c.put_byte-end.ensures

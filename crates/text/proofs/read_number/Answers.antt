@@ -1,28 +1,15 @@
-use Rattle.theory_base.proofs.Slices.{rest_is}
-use Rattle.text.proofs.Numbers.{sign_plain, sign_minus, number_none, number_minus, number_plain}
-use Rattle.text.specs.Numbers.{natural_class, number_class, with_sign}
-use Rattle.definition.specs.Text.{natural}
-use Rattle.tables.specs.Sizes.{log_reach}
-use mathlib.Core.Path.{ap, ◌∙◌}
-use mathlib.Core.Bool.{true, false}
-use mathlib.Core.List.{List}
-use Prim.Native.Nat.{ℕ}
-use lib.ListN.{drop}
+use Rattle.std.proofs.Common.{rules, ap, ◌∙◌, true, false}
+use Rattle.text.specs.Numbers.{with_sign}
+use Rattle.text.proofs.Numbers.{minus_read, plain_read}
+use Rattle.text.proofs.read_number.Goals.{in_default-via-then-word-lt1, in_default-via-else-word-lt1+in_default-1}
 use Rattle.text.proofs.read_number.Goals as goal
 
-pub returns-then-word-eq0 : goal.returns-then-word-eq0
-returns-then-word-eq0 c = number_none c.args.word.now c.if-word-eq0.true
+pub returns-in-45 : goal.returns-in-45
+returns-in-45 c = c.signed_number.ensures ∙ ap (with_sign true) c.natural_up_to.ensures ∙ minus_read c.args.word.now (search rules) (search rules)
 
-pub returns-then-word-eq45 : goal.returns-then-word-eq45
-returns-then-word-eq45 c = c.signed_number.ensures
-    ∙ ap (with_sign true)
-    (c.natural_up_to.ensures
-    ∙ ap (λ (s : List ℕ). natural_class log_reach (natural s)) (rest_is c.args.word.now 1))
-    ∙ sign_minus (natural (drop 1 c.args.word.now))
-    ∙ ap number_class (number_minus c.args.word.now c.if-word-eq0.false c.if-word-eq45.true)
-
-pub returns-else-word-eq45 : goal.returns-else-word-eq45
-returns-else-word-eq45 c = c.signed_number-else-word-eq45.ensures
-    ∙ ap (with_sign false) c.natural_up_to-else-word-eq45.ensures
-    ∙ sign_plain (natural c.args.word.now)
-    ∙ ap number_class (number_plain c.args.word.now c.if-word-eq0.false c.if-word-eq45.false)
+pub returns-in_default : goal.returns-in_default
+returns-in_default c =
+    c.signed_number-in_default.ensures
+    ∙ ap (with_sign false) c.natural_up_to-in_default.ensures
+    ∙ plain_read c.args.word.now
+    (λ h e. elim c.in_default.branch [ in_default-via-then-word-lt1 w ↦ search rules | in_default-via-else-word-lt1+in_default-1 w ↦ search rules ])

@@ -1,12 +1,8 @@
-use Rattle.theory_text.specs.Runs.{in_run, leading}
-use Rattle.text.specs.Words.{separator}
-use mathlib.Core.Path.{◌≡◌}
-use Prim.Native.Nat.{◌+◌, ◌-◌}
-use lib.ListN.{length, drop}
+use Rattle.std.proofs.Common.{◌≡◌, ℕ, Bool, ◌≤◌, max, length}
+use Rattle.theory_text.specs.Runs.{run_end}
+use Rattle.text.specs.Words.{Tests}
 use Rattle.text.proofs.run_end.Given as goal
 
 abbrev pub invariant-loop-i : goal.invariant-loop-i
-invariant-loop-i l = l.i + leading (in_run (separator l.lines) l.parting) (drop l.i l.text) ≡ l.at + leading (in_run (separator l.lines) l.parting) (drop l.at l.text)
-
-abbrev pub decreases-loop-i : goal.decreases-loop-i
-decreases-loop-i l = length l.text - l.i
+invariant-loop-i g l = (l.i ≤ max (length l.text) l.at)
+    × ((p : ℕ → Bool) → Tests (goal.S-post g) l.separates p → run_end p l.parting l.text l.i ≡ run_end p l.parting l.text l.at)

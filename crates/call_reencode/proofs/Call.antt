@@ -7,7 +7,8 @@ use Rattle.definition.specs.Checked.{Checked, fault, value, ◌>>=◌, refuse_if
 use Rattle.definition.specs.Text.{Bytes}
 use Rattle.definition.specs.Calls.{Reencoded, fitted, reencode, buffer_after}
 use Rattle.records.specs.declared.ChoiceRecord.{ChoiceRecord}
-use Rattle.records.specs.Rows.{shown_record, no_record, rows_of}
+use Rattle.records.specs.Rows.{shown_record, no_record, rows_of, records_in}
+use Rattle.records.proofs.Rows.{records_there}
 use Rattle.refusals.specs.declared.Refusal.{Refusal}
 use Rattle.refusals.specs.declared.Refusal.TheVariants.{ShortLogBuffer, ShortFormulaBuffer, ShortTable}
 use Rattle.refusals.specs.Numbers.{number}
@@ -140,14 +141,18 @@ module _ (o : Checked Reencoded) (room : ℕ) (log formula : Bytes) (rows : List
     pub table_reaches : t.choices ≤ room
     table_reaches = omega (arith, ap (λ (u : Tally). u.choices) found.shows, all.records_fit)
 
-    pub table_filled : (table : List ChoiceRecord) → take t.choices z ++ drop (length (take t.choices z)) table ≡ buffer_after no_record o shown_table table
+    pub table_filled : (table : List ChoiceRecord) → records_in z 0 t.choices ++ drop t.choices table ≡ buffer_after no_record o shown_table table
     unfolding buffer_after
     table_filled table =
         let long : length (rows_of found.it.table) ≡ length found.it.table = length-map found.it.table shown_record in
-        let here : take t.choices z ≡ shown_table found.it =
-        ap (take t.choices) (all.rows_written ∙ sets-eq (rows_of found.it.table) rows 0 (omega (arith, long, all.rows_fit)))
+        let here : records_in z 0 t.choices ≡ shown_table found.it =
+        records_there z t.choices rows_reach
+        ∙ ap (take t.choices) (all.rows_written ∙ sets-eq (rows_of found.it.table) rows 0 (omega (arith, long, all.rows_fit)))
         ∙ take_at (rows_of found.it.table) (drop (0 + length (rows_of found.it.table)) rows) t.choices (omega (arith, long, choices_are)) in
-        ap (λ (rs : List ChoiceRecord). rs ++ drop (length rs) table) here ∙ sym (ap (λ (p : Checked Reencoded). buffer_after no_record p shown_table table) found.is)
+        let count : t.choices ≡ length (shown_table found.it) = omega (arith, long, choices_are) in
+        ap (λ (rs : List ChoiceRecord). rs ++ drop t.choices table) here
+        ∙ ap (λ (n : ℕ). shown_table found.it ++ drop n table) count
+        ∙ sym (ap (λ (p : Checked Reencoded). buffer_after no_record p shown_table table) found.is)
 
   -- a refusal: zeros
   module _ {n : Refusal} (e : a ≡ Err n) where

@@ -69,7 +69,7 @@ pub fn reencode(
     let mut rows = [records::NO_RECORD; run::MOST_CHOICES];
     let r = reencode_into(text, settings, work, log, formula, &mut rows, table.len());
     match r {
-        Ok(t) => records::fill(table, &rows[..t.choices]),
+        Ok(t) => records::fill(table, &rows, t.choices),
         Err(_) => {
             log.fill(0);
             formula.fill(0);

@@ -46,10 +46,19 @@ replayed_text direction room v f ss a = replay f ss >>= λ standing. carried_ove
 
 -- ---- what the code answers
 
--- the text written, which fits, or a fault
+-- the text written, which fits, or a fault, whose number f tells
+abbrev pub CarriesBy : {E : Type 0} → (E → ℕ) → Checked Bytes → Bytes → Result ℕ E → Bytes → Type 0
+CarriesBy f o old (Ok n) new = (t : Bytes) × (o ≡ value t) × Put old 0 t n new × (n ≤ length old)
+CarriesBy f o old (Err e) new = o ≡ fault (f e)
+
+-- the same of a refusal
 abbrev pub Carries : Checked Bytes → Bytes → Result ℕ Refusal → Bytes → Type 0
-Carries o old (Ok n) new = (t : Bytes) × (o ≡ value t) × Put old 0 t n new × (n ≤ length old)
-Carries o old (Err e) new = o ≡ fault (number e)
+Carries o old r new = CarriesBy number o old r new
+
+-- the outcome of an answer, where f tells a fault's number
+abbrev pub outcome_by : {A E : Type 0} → (E → ℕ) → Result A E → Checked A
+outcome_by f (Ok a) = value a
+outcome_by f (Err e) = fault (f e)
 
 -- ---- what is asked of a workspace
 

@@ -1,7 +1,7 @@
 // An assignment tested against a store, carried back or forward over the loaded lines of a log, and written.
 #![tactic(auto)]
 
-ghost use Rattle.std.specs.Prelude.{◌≡◌, cond, ◌≤◌, ◌<◌, ◌^◌, length, take, drop};
+ghost use Rattle.std.specs.Prelude.{◌≡◌, cond, ℕ, ◌≤◌, ◌<◌, ◌^◌, length, take, drop};
 ghost use Rattle.definition.specs.Checked.{Checked};
 ghost use Rattle.definition.specs.Literals.{highest};
 ghost use Rattle.definition.specs.Text.{Bytes};
@@ -10,12 +10,12 @@ ghost use Rattle.definition.specs.Assignments.{satisfies, repaired, carried_back
 ghost use Rattle.definition.specs.Calls.{fitting_line, buffer_after};
 ghost use Rattle.theory_base.specs.Slices.{between};
 ghost use Rattle.literals.specs.Literal.{negative};
-ghost use Rattle.refusals.specs.Outcomes.{outcome, showing};
+ghost use Rattle.refusals.specs.Outcomes.{showing};
 ghost use Rattle.store.specs.Store.{Formed, stored};
 ghost use Rattle.drat.specs.Loaded.{Loaded, lines_in, line_at, past_line};
 ghost use Rattle.answer.specs.Table.{marked};
 ghost use Rattle.carry.specs.Lines.{LastLine, over, repairs};
-ghost use Rattle.carry.specs.Carried.{holds_at, carried_answer, carried_plan, replayed_text, Carries, Carryable};
+ghost use Rattle.carry.specs.Carried.{holds_at, carried_answer, carried_plan, replayed_text, Carries, CarriesBy, outcome_by, Carryable};
 
 use refusals::Refusal;
 
@@ -227,9 +227,9 @@ pub fn replay_and_carry(
     }
 }
 
-// Makes the buffer zero where the outcome is a refusal.
-pub fn settle(out: &mut [u8], r: Result<usize, Refusal>) -> Result<usize, Refusal>
-    ensures { (o : Checked Bytes) (old : Bytes) → Carries o old r out.old → length out.old ≡ length old → (outcome result ≡ showing (λ t. length t) o) × (out.new ≡ buffer_after 0 o (λ t. t) old) }
+// Makes the buffer zero where the outcome is a refusal, of whatever type: f tells its number.
+pub fn settle<E>(out: &mut [u8], r: Result<usize, E>) -> Result<usize, E>
+    ensures { (f : E → ℕ) (o : Checked Bytes) (old : Bytes) → CarriesBy f o old r out.old → length out.old ≡ length old → (outcome_by f result ≡ showing (λ t. length t) o) × (out.new ≡ buffer_after 0 o (λ t. t) old) }
 {
     if r.is_err() {
         out.fill(0);

@@ -8,6 +8,7 @@ ghost use Rattle.counts.specs.Counts.{overwritten};
 pub fn put_counts(tally: &mut [u64], counts: &[u64])
     ensures { tally.new ≡ overwritten counts.now tally.old }
 {
-    let n = tally.len().min(counts.len());
-    tally[..n].copy_from_slice(&counts[..n]);
+    for (i, n) in counts.iter().enumerate() {
+        slices::put(tally, i, *n);
+    }
 }

@@ -1,5 +1,5 @@
 -- Loops that record lines, turn by turn; and the deletions of a pair as the code makes them. Assumes nothing.
-use mathlib.Core.Path.{◌≡◌, refl, ap₂, ◌∙◌}
+use mathlib.Core.Path.{◌≡◌, refl, sym, ap₂, ◌∙◌}
 use mathlib.Core.List.{List, [], ◌∷◌, ◌++◌}
 use Prim.Native.Nat.{ℕ, suc, ◌+◌, ◌-◌, ◌*◌, ◌≤◌, ◌<◌}
 use native.Mathlib.Omega.{arith}
@@ -56,3 +56,7 @@ pub cell_is : (counts : List ℕ) (l : Clause) (i j : ℕ) {n : ℕ} {x y : ℤ}
 cell_is counts l i j {x = x} {y = y} e f g fx gy d h =
     ap₂ (λ (k : ℕ) (p : Clause). replicate k (deletion p)) e
     (ap₂ (λ (u v : ℤ). u ∷ v ∷ []) (to_z-of_z w32 x fx ∙ answer negation (literal_at l i) f d) (to_z-of_z w32 y gy ∙ answer negation (literal_at l j) g h))
+
+-- a pair that is not counted has no lines
+pub no_cell : (counts : List ℕ) (l : Clause) (i j : ℕ) → 0 ≡ get_or counts (i * 64 + j) 0 → (x : Bytes) (p : Progress) → Written (cell_lines counts l i j) x p x p
+no_cell counts l i j e x p = rw (sym e) (written_none x p p refl refl)

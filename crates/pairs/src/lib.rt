@@ -132,6 +132,10 @@ fn record_cell(
     ensures kept { result.end ≡ p.end }
 {
     let times = tables::entry_at(counts, i * 64 + j);
+    // most pairs of a long choice stand nowhere
+    if times == 0 {
+        return p;
+    }
     let pair = [literals::negated(choice[i]), literals::negated(choice[j])];
     record_times(log, p, &pair, times)
 }

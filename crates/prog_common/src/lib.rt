@@ -4,9 +4,9 @@
 ghost use Rattle.std.specs.Prelude.{◌≡◌, ◌≤◌, length};
 ghost use Rattle.std.specs.Io.{ReadsAtMost};
 
-use refusals::Refusal;
 use run::{Arrangement, Form, Settings};
 use std::env::Env;
+use std::fmt::Display;
 use std::fs::Files;
 use std::io::Read;
 use std::{fs, io, str};
@@ -99,8 +99,8 @@ pub fn print_number(rt: &impl Print, n: usize) -> io::Result<()> {
     print!(rt; " {n}")
 }
 
-// Prints a refusal on a line.
-pub fn print_refusal(rt: &impl Print, refusal: Refusal) -> io::Result<()> {
+// Prints a refusal, or its number, on a line.
+pub fn print_refusal<R: Display>(rt: &impl Print, refusal: R) -> io::Result<()> {
     println!(rt; "refused {refusal}")
 }
 

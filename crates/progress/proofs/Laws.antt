@@ -134,9 +134,20 @@ module _ (work part : List ℤ) (end : ℕ) (b : end ≤ length work) (s : lengt
   pub part_size : length (part ++ drop end work) ≡ length work
   part_size = omega (arith, length-append part (drop end work), length-drop end work, part_length)
 
+  part_holds : {G : Formula} (n : ℕ) → n ≤ end → Formed (take n part) → stored (take n part) ≡ G → Holds G (part ++ drop end work) n
+  part_holds n h f e =
+      let t : take n (part ++ drop end work) ≡ take n part = take-append-le n part (drop end work) (omega (arith, part_length)) in
+      record { inside = omega (arith, part_size); formed = rw t f; stands = ap stored t ∙ e }
+
 -- a pass over those elements alone
 pub standing_part : (work : List ℤ) (p : Progress) → standing (take p.end work) p ≡ standing work p
 standing_part work p = ap stored (take-take p.end p.end work (omega arith))
+
+pub runs_part : {es : List Event} (work part : List ℤ) {x y : Bytes} {p q : Progress} → p.end ≤ length work → Runs es (take p.end work) x p part y q → Runs es work x p (part ++ drop p.end work) y q
+runs_part {es} work part {p = p} {q = q} b r =
+    runs_lines (part_size work part p.end b r.size)
+    (part_holds work part p.end b r.size q.end (omega (arith, r.inside, length-take-le p.end work b)) r.formed r.stands)
+    (ap (λ (F : Formula). after F (lines es)) (standing_part work p)) (runs_written r)
 
 -- ---- a good store
 

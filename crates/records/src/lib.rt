@@ -2,7 +2,7 @@
 #![tactic(auto)]
 
 ghost use Rattle.std.specs.Prelude.{◌≡◌, ◌++◌, ◌<◌, ◌≤◌, length, set, get_or, drop, replicate};
-ghost use Rattle.records.specs.Rows.{no_record};
+ghost use Rattle.records.specs.Rows.{no_record, row_of, records_in};
 
 // What is written down of a choice: its first new variable, its length, and how many input clauses went into it.
 #[repr(C)]
@@ -36,12 +36,24 @@ pub fn put_record(table: &mut [ChoiceRecord], at: usize, r: ChoiceRecord)
     table[at] = r;
 }
 
-// Fills the start of a table with records.
-pub fn fill(table: &mut [ChoiceRecord], records: &[ChoiceRecord])
-    requires { length records.now ≤ length table.old }
-    ensures { table.new ≡ records.now ++ drop (length records.now) table.old }
+// The record of a row; past the last row, the record of zeros.
+pub fn row_at(rows: &[ChoiceRecord], at: usize) -> ChoiceRecord
+    ensures { result ≡ row_of rows.now at }
 {
-    table[..records.len()].copy_from_slice(records);
+    match rows.get(at) {
+        Some(r) => *r,
+        None => NO_RECORD,
+    }
+}
+
+// Fills the start of a table with the records of the first n rows; past the last row, with records of zeros.
+pub fn fill(table: &mut [ChoiceRecord], rows: &[ChoiceRecord], n: usize)
+    requires { n ≤ length table.old }
+    ensures { table.new ≡ records_in rows.now 0 n ++ drop n table.old }
+{
+    for i in 0..n {
+        put_record(table, i, row_at(rows, i));
+    }
 }
 
 // Makes every record that of zeros.

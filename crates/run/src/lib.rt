@@ -287,7 +287,8 @@ fn take_all(
     Ok(take(work, newest, places, log, p, form, g, chosen, highest, step))
 }
 
-// Clears an indexed store, then chooses and takes its choices.
+// Clears an indexed store, then chooses and takes its choices. Its tables have a frame of their own, so that the stack holds either them or the reader's.
+#[inline(never)]
 fn run_indexed(
     work: &mut [i32],
     newest: &mut [u32],

@@ -15,7 +15,7 @@ use lib.Dec.{ltb}
 use Rattle.literals.specs.Literal.{negative}
 use mathlib.Core.Bool.{true, false}
 use Rattle.text.specs.Output.{Put}
-use Rattle.theory_base.proofs.Slices.{sets_then, sets_first, sets_past, sets_rest}
+use Rattle.theory_base.proofs.Slices.{sets_then, sets_first, sets_past}
 use Rattle.theory_base.proofs.Digits.{digits_one, digits_more, count_one, count_more, digits_within}
 
 -- ---- nothing, one byte, one text after another

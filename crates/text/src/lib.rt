@@ -253,7 +253,7 @@ fn few_digits(n: u32) -> usize
 
 // How many digits a number has; variables of a log have at most five.
 #[tactic(auto, using(crate::proofs::FewDigits::digits_by_power))]
-fn digit_count(n: u32) -> usize
+fn decimal_length(n: u32) -> usize
     ensures { result ≡ length (digits n) }
 {
     if n < 100000 {
@@ -261,6 +261,19 @@ fn digit_count(n: u32) -> usize
     } else {
         n.ilog10() as usize + 1
     }
+}
+
+// The same, found by dividing: a number that is written is counted so, as telling sizes may cost a share of writing at most.
+fn digit_count(n: u32) -> usize
+    ensures { result ≡ length (digits n) }
+{
+    let mut count: usize = 1;
+    let mut m = n;
+    while 10 <= m {
+        m /= 10;
+        count += 1;
+    }
+    count
 }
 
 // Writes a number in decimal, the last digit first.
@@ -317,7 +330,7 @@ pub fn put_text(buf: &mut [u8], at: usize, text: &[u8]) -> usize
 fn item_length(l: i32) -> usize
     ensures { result ≡ length (literal_text l ++ bytes " ") }
 {
-    let n = digit_count(literals::variable(l)) + 1;
+    let n = decimal_length(literals::variable(l)) + 1;
     if literals::is_negative(l) { n + 1 } else { n }
 }
 

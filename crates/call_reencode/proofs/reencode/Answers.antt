@@ -1,26 +1,14 @@
-use native.Mathlib.Omega.{arith}
-use mathlib.Core.Path.{sym, ap, ◌∙◌}
+use mathlib.Core.Path.{ap, ◌∙◌}
 use Prim.Native.Nat.{ℕ}
 use lib.ListN.{length, replicate}
-use lib.Seq.{length-take-le}
 use borrow.Author.Rules.{rules}
 use Rattle.call_reencode.specs.Outcome.{outcome, shown_table}
 use Rattle.records.specs.Rows.{no_record}
-use Rattle.call_reencode.proofs.Call.{log_kept, formula_kept, table_filled, table_reaches, rows_reach, zeros}
+use Rattle.call_reencode.proofs.Call.{log_kept, formula_kept, table_filled, table_reaches, zeros}
 use Rattle.call_reencode.proofs.reencode.Goals as goal
 
-pub slice_bounds-rows-end : goal.slice_bounds-rows-end
-slice_bounds-rows-end c = rows_reach _ _ _ _ _ c.reencode_into-r.ensures c.in-Ok.is
-
-pub slice_bounds-fill-end : goal.slice_bounds-fill-end
-slice_bounds-fill-end c = sym (length-take-le c.in-Ok.t.choices c.reencode_into-r.new.rows (rows_reach _ _ _ _ _ c.reencode_into-r.ensures c.in-Ok.is))
-
 pub fill-requires : goal.fill-requires
-fill-requires c = omega (
-  arith,
-  length-take-le c.in-Ok.t.choices c.reencode_into-r.new.rows (rows_reach _ _ _ _ _ c.reencode_into-r.ensures c.in-Ok.is),
-  table_reaches _ _ _ _ _ c.reencode_into-r.ensures c.in-Ok.is,
-)
+fill-requires c = table_reaches _ _ _ _ _ c.reencode_into-r.ensures c.in-Ok.is
 
 pub returns-in-Ok-clause-log_after : goal.returns-in-Ok-clause-log_after
 returns-in-Ok-clause-log_after c = log_kept _ _ _ _ _ c.reencode_into-r.ensures c.in-Ok.is

@@ -5,10 +5,10 @@ use Rattle.carry.proofs.Writing.{ok_settled, err_settled}
 use Rattle.carry.proofs.settle.Goals as goal
 
 pub returns-then-is_err : goal.returns-then-is_err
-returns-then-is_err c =
+returns-then-is_err g c =
     let z : c.fill.new.self ≡ replicate (length c.args.out.now) 0 = search rules in
-    λ o old s l. err_settled c.args.r o old c.args.out.now _ (sym c.is_err.ensures.value ∙ c.if-is_err.true) s l z
+    λ f o old s l. err_settled f c.args.r o old c.args.out.now _ (sym c.is_err.ensures.value ∙ c.if-is_err.true) s l z
 
 pub returns-else-is_err : goal.returns-else-is_err
-returns-else-is_err c =
-    λ o old s l. ok_settled c.args.r o old c.args.out.now (sym c.is_err.ensures.value ∙ c.if-is_err.false) s
+returns-else-is_err g c =
+    λ f o old s l. ok_settled f c.args.r o old c.args.out.now (sym c.is_err.ensures.value ∙ c.if-is_err.false) s

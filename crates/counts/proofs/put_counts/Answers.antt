@@ -1,5 +1,6 @@
-use Rattle.counts.proofs.Laws.{overwritten_is}
+use Rattle.std.proofs.Common.{rules}
+use Rattle.counts.proofs.Laws.{overwritten_end}
 use Rattle.counts.proofs.put_counts.Goals as goal
 
 pub returns : goal.returns
-returns c = rw c.copy_from_slice.ensures.after (overwritten_is c.args.counts.now c.args.tally.now c.min-n.ensures)
+returns c = overwritten_end c.args.counts.now c.loop-i.tally c.args.tally.now c.loop-i.i c.loop-i.invariant (search rules)

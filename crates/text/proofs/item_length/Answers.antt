@@ -13,7 +13,7 @@ pub returns-then-is_negative : goal.returns-then-is_negative
 returns-then-is_negative c = let v = answer nat_abs c.args.l c.ranges.l c.variable.ensures in
     omega (
       arith,
-      c.digit_count-n.ensures,
+      c.decimal_length-n.ensures,
       ap (λ (n : ℕ). length (digits n)) v,
       item_negative c.args.l
           (answered negative c.args.l c.ranges.l c.is_negative.ensures c.if-is_negative.true),
@@ -23,7 +23,7 @@ pub returns-else-is_negative : goal.returns-else-is_negative
 returns-else-is_negative c = let v = answer nat_abs c.args.l c.ranges.l c.variable.ensures in
     omega (
       arith,
-      c.digit_count-n.ensures,
+      c.decimal_length-n.ensures,
       ap (λ (n : ℕ). length (digits n)) v,
       item_positive c.args.l
           (answered negative c.args.l c.ranges.l c.is_negative.ensures c.if-is_negative.false),

@@ -1,6 +1,6 @@
 -- The call case by case: what fits the buffers is what the definition's outcome has, and a refusal leaves zeros.
 use lib.Seq.{take_at, length-sets}
-use Rattle.std.proofs.Common.{Result, Ok, Err, take, ◌≡◌, refl, sym, ap, ◌∙◌, Bool, true, false, cond, List, ◌++◌, ℕ, ◌+◌, ◌≤◌, ◌<◌, ℤ, ltb, length, drop, replicate, arith, lt-ltb, le-ltb, ltb-false, append-nil, drop_of_length-le}
+use Rattle.std.proofs.Common.{Result, Ok, Err, take, ◌≡◌, refl, sym, ap, ◌∙◌, Bool, true, false, cond, List, ◌++◌, ℕ, ◌+◌, ◌≤◌, ◌<◌, ℤ, ltb, length, drop, replicate, arith, lt-ltb, le-ltb, ltb-false}
 use Rattle.std.proofs.lemmas.List.{length-map}
 use Rattle.std.proofs.lemmas.List.Edits.{sets-eq}
 use Rattle.definition.specs.Checked.{Checked, fault, value, ◌>>=◌, refuse_if}
@@ -12,7 +12,7 @@ use Rattle.records.proofs.Rows.{records_there}
 use Rattle.refusals.specs.declared.Refusal.{Refusal}
 use Rattle.refusals.specs.declared.Refusal.TheVariants.{ShortLogBuffer, ShortFormulaBuffer, ShortTable}
 use Rattle.refusals.specs.Numbers.{number}
-use Rattle.refusals.specs.Outcomes.{outcome as outcome_said, showing}
+use Rattle.refusals.specs.Outcomes.{outcome as outcome_said}
 use Rattle.refusals.proofs.Laws.{Shown, ok_shows, err_faults}
 use Rattle.text.specs.Output.{Put}
 use Rattle.run.specs.declared.Settings as CodeSettings

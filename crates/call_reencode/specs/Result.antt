@@ -1,5 +1,5 @@
 -- The answer by the room for a result, and what is promised before the buffers are made zero.
-use Rattle.std.specs.Prelude.{Result, Ok, Err, ◌≡◌, cond, List, ◌++◌, ℕ, ◌*◌, ◌≤◌, ltb, length, drop}
+use Rattle.std.specs.Prelude.{Result, Ok, Err, ◌≡◌, cond, List, ◌++◌, ℕ, ◌≤◌, ltb, length, drop}
 use Rattle.std.proofs.lemmas.List.Edits.{sets}
 use Rattle.definition.specs.Checked.{Checked}
 use Rattle.definition.specs.Text.{Bytes}

@@ -100,7 +100,7 @@ pub fn print_number(rt: &impl Print, n: usize) -> io::Result<()> {
 }
 
 // Prints a refusal, or its number, on a line.
-pub fn print_refusal<R: Display>(rt: &impl Print, refusal: R) -> io::Result<()> {
+pub fn print_refusal<R: Display + Drop>(rt: &impl Print, refusal: R) -> io::Result<()> {
     println!(rt; "refused {refusal}")
 }
 

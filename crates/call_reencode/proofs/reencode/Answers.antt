@@ -1,8 +1,8 @@
 use mathlib.Core.Path.{ap, ◌∙◌}
 use Prim.Native.Nat.{ℕ}
-use lib.ListN.{length, replicate}
+use lib.ListN.{replicate}
 use borrow.Author.Rules.{rules}
-use Rattle.call_reencode.specs.Outcome.{outcome, shown_table}
+use Rattle.call_reencode.specs.Outcome.{shown_table}
 use Rattle.records.specs.Rows.{no_record}
 use Rattle.call_reencode.proofs.Call.{log_kept, formula_kept, table_filled, table_reaches, zeros}
 use Rattle.call_reencode.proofs.reencode.Goals as goal

@@ -250,6 +250,19 @@ fn sessions_in_c() {
     run_sessions_in_c(&[&archive.to_string_lossy()]);
 }
 
+/// So that it can be linked where there is no C library.
+#[test]
+fn the_archive_wants_memset_alone() {
+    let archive = library_folder().join("libexports.a");
+    let names = printed(Command::new("nm").args(["-P", "-u"]).arg(&archive));
+    let wanted: Vec<&str> = names
+        .lines()
+        .filter_map(|line| line.split_once(" U"))
+        .map(|(name, _)| name)
+        .collect();
+    assert_eq!(wanted, ["memset"]);
+}
+
 #[test]
 fn sessions_in_c_with_the_shared_library() {
     let folder = library_folder();

@@ -1,4 +1,4 @@
--- A pass over the store's own part of the workspace is one over the workspace (progress, runs-part).
+-- A pass over the store's own part of the workspace is one over the workspace.
 use Rattle.pass_pure.proofs.Pass.{passable, part_keeps_index}
 use Rattle.pass_pure.proofs.delete_pure.Goals as goal
 

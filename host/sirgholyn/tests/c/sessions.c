@@ -459,16 +459,22 @@ static void *run(void *unused)
     return unused;
 }
 
-/* on a thread with half the stack that the header asks for, so that it asks for enough */
-int main(void)
+static int run_on_stack(size_t bytes)
 {
     pthread_attr_t attributes;
     pthread_t thread;
 
-    if (pthread_attr_init(&attributes) != 0
-        || pthread_attr_setstacksize(&attributes, SIRGHOLYN_STACK_BYTES / 2) != 0
-        || pthread_create(&thread, &attributes, run, NULL) != 0
-        || pthread_join(thread, NULL) != 0) {
+    return pthread_attr_init(&attributes) == 0
+        && pthread_attr_setstacksize(&attributes, bytes) == 0
+        && pthread_create(&thread, &attributes, run, NULL) == 0
+        && pthread_join(thread, NULL) == 0;
+}
+
+/* on a thread of 1.5 MiB, little more than the header says that calls take, first, as a larger stack would be used again;
+ * then with half the stack that the header asks for, so that it asks for enough */
+int main(void)
+{
+    if (!run_on_stack(SIRGHOLYN_STACK_BYTES / 8 * 3) || !run_on_stack(SIRGHOLYN_STACK_BYTES / 2)) {
         printf("the thread cannot be run\n");
         return 1;
     }

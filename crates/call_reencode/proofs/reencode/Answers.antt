@@ -2,6 +2,7 @@ use mathlib.Core.Path.{ap, ◌∙◌}
 use Prim.Native.Nat.{ℕ}
 use lib.ListN.{replicate}
 use borrow.Author.Rules.{rules}
+use Rattle.std.proofs.lemmas.Slice.{overwrites}
 use Rattle.call_reencode.specs.Outcome.{shown_table}
 use Rattle.records.specs.Rows.{no_record}
 use Rattle.call_reencode.proofs.Call.{log_kept, formula_kept, table_filled, table_reaches, zeros}
@@ -30,4 +31,4 @@ returns-in-Err-clause-formula_after c =
     (c.fill-in-Err-2.ensures.after (search rules) ∙ ap (λ (n : ℕ). replicate n 0) c.reencode_into-r.auto.formula)
 
 pub returns-in-Err-clause-table_after : goal.returns-in-Err-clause-table_after
-returns-in-Err-clause-table_after c = zeros _ _ _ _ _ c.reencode_into-r.ensures c.in-Err.is no_record shown_table c.args.table.now c.clear.ensures
+returns-in-Err-clause-table_after c = zeros _ _ _ _ _ c.reencode_into-r.ensures c.in-Err.is no_record shown_table c.args.table.now (search (rules, overwrites))

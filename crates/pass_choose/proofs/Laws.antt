@@ -6,20 +6,22 @@ use mathlib.Core.List.Memᴰ.{tail as behind}
 use mathlib.Core.List.{List, [], ◌∷◌, ◌++◌, append-nil, append_assoc, Memᴰ}
 use Prim.Native.Nat.{ℕ, ◌+◌, ◌≤◌}
 use native.Mathlib.Omega.{arith}
-use lib.IntN.{ℤ}
-use lib.ListN.{length, take}
+use lib.IntN.{ℤ, pos}
+use lib.ListN.{length, take, replicate, length-replicate}
 use Rattle.definition.specs.Lists.{those}
 use Rattle.definition.specs.Literals.{Clause, Formula}
 use Rattle.definition.specs.Calls.{numbers_of}
 use Rattle.definition.specs.Clearing.{unique, choice_size}
 use Rattle.definition.specs.Counter.{choices}
-use Rattle.theory_base.proofs.Tests.{by_test, of_true, and_l}
+use Rattle.theory_base.proofs.Tests.{by_test, differ, of_true, and_l}
 use Rattle.theory_base.proofs.Clauses.{choice_size_within, numbers_none, numbers_first, numbers-++}
-use Rattle.store.specs.Store.{Formed, stored, Counted, end_after, with_entry}
+use Rattle.store.specs.Store.{Formed, stored, Counted, fits_in, end_after, with_entry}
 use Rattle.tables.specs.Sizes.{input_reach}
 use Rattle.tables.specs.Counts.{unique_by, choice_by}
 use Rattle.tables.proofs.Counting.{choice_is}
-use Rattle.std.proofs.Common.{Some}
+use Rattle.std.proofs.Common.{Some, None, Option, ◌-◌, drop}
+use Rattle.std.specs.Option.{unwrap_or}
+use Rattle.std.proofs.lemmas.Slice.{between_is}
 use Rattle.store.proofs.Laws.{stored_none, appended, fits_within}
 use Rattle.pass_choose.specs.Collecting.{if_choice, Joined, Collected}
 
@@ -125,3 +127,30 @@ pub collecting_end : {F : Formula} {size end : ℕ} {chosen : List ℤ} {left : 
 unfolding those
 collecting_end {end = end} {chosen = chosen} i e =
     record { same_size = i.same_size; inside = i.within; formed = i.formed; stands = sym (append-nil (stored (take end chosen))) ∙ rw e at i.stands }
+
+-- room for the entry of a choice
+abbrev room : List ℤ
+room = replicate 65 (pos 0)
+
+-- a clause put into an entry of its own and read from there is a choice if it was one
+module _ {new : List ℤ} {a : Option ℕ} {r : ℕ} (t : List ℕ) (c : Clause) (e : a ≡ end_after (length room) 0 c) (w : new ≡ with_entry room 0 c) (u : r ≡ unwrap_or a 1) where
+  entered_whole : fits_in (length room) 0 c ≡ true → if_choice t (take (r - 1) (drop 1 new)) ≡ if_choice t c
+  entered_whole f =
+      let k = appended room new 0 (0 + (length c + 1)) c (omega arith) (rw f refl) w in
+      let z : a ≡ Some (0 + (length c + 1)) = e ∙ rw f refl in
+      let l : r ≡ 0 + (length c + 1) = u ∙ ap (λ (x : Option ℕ). unwrap_or x 1) z in
+      ap (if_choice t) (ap (λ (m : ℕ). take (m - 1) (drop 1 new)) l ∙ between_is new 1 (0 + (length c + 1)) ∙ ap (drop 1) k.filled)
+
+  entered_none : fits_in (length room) 0 c ≡ false → if_choice t (take (r - 1) (drop 1 new)) ≡ if_choice t c
+  unfolding choice_size
+  entered_none f =
+      let z : a ≡ None = e ∙ rw f refl in
+      let l : r ≡ 1 = u ∙ ap (λ (x : Option ℕ). unwrap_or x 1) z in
+      let g : if_choice t (take (r - 1) (drop 1 new)) ≡ [] = rw l refl in
+      g
+      ∙ by_test (choice_by t c)
+      (λ b. let h = choice_within t c b in differ {b = true} tt (sym (fits_within (length room) 0 c (omega (arith, h)) (omega (arith, h, length-replicate {A = ℤ} 65 (pos 0)))) ∙ f))
+      (λ b. rw b refl)
+
+  pub entered : if_choice t (take (r - 1) (drop 1 new)) ≡ if_choice t c
+  entered = by_test (fits_in (length room) 0 c) entered_whole entered_none

@@ -128,7 +128,7 @@ unfolding those
 collecting_end {end = end} {chosen = chosen} i e =
     record { same_size = i.same_size; inside = i.within; formed = i.formed; stands = sym (append-nil (stored (take end chosen))) ∙ rw e at i.stands }
 
--- room for the entry of a choice
+-- for the edit `header_among_the_literals`, which puts a clause into an entry of its own: room for it
 abbrev room : List ℤ
 room = replicate 65 (pos 0)
 

@@ -23,12 +23,12 @@ returns-in-Ok-clause-table_after c = c.fill.ensures ∙ table_filled _ _ _ _ _ c
 pub returns-in-Err-clause-log_after : goal.returns-in-Err-clause-log_after
 returns-in-Err-clause-log_after c =
     zeros _ _ _ _ _ c.reencode_into-r.ensures c.in-Err.is 0 (λ o. o.log) c.args.log.now
-    (c.fill-in-Err.ensures.after (search rules) ∙ ap (λ (n : ℕ). replicate n 0) c.reencode_into-r.auto.log)
+    (search (rules, overwrites) ∙ ap (λ (n : ℕ). replicate n 0) c.reencode_into-r.auto.log)
 
 pub returns-in-Err-clause-formula_after : goal.returns-in-Err-clause-formula_after
 returns-in-Err-clause-formula_after c =
     zeros _ _ _ _ _ c.reencode_into-r.ensures c.in-Err.is 0 (λ o. o.formula) c.args.formula.now
-    (c.fill-in-Err-2.ensures.after (search rules) ∙ ap (λ (n : ℕ). replicate n 0) c.reencode_into-r.auto.formula)
+    (search (rules, overwrites) ∙ ap (λ (n : ℕ). replicate n 0) c.reencode_into-r.auto.formula)
 
 pub returns-in-Err-clause-table_after : goal.returns-in-Err-clause-table_after
 returns-in-Err-clause-table_after c = zeros _ _ _ _ _ c.reencode_into-r.ensures c.in-Err.is no_record shown_table c.args.table.now (search (rules, overwrites))

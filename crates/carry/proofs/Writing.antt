@@ -16,11 +16,10 @@ use Rattle.definition.specs.Standing.{Line}
 use Rattle.definition.specs.Assignments.{Assignment, satisfies, carried_back, carried_forward}
 use Rattle.definition.specs.Calls.{answer_text, fitting_line, buffer_after}
 use Rattle.refusals.specs.declared.Refusal.{Refusal}
-use Rattle.refusals.specs.Numbers.{number}
 use Rattle.refusals.specs.Outcomes.{outcome, showing}
 use Rattle.text.specs.Output.{Put}
 use Rattle.text.proofs.Output.{put_fits}
-use Rattle.carry.specs.Carried.{tested_text, carried_answer, carried_plan, Carries, CarriesBy, outcome_by}
+use Rattle.carry.specs.Carried.{tested_text, carried_answer, carried_plan, Carries, CarriesBy}
 
 -- ---- written, where the line fits
 module _ (old new : Bytes) (v n : ℕ) (a : Assignment) (p : Put old 0 (answer_text v a) n new) where
@@ -57,21 +56,22 @@ module _ (room x : ℕ) (ss : List Line) (standing : Formula) (a b : Assignment)
   unfolding carried_plan tested_text refuse_if
   plan_carried e = rw (sym d, sym e) refl
 
--- ---- the buffer, by what is answered
+-- ---- the outcome and the buffer, by what is answered
+pub carried_outcome : (r : Result ℕ Refusal) (o : Checked Bytes) (old new : Bytes) → Carries o old r new → outcome r ≡ showing (λ t. length t) o
+carried_outcome (Ok n) o old new z =
+    let size : n ≡ length z.0 = omega (arith, z.2.next) in
+    rw z.1 (ap (λ (k : ℕ). value k) size)
+carried_outcome (Err x) o old new z = rw z refl
+
 module _ {E : Type 0} (f : E → ℕ) where
-  pub ok_settled : (r : Result ℕ E) (o : Checked Bytes) (old new : Bytes) → is_err r ≡ false → CarriesBy f o old r new → (outcome_by f r ≡ showing (λ t. length t) o) × (new ≡ buffer_after 0 o (λ t. t) old)
+  pub ok_settled : (r : Result ℕ E) (o : Checked Bytes) (old new : Bytes) → is_err r ≡ false → CarriesBy f o old r new → new ≡ buffer_after 0 o (λ t. t) old
   unfolding buffer_after
   ok_settled (Ok n) o old new e z =
       let size : n ≡ length z.0 = omega (arith, z.2.next) in
-      rw z.1 (ap (λ (k : ℕ). value k) size, put_fits z.2 z.3 ∙ ap (λ (k : ℕ). z.0 ++ drop k old) size)
+      rw z.1 (put_fits z.2 z.3 ∙ ap (λ (k : ℕ). z.0 ++ drop k old) size)
   ok_settled (Err x) o old new e z = absurd (differ {b = true} tt e)
 
-  pub err_settled : (r : Result ℕ E) (o : Checked Bytes) (old new zeros : Bytes) → is_err r ≡ true → CarriesBy f o old r new → length new ≡ length old → zeros ≡ replicate (length new) 0 → (outcome_by f r ≡ showing (λ t. length t) o) × (zeros ≡ buffer_after 0 o (λ t. t) old)
+  pub err_settled : (r : Result ℕ E) (o : Checked Bytes) (old new zeros : Bytes) → is_err r ≡ true → CarriesBy f o old r new → length new ≡ length old → zeros ≡ replicate (length new) 0 → zeros ≡ buffer_after 0 o (λ t. t) old
   unfolding buffer_after
   err_settled (Ok n) o old new zeros e s l z = absurd (differ {b = true} tt (sym e))
-  err_settled (Err x) o old new zeros e s l z = rw s (refl, z ∙ ap (λ (k : ℕ). replicate k 0) l)
-
--- the number of a refusal
-pub refusal_settled : (r : Result ℕ Refusal) {o : Checked ℕ} → outcome_by number r ≡ o → outcome r ≡ o
-refusal_settled (Ok n) e = e
-refusal_settled (Err x) e = e
+  err_settled (Err x) o old new zeros e s l z = rw s (z ∙ ap (λ (k : ℕ). replicate k 0) l)

@@ -55,11 +55,6 @@ CarriesBy f o old (Err e) new = o ≡ fault (f e)
 abbrev pub Carries : Checked Bytes → Bytes → Result ℕ Refusal → Bytes → Type 0
 Carries o old r new = CarriesBy number o old r new
 
--- the outcome of an answer, where f tells a fault's number
-abbrev pub outcome_by : {A E : Type 0} → (E → ℕ) → Result A E → Checked A
-outcome_by f (Ok a) = value a
-outcome_by f (Err e) = fault (f e)
-
 -- ---- what is asked of a workspace
 
 -- the formula lies before n, the lines at n..m, with room for a replay, and the table has every variable of the lines

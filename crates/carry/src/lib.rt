@@ -10,12 +10,11 @@ ghost use Rattle.definition.specs.Assignments.{satisfies, repaired, carried_back
 ghost use Rattle.definition.specs.Calls.{fitting_line, buffer_after};
 ghost use Rattle.theory_base.specs.Slices.{between};
 ghost use Rattle.literals.specs.Literal.{negative};
-ghost use Rattle.refusals.specs.Outcomes.{showing};
 ghost use Rattle.store.specs.Store.{Formed, stored};
 ghost use Rattle.drat.specs.Loaded.{Loaded, lines_in, line_at, past_line};
 ghost use Rattle.answer.specs.Table.{marked};
 ghost use Rattle.carry.specs.Lines.{LastLine, over, repairs};
-ghost use Rattle.carry.specs.Carried.{holds_at, carried_answer, carried_plan, replayed_text, Carries, CarriesBy, outcome_by, Carryable};
+ghost use Rattle.carry.specs.Carried.{holds_at, carried_answer, carried_plan, replayed_text, Carries, CarriesBy, Carryable};
 
 use refusals::Refusal;
 
@@ -227,9 +226,10 @@ pub fn replay_and_carry(
     }
 }
 
-// Makes the buffer zero where the outcome is a refusal, of whatever type: f tells its number.
+// Hands an answer on, and makes the buffer zero where it is a refusal, of whatever type: f tells its number.
 pub fn settle<E>(out: &mut [u8], r: Result<usize, E>) -> Result<usize, E>
-    ensures { (f : E → ℕ) (o : Checked Bytes) (old : Bytes) → CarriesBy f o old r out.old → length out.old ≡ length old → (outcome_by f result ≡ showing (λ t. length t) o) × (out.new ≡ buffer_after 0 o (λ t. t) old) }
+    ensures same { result ≡ r }
+    ensures buffer { (f : E → ℕ) (o : Checked Bytes) (old : Bytes) → CarriesBy f o old r out.old → length out.old ≡ length old → out.new ≡ buffer_after 0 o (λ t. t) old }
 {
     if r.is_err() {
         out.fill(0);

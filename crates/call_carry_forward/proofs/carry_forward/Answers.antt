@@ -1,12 +1,11 @@
 use Rattle.refusals.specs.Numbers.{number}
-use Rattle.carry.proofs.Writing.{refusal_settled}
-use Rattle.call_carry_forward.specs.Outcome.{outcome}
+use Rattle.carry.proofs.Writing.{carried_outcome}
 use borrow.Author.Rules.{rules}
 use Rattle.call_carry_forward.proofs.carry_forward.Goals as goal
 
 pub returns : goal.returns
 returns c =
-    let done = c.settle.ensures number
-    (outcome c.args.work.now c.args.out.now c.args.kept c.args.formula.now
-    c.args.log.now c.args.plan.now) c.args.out.now c.carry_texts-r.ensures (search rules) in
-    record { outcome = refusal_settled _ done.0; buffer = done.1 }
+    record {
+      outcome = rw c.settle.ensures.same (carried_outcome _ _ c.args.out.now _ c.carry_texts-r.ensures);
+      buffer = c.settle.ensures.buffer number _ c.args.out.now c.carry_texts-r.ensures (search rules);
+    }

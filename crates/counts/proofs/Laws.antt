@@ -1,5 +1,5 @@
 -- Counts stored one by one from the start on: those that fit, then what lay past them.
-use Rattle.std.proofs.Common.{◌≡◌, refl, sym, ap, ◌∙◌, List, [], ◌∷◌, ℕ, suc, ◌≤◌, length, drop, drop_of_length-le}
+use Rattle.std.proofs.Common.{◌≡◌, refl, sym, ap, ◌∙◌, List, [], ◌∷◌, ◌++◌, ℕ, zero, suc, ◌≤◌, min, length, take, drop, drop_of_length-le, arith}
 use Rattle.std.proofs.lemmas.List.Edits.{sets}
 use Rattle.counts.specs.Counts.{overwritten}
 
@@ -20,3 +20,13 @@ overwritten_sets (n ∷ ns) (b ∷ bs) = sets_behind ns bs 0 n ∙ ap (λ (l : L
 -- all are stored
 pub overwritten_end : (ns t u : List ℕ) (i : ℕ) → sets t i (drop i ns) ≡ sets u 0 ns → length ns ≤ i → t ≡ overwritten ns u
 overwritten_end ns t u i e h = sym (ap (sets t i) (drop_of_length-le ns {i = i} h)) ∙ e ∙ overwritten_sets ns u
+
+-- the same as one part, as long as the shorter of the two
+pub overwritten_is : {n : ℕ} (ns t : List ℕ) → n ≡ min (length t) (length ns) → take n ns ++ drop n t ≡ overwritten ns t
+unfolding overwritten
+overwritten_is {n = zero} [] t e = refl
+overwritten_is {n = suc n} [] t e = absurd (omega arith)
+overwritten_is {n = zero} (x ∷ ns) [] e = refl
+overwritten_is {n = suc n} (x ∷ ns) [] e = absurd (omega arith)
+overwritten_is {n = zero} (x ∷ ns) (b ∷ bs) e = absurd (omega arith)
+overwritten_is {n = suc n} (x ∷ ns) (b ∷ bs) e = ap (λ (l : List ℕ). x ∷ l) (overwritten_is {n = n} ns bs (omega arith))

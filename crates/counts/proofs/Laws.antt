@@ -1,4 +1,4 @@
--- Counts stored one by one from the start on: those that fit, then what lay past them.
+-- Counts stored from the start on, one by one or as one part: those that fit, then what lay past them.
 use Rattle.std.proofs.Common.{◌≡◌, refl, sym, ap, ◌∙◌, List, [], ◌∷◌, ◌++◌, ℕ, zero, suc, ◌≤◌, min, length, take, drop, drop_of_length-le, arith}
 use Rattle.std.proofs.lemmas.List.Edits.{sets}
 use Rattle.counts.specs.Counts.{overwritten}
@@ -21,7 +21,7 @@ overwritten_sets (n ∷ ns) (b ∷ bs) = sets_behind ns bs 0 n ∙ ap (λ (l : L
 pub overwritten_end : (ns t u : List ℕ) (i : ℕ) → sets t i (drop i ns) ≡ sets u 0 ns → length ns ≤ i → t ≡ overwritten ns u
 overwritten_end ns t u i e h = sym (ap (sets t i) (drop_of_length-le ns {i = i} h)) ∙ e ∙ overwritten_sets ns u
 
--- the same as one part, as long as the shorter of the two
+-- stored as one part, as long as the shorter of the two
 pub overwritten_is : {n : ℕ} (ns t : List ℕ) → n ≡ min (length t) (length ns) → take n ns ++ drop n t ≡ overwritten ns t
 unfolding overwritten
 overwritten_is {n = zero} [] t e = refl
